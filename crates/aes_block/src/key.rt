@@ -1,0 +1,170 @@
+ghost use Rattle.std.specs.Prelude.{◌≡◌, ℕ, List, length, take};
+ghost use Rattle.aes_block.specs.Aes.{aes, inverse_aes, key_schedule};
+ghost use Rattle.aes_block.specs.Bytes.{AreBytes, MakesBlocks};
+
+use crate::cipher::encrypt_block;
+use crate::inverse_cipher::decrypt_block;
+use crate::schedule::expand_key;
+use std::marker::Model;
+
+// The words of a key, and the rounds that a block goes through (FIPS 197, 5, table 4).
+const KEY_WORDS_128: usize = 4;
+
+const KEY_WORDS_256: usize = 8;
+
+const ROUNDS_128: usize = 10;
+
+const ROUNDS_256: usize = 14;
+
+/// A key of a block cipher on blocks of 16 bytes.
+pub trait BlockKey {
+    /// What the cipher makes of a block.
+    ghost cipher: { Self → List ℕ → List ℕ };
+
+    /// What the inverse cipher makes of a block.
+    ghost inverse_cipher: { Self → List ℕ → List ℕ };
+
+    /// Encrypts a block of 16 bytes in place.
+    fn encrypt(&self, block: &mut [u8; 16])
+        ensures { block.new ≡ cipher self.now block.old };
+
+    /// Decrypts a block of 16 bytes in place.
+    fn decrypt(&self, block: &mut [u8; 16])
+        ensures { block.new ≡ inverse_cipher self.now block.old };
+
+    /// States that what the ciphers make is always a block of 16 bytes. It does nothing.
+    fn makes_blocks(&self)
+        ensures cipher { MakesBlocks (cipher self.now) }
+        ensures inverse { MakesBlocks (inverse_cipher self.now) };
+}
+
+// States that the elements of a slice of bytes are bytes.
+fn each_is_a_byte(bytes: &[u8])
+    ensures { AreBytes bytes.now }
+{
+    let _length = bytes.len();
+}
+
+/// An AES key of 32 bytes. Clauses see its bytes.
+#[derive(Drop)]
+pub struct Key256 {
+    schedule: [u8; 240],
+}
+
+impl Model for Key256 {
+    ghost Value = { List ℕ };
+
+    ghost view = { λ k. take 32 k.schedule };
+
+    ghost invariant = { λ k. k.schedule ≡ key_schedule (take 32 k.schedule) };
+}
+
+impl Key256 {
+    /// The key of 32 bytes.
+    pub fn new(key: &[u8; 32]) -> Key256
+        ensures { result ≡ key.now }
+    {
+        let mut schedule = [0; 240];
+        schedule[..32].copy_from_slice(key);
+        expand_key(&mut schedule, KEY_WORDS_256);
+        Key256 { schedule }
+    }
+
+    /// The same key once more.
+    pub fn copied(&self) -> Key256
+        ensures { result ≡ self.now }
+    {
+        Key256 {
+            schedule: self.schedule,
+        }
+    }
+
+    /// The key's 32 bytes.
+    pub fn bytes(&self) -> [u8; 32]
+        ensures { result ≡ self.now }
+    {
+        let mut bytes = [0; 32];
+        bytes.copy_from_slice(&self.schedule[..32]);
+        bytes
+    }
+}
+
+impl BlockKey for Key256 {
+    ghost cipher = { λ k block. aes k block };
+
+    ghost inverse_cipher = { λ k block. inverse_aes k block };
+
+    fn encrypt(&self, block: &mut [u8; 16]) {
+        encrypt_block(&self.schedule, ROUNDS_256, block);
+    }
+
+    fn decrypt(&self, block: &mut [u8; 16]) {
+        decrypt_block(&self.schedule, ROUNDS_256, block);
+    }
+
+    fn makes_blocks(&self) {
+        each_is_a_byte(&self.bytes());
+    }
+}
+
+/// An AES key of 16 bytes. Clauses see its bytes.
+#[derive(Drop)]
+pub struct Key128 {
+    schedule: [u8; 176],
+}
+
+impl Model for Key128 {
+    ghost Value = { List ℕ };
+
+    ghost view = { λ k. take 16 k.schedule };
+
+    ghost invariant = { λ k. k.schedule ≡ key_schedule (take 16 k.schedule) };
+}
+
+impl Key128 {
+    /// The key of 16 bytes.
+    pub fn new(key: &[u8; 16]) -> Key128
+        ensures { result ≡ key.now }
+    {
+        let mut schedule = [0; 176];
+        schedule[..16].copy_from_slice(key);
+        expand_key(&mut schedule, KEY_WORDS_128);
+        Key128 { schedule }
+    }
+
+    /// The same key once more.
+    pub fn copied(&self) -> Key128
+        ensures { result ≡ self.now }
+    {
+        Key128 {
+            schedule: self.schedule,
+        }
+    }
+
+    /// The key's 16 bytes.
+    pub fn bytes(&self) -> [u8; 16]
+        ensures { result ≡ self.now }
+    {
+        let mut bytes = [0; 16];
+        bytes.copy_from_slice(&self.schedule[..16]);
+        bytes
+    }
+}
+
+impl BlockKey for Key128 {
+    ghost cipher = { λ k block. aes k block };
+
+    ghost inverse_cipher = { λ k block. inverse_aes k block };
+
+    fn encrypt(&self, block: &mut [u8; 16]) {
+        encrypt_block(&self.schedule, ROUNDS_128, block);
+    }
+
+    fn decrypt(&self, block: &mut [u8; 16]) {
+        decrypt_block(&self.schedule, ROUNDS_128, block);
+    }
+
+    fn makes_blocks(&self) {
+        each_is_a_byte(&self.bytes());
+    }
+}

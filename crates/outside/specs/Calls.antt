@@ -1,0 +1,27 @@
+-- What the calls of the outside say of contents that are told, and when they may fail.
+use Rattle.std.specs.Prelude.{◌≡◌, ◌⊎◌, ℕ, ◌<◌, ◌≤◌, ◌-◌, ◌^◌, Option, Some, None, IfSome, ⊤}
+
+-- a count of faults rose, or stands at its end, where it can't
+abbrev pub Rose : ℕ → ℕ → Type 0
+Rose before now = (before < now) ⊎ (now ≡ 2 ^ 64 - 1)
+
+-- the count never falls, and a call answers that it failed only where the count rose
+pub record HasCause (before now : ℕ) (failed : Type 0) : Type 0 where
+  pub later : before ≤ now
+  pub rose : failed → Rose before now
+
+-- P of the contents, where they are told
+abbrev pub Told : {X : Type 0} → Option X → (X → Type 0) → Type 0
+Told contents P = IfSome contents P
+
+-- P of the contents before and after, where they are told; an object that tells goes on telling, and another doesn't begin
+abbrev pub Changes : {X : Type 0} → Option X → Option X → (X → X → Type 0) → Type 0
+Changes None None P = ⊤
+Changes None (Some new) P = ⊥
+Changes (Some old) None P = ⊥
+Changes (Some old) (Some new) P = P old new
+
+-- an answer that a call's condition fails comes only where it does, or, where contents aren't told, only where the count rose
+abbrev pub IsUnfit : {X : Type 0} → Option X → ℕ → ℕ → (X → Type 0) → Type 0
+IsUnfit None before now Fits = Rose before now
+IsUnfit (Some contents) before now Fits = ¬ (Fits contents)

@@ -1,0 +1,423 @@
+ghost use Rattle.std.specs.Prelude.{refl, ℕ, List, ◌≢◌, ◌-◌, take, MatchOption, ◌≡◌, ◌↔◌, ◌<◌, ◌≤◌, [], ◌∷◌, ◌++◌, ◌&&◌, nat_le, length, IsOk, IfOk, OnOk, OnErr, IsTrue, Some, slice_get};
+ghost use Rattle.std.specs.List.{list_all};
+ghost use Rattle.std.specs.Cmp.{partial_equiv_from_equiv, po};
+ghost use Rattle.std.specs.Cmp.Lexicographic.{pointwise, slice_cmp, lists_per, lists_equiv, lists_total, lists_ties, texts_ties, texts_po, nat_list_eq_equiv, nat_list_cmp_total};
+ghost use Rattle.std.specs.Ordering.{nat_cmp, as_partial_cmp};
+ghost use Rattle.std.specs.Str.{bytes_eq};
+ghost use Rattle.vault_path.specs.Parts.{is_part_byte, is_part, is_path};
+
+use crate::text::Text;
+use std::cmp::Ordering;
+use std::fmt;
+use std::fmt::Write;
+use std::marker::Model;
+use thiserror::Error;
+
+const MAX_PARTS: usize = 6;
+
+const MAX_PART_LEN: usize = 255;
+
+/// A part that isn't 1 to 255 of `A-Z a-z 0-9 - _ = .`, is `.` or `..`, or would be the seventh of its path.
+#[derive(Clone, Copy, Debug, PartialEq, Eq, Error)]
+#[error("a part of a host path is bad")]
+pub struct BadPart;
+
+/// Up to 255 bytes, kept in place.
+#[derive(Drop)]
+struct Part {
+    bytes: [u8; 255],
+    used: usize,
+}
+
+impl Model for Part {
+    ghost use Rattle.std.specs.Prelude.{ℕ, List, ◌≤◌, take};
+
+    ghost Value = { List ℕ };
+
+    ghost view = { λ a. take a.used a.bytes };
+
+    ghost invariant = { λ a. a.used ≤ 255 };
+}
+
+impl Part {
+    fn empty() -> Part
+        ensures { result ≡ [] }
+    {
+        Part {
+            bytes: [0; MAX_PART_LEN],
+            used: 0,
+        }
+    }
+
+    fn from_bytes(part: &[u8]) -> Part
+        requires { length part.now ≤ 255 }
+        ensures { result ≡ part.now }
+    {
+        let mut bytes = [0; MAX_PART_LEN];
+        bytes[..part.len()].copy_from_slice(part);
+        Part {
+            bytes,
+            used: part.len(),
+        }
+    }
+
+    fn as_bytes(&self) -> &[u8]
+        ensures { result.now ≡ self.now }
+    {
+        &self.bytes[..self.used]
+    }
+
+    fn copied(&self) -> Part
+        ensures { result ≡ self.now }
+    {
+        Part {
+            bytes: self.bytes,
+            used: self.used,
+        }
+    }
+}
+
+impl PartialEq for Part {
+    ghost eq = { bytes_eq };
+
+    ghost laws = { partial_equiv_from_equiv nat_list_eq_equiv };
+
+    fn eq(&self, other: &Part) -> bool {
+        self.as_bytes() == other.as_bytes()
+    }
+}
+
+impl Eq for Part {
+    ghost laws = { nat_list_eq_equiv };
+}
+
+impl Ord for Part {
+    ghost cmp = { slice_cmp nat_cmp };
+
+    ghost total = { nat_list_cmp_total };
+
+    ghost matches_partial_cmp = { λ _ _. refl };
+
+    ghost matches_eq = { texts_ties };
+
+    fn cmp(&self, other: &Part) -> Ordering {
+        self.as_bytes().cmp(&other.as_bytes())
+    }
+}
+
+impl PartialOrd for Part {
+    ghost partial_cmp = { as_partial_cmp (slice_cmp nat_cmp) };
+
+    ghost laws = { texts_po };
+
+    fn partial_cmp(&self, other: &Part) -> Option<Ordering> {
+        Some(self.cmp(other))
+    }
+}
+
+/// A host path inside the vault's folder: 0 to 6 parts, kept in place. Clauses see the list of its parts.
+#[derive(Drop)]
+pub struct VaultPath {
+    parts: [Part; 6],
+    count: usize,
+}
+
+impl Model for VaultPath {
+    ghost use Rattle.std.specs.Prelude.{◌≡◌, ℕ, List, length, take, IsTrue};
+    ghost use Rattle.vault_path.specs.Parts.{is_path};
+
+    ghost Value = { List (List ℕ) };
+
+    ghost view = { λ a. take a.count a.parts };
+
+    ghost invariant = { λ a. (length (take a.count a.parts) ≡ a.count) × IsTrue (is_path (take a.count a.parts)) };
+}
+
+impl VaultPath {
+    /// The folder itself.
+    pub fn root() -> VaultPath
+        ensures { result ≡ [] }
+    {
+        let parts = [
+            Part::empty(),
+            Part::empty(),
+            Part::empty(),
+            Part::empty(),
+            Part::empty(),
+            Part::empty(),
+        ];
+        VaultPath { parts, count: 0 }
+    }
+
+    /// The path of these parts, from the folder down. `BadPart` comes exactly where a part is none or there are more than 6.
+    pub fn from_parts(parts: &[Text]) -> Result<VaultPath, BadPart>
+        ensures exact { IsOk result ↔ IsTrue (is_path parts.now) }
+        ensures parts { IfOk result (λ path. path ≡ parts.now) }
+    {
+        let mut path = VaultPath::root();
+        for part in parts {
+            path.push(part.as_bytes())?;
+        }
+        Ok(path)
+    }
+
+    /// The path one part further. `BadPart` comes exactly where the part is none or would be the seventh.
+    pub fn join(&self, part: &[u8]) -> Result<VaultPath, BadPart>
+        ensures exact { IsOk result ↔ IsTrue (is_path (self.now ++ part.now ∷ [])) }
+        ensures path { IfOk result (λ path. path ≡ self.now ++ part.now ∷ []) }
+    {
+        let mut path = self.copied();
+        path.push(part)?;
+        Ok(path)
+    }
+
+    /// The same path once more. It takes no memory.
+    pub fn copied(&self) -> VaultPath
+        ensures { result ≡ self.now }
+    {
+        let parts = [
+            self.parts[0].copied(),
+            self.parts[1].copied(),
+            self.parts[2].copied(),
+            self.parts[3].copied(),
+            self.parts[4].copied(),
+            self.parts[5].copied(),
+        ];
+        VaultPath {
+            parts,
+            count: self.count,
+        }
+    }
+
+    /// How many parts there are: at most 6, and all of them good.
+    pub fn len(&self) -> usize
+        ensures count { result ≡ length self.now }
+        ensures few { result ≤ 6 }
+        ensures path { IsTrue (is_path self.now) }
+    {
+        self.count
+    }
+
+    /// Whether it is the folder itself.
+    pub fn is_empty(&self) -> bool
+        ensures { IsTrue result ↔ (self.now ≡ []) }
+    {
+        self.count == 0
+    }
+
+    /// A part, from the folder down.
+    pub fn part(&self, index: usize) -> &[u8]
+        requires { index < length self.now }
+        ensures at { slice_get self.now index ≡ Some result.now }
+        ensures good { IsTrue (is_part result.now) }
+    {
+        let parts = &self.parts;
+        parts[index].as_bytes()
+    }
+
+    /// The path without its last part; that of the folder itself is its own.
+    pub fn parent(&self) -> VaultPath
+        ensures { result ≡ take (length self.now - 1) self.now }
+    {
+        let mut above = self.copied();
+        above.pop();
+        above
+    }
+
+    /// The last part, where the path without it is this folder.
+    pub fn name_in(&self, folder: &VaultPath) -> Option<&[u8]>
+        ensures { MatchOption result ((name : List ℕ) → self.now ≢ folder.now ++ name ∷ []) (λ name. self.now ≡ folder.now ++ name.now ∷ []) }
+    {
+        let (name, front) = self.parts().split_last()?;
+        if front == folder.parts() {
+            Some(name.as_bytes())
+        } else {
+            None
+        }
+    }
+
+    fn parts(&self) -> &[Part]
+        ensures { result.now ≡ self.now }
+    {
+        &self.parts[..self.count]
+    }
+
+    fn pop(&mut self)
+        ensures { self.new ≡ take (length self.old - 1) self.old }
+    {
+        if self.count > 0 {
+            self.count -= 1;
+        }
+    }
+
+    /// Goes one part further, and stays as it is where that can't be.
+    fn push(&mut self, part: &[u8]) -> Result<(), BadPart>
+        ensures exact { IsOk result ↔ IsTrue (is_path (self.old ++ part.now ∷ [])) }
+        ensures path { OnOk result (self.new ≡ self.old ++ part.now ∷ []) }
+        ensures same { OnErr result (self.new ≡ self.old) }
+    {
+        if self.count == MAX_PARTS || !is_host_part(part) {
+            return Err(BadPart);
+        }
+        self.parts[self.count] = Part::from_bytes(part);
+        self.count += 1;
+        Ok(())
+    }
+}
+
+impl fmt::Debug for VaultPath {
+    fn fmt<W: fmt::Write>(&self, f: &mut fmt::Formatter<W>) -> fmt::Result {
+        for part in self.parts() {
+            f.write_str("/")?;
+            write_part(f, part.as_bytes())?;
+        }
+        Ok(())
+    }
+}
+
+fn write_part<W: fmt::Write>(f: &mut fmt::Formatter<W>, part: &[u8]) -> fmt::Result {
+    for byte in part {
+        f.write_char(char::from(*byte))?;
+    }
+    Ok(())
+}
+
+impl PartialEq for VaultPath {
+    ghost eq = { pointwise bytes_eq };
+
+    ghost laws = { lists_per (partial_equiv_from_equiv nat_list_eq_equiv) };
+
+    fn eq(&self, other: &VaultPath) -> bool {
+        self.parts() == other.parts()
+    }
+}
+
+impl Eq for VaultPath {
+    ghost laws = { lists_equiv nat_list_eq_equiv };
+}
+
+impl Ord for VaultPath {
+    ghost cmp = { slice_cmp (slice_cmp nat_cmp) };
+
+    ghost total = { lists_total nat_list_cmp_total };
+
+    ghost matches_partial_cmp = { λ _ _. refl };
+
+    ghost matches_eq = { lists_ties (slice_cmp nat_cmp) (texts_ties) };
+
+    fn cmp(&self, other: &VaultPath) -> Ordering {
+        self.parts().cmp(&other.parts())
+    }
+}
+
+impl PartialOrd for VaultPath {
+    ghost partial_cmp = { as_partial_cmp (slice_cmp (slice_cmp nat_cmp)) };
+
+    ghost laws = { po (lists_total nat_list_cmp_total) (lists_ties (slice_cmp nat_cmp) (texts_ties)) };
+
+    fn partial_cmp(&self, other: &VaultPath) -> Option<Ordering> {
+        Some(self.cmp(other))
+    }
+}
+
+fn is_host_byte(byte: u8) -> bool
+    ensures { result ≡ is_part_byte byte }
+{
+    matches!(byte, b'A'..=b'Z' | b'a'..=b'z' | b'0'..=b'9' | b'-' | b'_' | b'=' | b'.')
+}
+
+fn is_host_part(part: &[u8]) -> bool
+    ensures { result ≡ is_part part.now }
+{
+    has_fit_len(part) && has_host_bytes(part) && !is_dot(part) && !is_dots(part)
+}
+
+fn has_host_bytes(part: &[u8]) -> bool
+    ensures { result ≡ list_all is_part_byte part.now }
+{
+    part.iter().all(|byte| is_host_byte(*byte))
+}
+
+fn has_fit_len(part: &[u8]) -> bool
+    ensures { result ≡ (nat_le 1 (length part.now) && nat_le (length part.now) 255) }
+{
+    !part.is_empty() && part.len() <= MAX_PART_LEN
+}
+
+fn is_dot(part: &[u8]) -> bool
+    ensures { result ≡ bytes_eq part.now (46 ∷ []) }
+{
+    part == b".".as_slice()
+}
+
+fn is_dots(part: &[u8]) -> bool
+    ensures { result ≡ bytes_eq part.now (46 ∷ 46 ∷ []) }
+{
+    part == b"..".as_slice()
+}
+
+#[cfg(test)]
+mod tests {
+    use super::*;
+    use std::test::Fail;
+
+    const SHORT: [u8; 255] = [b'x'; 255];
+
+    const LONG: [u8; 256] = [b'x'; 256];
+
+    #[test]
+    fn parts_are_told_apart(rt: HostRuntime) -> Result<(), Fail> {
+        let rows: [(&[u8], bool); 16] = [
+            (b"a", true),
+            (b"d", true),
+            (b"AZaz09-_=.", true),
+            (b"...", true),
+            (b".a", true),
+            (&SHORT, true),
+            (&LONG, false),
+            (b"", false),
+            (b".", false),
+            (b"..", false),
+            (b"a/b", false),
+            (b"/", false),
+            (b"a b", false),
+            (b"\0", false),
+            (b"a\\b", false),
+            ("\u{e4}".as_bytes(), false),
+        ];
+        for (part, good) in rows {
+            assert_eq!(rt; VaultPath::root().join(part).is_ok(), good, "{part:?}");
+        }
+        Ok(())
+    }
+
+    #[test]
+    fn parts_stay_in_order(rt: HostRuntime) -> Result<(), Fail> {
+        let names: [&[u8]; 6] = [b"d", b"AB", b"CDE", b"x.c9r", b"contents", b"f"];
+        let mut path = VaultPath::root();
+        assert!(rt; path.is_empty());
+        for name in names {
+            path = path.join(name).ok().ok_or("a good part")?;
+        }
+        assert_eq!(rt; path.len(), 6);
+        assert!(rt; path.part(0) == b"d".as_slice());
+        assert!(rt; path.part(5) == b"f".as_slice());
+        assert!(rt; path.join(b"g").is_err(), "a seventh part");
+        let texts = [
+            Text::from_vec(b"d".to_vec(rt.alloc())?),
+            Text::from_vec(b"AB".to_vec(rt.alloc())?),
+        ];
+        let path = VaultPath::from_parts(&texts).ok().ok_or("two good parts")?;
+        assert_eq!(rt; path.len(), 2);
+        let above = path.parent();
+        assert!(rt; above < path);
+        assert!(rt; above == above.copied());
+        assert!(rt; path.name_in(&above) == Some(b"AB".as_slice()));
+        assert!(rt; path.name_in(&VaultPath::root()).is_none());
+        assert_eq!(rt; format!(in rt.alloc(); "{path:?}")?.as_str(), "/d/AB");
+        let bytes = Text::from_vec(b"d".to_vec(rt.alloc())?).into_vec();
+        assert!(rt; bytes.as_slice() == b"d".as_slice());
+        assert!(rt; path.part(1) == b"AB".as_slice());
+        Ok(())
+    }
+}
