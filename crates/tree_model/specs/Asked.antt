@@ -1,6 +1,6 @@
 -- What was asked of a tree and what it answered, as plain data: without where names and bytes lie in memory.
-use Rattle.std.specs.Prelude.{◌≡◌, ℕ, ◌/◌, ◌%◌, ◌<◌, ◌≤◌, ◌^◌, List, [], length, take, Bool, Option, Some, None, ⊤}
-use Rattle.std.specs.Option.{option_map, option_copied}
+use Rattle.std.specs.Prelude.{◌≡◌, ℕ, ◌/◌, ◌%◌, ◌≤◌, List, [], length, take, Bool, Option, ⊤}
+use Rattle.std.specs.Option.{option_copied}
 use Rattle.tree_model.specs.declared.request.Request.{Request}
 use Rattle.tree_model.specs.declared.request.Request.TheVariants as requests
 use Rattle.tree_model.specs.declared.reply.Reply.{Reply}
@@ -47,8 +47,17 @@ pub data PlainReply : Type 0 where
 
 abbrev pub plain_change : StatChange → PlainChange
 plain_change c = record {
-  kind = c.kind; device = c.device; qid = c.qid; mode = c.mode; accessed = c.accessed; modified = c.modified; length = c.length;
-  name = option_copied c.name; owner = option_copied c.owner; group = option_copied c.group; modifier = option_copied c.modifier
+  kind = c.kind;
+  device = c.device;
+  qid = c.qid;
+  mode = c.mode;
+  accessed = c.accessed;
+  modified = c.modified;
+  length = c.length;
+  name = option_copied c.name;
+  owner = option_copied c.owner;
+  group = option_copied c.group;
+  modifier = option_copied c.modifier;
 }
 
 abbrev pub plain_request : Request → PlainRequest

@@ -1,12 +1,11 @@
 -- Legal histories: which entries a store may answer, in order, from given rows on.
-use Rattle.std.specs.Prelude.{◌≡◌, ◌⊎◌, ℕ, suc, ◌+◌, ◌<◌, ◌≤◌, ◌^◌, ◌-◌, min, List, [], ◌∷◌, ◌++◌, Bool, true, false, ◌==◌, filter, map, Option, Some, None, IsNone, MatchOption, IsSomeAnd, slice_get, ⊤, ◌≢◌, if◌then◌else◌}
+use Rattle.std.specs.Prelude.{◌≡◌, ◌⊎◌, ℕ, suc, ◌≤◌, ◌^◌, ◌-◌, min, List, [], ◌∷◌, Bool, true, ◌==◌, filter, map, Option, Some, None, IsNone, MatchOption, IsSomeAnd, slice_get, ⊤, ◌≢◌, if◌then◌else◌}
 use Rattle.std.specs.List.{AllByRecursion}
 use Rattle.outside.specs.Calls.{Rose}
-use Rattle.tree_model.specs.declared.refusal.Refusal.{Refusal}
 use Rattle.tree_model.specs.declared.refusal.Refusal.TheVariants as refusals
 use Rattle.tree_model.specs.Rows.{Rows}
-use Rattle.tree_model.specs.Asked.{PlainRequest, look, walk, open_node, create, read, list, write, remove, stat_of, change, sync, PlainReply, qid, walked, count, stat, done, refused, Asked}
-use Rattle.tree_model.specs.Step.{Answer, step, rows_after_step, early_refusal, refuses, says, truncates}
+use Rattle.tree_model.specs.Asked.{PlainRequest, look, walk, open_node, create, read, list, remove, stat_of, change, PlainReply, refused, Asked}
+use Rattle.tree_model.specs.Step.{Answer, step, rows_after_step, early_refusal, refuses, truncates}
 
 -- an entry of a history: who asked, what was asked and answered, the identifier that was drawn for it, if any, the counts
 -- of faults of the folder and of the caller's random source before and after, and whether a commit failed in it

@@ -1,5 +1,5 @@
 -- Clear names: which are valid, and how the names of a walk are spelled.
-use Rattle.std.specs.Prelude.{◌≡◌, ℕ, zero, suc, ◌+◌, ◌*◌, ◌/◌, ◌%◌, ◌<◌, ◌^◌, List, [], ◌∷◌, ◌++◌, length, take, drop, Bool, ◌||◌, Result, Ok, Err, nat_lt, ◌==◌, slice_index, if◌then◌else◌}
+use Rattle.std.specs.Prelude.{◌≡◌, ℕ, zero, suc, ◌+◌, ◌*◌, ◌/◌, ◌%◌, ◌<◌, ◌^◌, List, [], ◌∷◌, length, take, drop, ◌||◌, Result, Ok, Err, nat_lt, ◌==◌, slice_index, if◌then◌else◌}
 use Rattle.std.specs.List.{list_any, flat_map, AllByRecursion}
 use Rattle.std.specs.Str.{bytes_eq, is_utf8, chars, encode_utf8_all}
 use Rattle.unicode_normalization.specs.Forms.{nfc}
