@@ -1,0 +1,6 @@
+pub mod Xors
+pub mod Differences
+pub mod Doubling
+pub mod Chains
+pub mod Counters
+pub mod Sealing

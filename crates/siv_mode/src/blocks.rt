@@ -1,0 +1,49 @@
+ghost use Rattle.std.specs.Prelude.{◌≡◌, ◌↔◌, ◌<◌, length, IsTrue};
+ghost use Rattle.aes_block.specs.Bytes.{xor_bytes};
+ghost use Rattle.siv_mode.specs.Cmac.{doubled, padded};
+
+// The constant that is xored in where a one leaves a doubled block (SP 800-38B, 5.3).
+const REDUCTION: u128 = 0x87;
+
+// Xors bytes onto as many others.
+pub(crate) fn xor_onto(target: &mut [u8], bytes: &[u8])
+    requires { length target.old ≡ length bytes.now }
+    ensures { target.new ≡ xor_bytes target.old bytes.now }
+{
+    for i in 0..target.len() {
+        target[i] ^= bytes[i];
+    }
+}
+
+// Whether two blocks are the same. All bytes are read, so that the time taken doesn't tell where the first that differ are.
+pub(crate) fn is_same(a: &[u8; 16], b: &[u8; 16]) -> bool
+    ensures { IsTrue result ↔ (a.now ≡ b.now) }
+{
+    let mut differences = 0;
+    for i in 0..16 {
+        differences |= a[i] ^ b[i];
+    }
+    differences == 0
+}
+
+// A block doubled (SP 800-38B, 6.1).
+pub(crate) fn double(block: [u8; 16]) -> [u8; 16]
+    ensures { result ≡ doubled block }
+{
+    let number = u128::from_be_bytes(block);
+    // Without a branch, so that the time taken doesn't tell the bit.
+    let reduction = (number >> 127) * REDUCTION;
+    ((number << 1) ^ reduction).to_be_bytes()
+}
+
+// Fewer than 16 bytes, filled up to a block by a one bit and zeros.
+pub(crate) fn pad(bytes: &[u8]) -> [u8; 16]
+    requires { length bytes.now < 16 }
+    ensures { result ≡ padded bytes.now }
+{
+    let len = bytes.len();
+    let mut block = [0; 16];
+    block[..len].copy_from_slice(bytes);
+    block[len] = 0x80;
+    block
+}

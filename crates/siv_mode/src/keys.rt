@@ -1,0 +1,56 @@
+ghost use Rattle.std.specs.Prelude.{◌≡◌};
+
+use aes_block::Key256;
+use std::marker::Model;
+
+/// The two keys of a vault, each of 32 bytes, ready for use.
+#[derive(Drop)]
+pub struct VaultKeys {
+    enc: Key256,
+    mac: Key256,
+}
+
+impl Model for VaultKeys {
+    ghost use Rattle.siv_mode.specs.Keys.{KeyPair};
+
+    ghost Value = { KeyPair };
+
+    ghost view = { λ k. record { enc = k.enc; mac = k.mac } };
+}
+
+impl VaultKeys {
+    /// The encryption key and the MAC key.
+    pub fn new(enc: &[u8; 32], mac: &[u8; 32]) -> VaultKeys
+        ensures enc { result.enc ≡ enc.now }
+        ensures mac { result.mac ≡ mac.now }
+    {
+        VaultKeys {
+            enc: Key256::new(enc),
+            mac: Key256::new(mac),
+        }
+    }
+
+    /// The same keys once more.
+    pub fn copied(&self) -> VaultKeys
+        ensures { result ≡ self.now }
+    {
+        VaultKeys {
+            enc: self.enc.copied(),
+            mac: self.mac.copied(),
+        }
+    }
+
+    /// The encryption key.
+    pub fn encryption_key(&self) -> &Key256
+        ensures { result.now ≡ self.now.enc }
+    {
+        &self.enc
+    }
+
+    /// The MAC key.
+    pub fn mac_key(&self) -> &Key256
+        ensures { result.now ≡ self.now.mac }
+    {
+        &self.mac
+    }
+}
