@@ -1,0 +1,18 @@
+use Rattle.std.proofs.Common.{◌≡◌, ◌++◌, rules, length, subst, ap, ◌∙◌}
+use Rattle.aes_block.specs.Aes.{aes}
+use Rattle.aes_block.specs.Bytes.{MakesBlocks}
+use Rattle.gcm_mode.specs.Gcm.{gcm_sealed}
+use Rattle.gcm_mode.proofs.Agreement.{length-gcm_tag, opened_from_sealed}
+use Rattle.gcm_mode.proofs.gcm.GcmKey.seal_in_place.Goals as goal
+
+pub returns-clause-sealed : goal.returns-clause-sealed
+unfolding gcm_sealed
+returns-clause-sealed c = search rules
+
+pub returns-clause-opens : goal.returns-clause-opens
+unfolding gcm_sealed
+returns-clause-opens c =
+    let blocks : MakesBlocks (aes c.args.self.now) = subst (λ k. MakesBlocks (aes k)) c.self.view_is c.makes_blocks.ensures.cipher in
+    let long : length c.tag_of.result ≡ 16 = ap length c.tag_of.ensures ∙ length-gcm_tag _ _ _ _ blocks in
+    let joined : c.count_over.new.text ++ c.tag_of.result ≡ gcm_sealed (aes c.args.self.now) c.args.nonce.now c.args.ad.now c.args.buf.now = search rules in
+    opened_from_sealed _ _ _ _ _ _ blocks long joined

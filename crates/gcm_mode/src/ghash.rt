@@ -1,0 +1,139 @@
+// GHASH (SP 800-38D, section 6) over u128 words: the coefficient of x^i is bit 127 - i.
+
+ghost use Rattle.std.specs.Prelude.{◌≡◌, ℕ, ◌+◌, ◌*◌, ◌<◌, List, ◌++◌, length};
+ghost use Rattle.aes_block.specs.Bytes.{bytes_of, number_of};
+ghost use Rattle.gcm_mode.specs.Gcm.{hashed_text};
+ghost use Rattle.gcm_mode.specs.Ghash.{block_at, ghash, IsHashed, product, product_of, times_x, zero_padded};
+
+use std::marker::Model;
+
+const BLOCK_LEN: usize = 16;
+
+// What x^128 stands for: 1 + x + x^2 + x^7.
+const REDUCTION: u128 = 0xe1 << 120;
+
+// The top 16 bits of the product of x^4 with each polynomial of which only the coefficients of x^124 up to x^127 count.
+// The other bits are 0.
+const REDUCTIONS: [u16; 16] = [
+    0x0000, 0x1c20, 0x3840, 0x2460, 0x7080, 0x6ca0, 0x48c0, 0x54e0, 0xe100, 0xfd20, 0xd940, 0xc560,
+    0x9180, 0x8da0, 0xa9c0, 0xb5e0,
+];
+
+// The product with x.
+#[tactic(auto, unfolding(crate::specs::Ghash::times_x))]
+fn times_x(v: u128) -> u128
+    ensures { result ≡ times_x v }
+{
+    if v & 1 == 0 {
+        v >> 1
+    } else {
+        (v >> 1) ^ REDUCTION
+    }
+}
+
+// The product with x^4.
+fn times_x4(v: u128) -> u128
+    ensures { result ≡ times_x (times_x (times_x (times_x v))) }
+{
+    (v >> 4) ^ (u128::from(REDUCTIONS[(v & 15) as usize]) << 112)
+}
+
+// The product with v of the polynomial of degree 3 that the low 4 bits of `nibble` are from the left.
+fn nibble_product(nibble: usize, v: u128) -> u128
+    ensures { result ≡ product_of 4 nibble v }
+{
+    let mut sum = 0;
+    let mut power = v;
+    for i in 0..4u32 {
+        if (nibble >> (3 - i)) & 1 == 1 {
+            sum ^= power;
+        }
+        power = times_x(power);
+    }
+    sum
+}
+
+// A hash subkey, and in a table its products with the polynomials of degree 3. Clauses see the subkey.
+#[derive(Drop)]
+pub struct HashKey {
+    table: [u128; 16],
+}
+
+impl Model for HashKey {
+    ghost use Rattle.std.specs.Prelude.{ℕ, slice_index};
+    ghost use Rattle.gcm_mode.specs.Ghash.{IsProductTable};
+
+    ghost Value = { ℕ };
+
+    ghost view = { λ k. slice_index k.table 8 };
+
+    ghost invariant = { λ k. IsProductTable (slice_index k.table 8) k.table };
+}
+
+impl HashKey {
+    pub fn new(subkey: u128) -> HashKey
+        ensures { result ≡ subkey }
+    {
+        let mut table = [0u128; 16];
+        for (nibble, entry) in table.iter_mut().enumerate() {
+            *entry = nibble_product(nibble, subkey);
+        }
+        HashKey { table }
+    }
+
+    // The product of a block with the subkey (6.3), 4 bits of the block at a time from the right.
+    fn product(&self, x: u128) -> u128
+        ensures { result ≡ product x self.now }
+    {
+        let mut sum = 0;
+        for i in 0..32u32 {
+            let nibble = (x >> (4 * i)) & 15;
+            sum = times_x4(sum) ^ self.table[nibble as usize];
+        }
+        sum
+    }
+}
+
+// Block i of a text that is padded with zeros.
+fn block_number(text: &[u8], i: usize) -> u128
+    requires { 16 * i < length text.now }
+    ensures { result ≡ number_of (block_at (zero_padded text.now) i) }
+{
+    let start = BLOCK_LEN * i;
+    let end = text.len().min(start + BLOCK_LEN);
+    let mut block = [0u8; BLOCK_LEN];
+    block[..end - start].copy_from_slice(&text[start..end]);
+    u128::from_be_bytes(block)
+}
+
+// The hash of what was hashed before and of a text behind it, padded with zeros.
+fn absorb(key: &HashKey, before: u128, text: &[u8]) -> u128
+    ensures { (front : List ℕ) → IsHashed key.now front before → IsHashed key.now (front ++ zero_padded text.now) result }
+{
+    let mut hash = before;
+    for i in 0..text.len().div_ceil(BLOCK_LEN) {
+        hash = key.product(hash ^ block_number(text, i));
+    }
+    hash
+}
+
+// The lengths of both in bits, modulo 2^64.
+fn length_block(ad: &[u8], ciphertext: &[u8]) -> [u8; BLOCK_LEN]
+    ensures { result ≡ bytes_of 8 (8 * length ad.now) ++ bytes_of 8 (8 * length ciphertext.now) }
+{
+    let ad_bits = (ad.len() as u64).wrapping_mul(8);
+    let text_bits = (ciphertext.len() as u64).wrapping_mul(8);
+    let mut block = [0u8; BLOCK_LEN];
+    block[..8].copy_from_slice(&ad_bits.to_be_bytes());
+    block[8..].copy_from_slice(&text_bits.to_be_bytes());
+    block
+}
+
+// GHASH of associated data, a ciphertext and their lengths (7.1, step 5).
+pub fn hash_of(key: &HashKey, ad: &[u8], ciphertext: &[u8]) -> [u8; BLOCK_LEN]
+    ensures { result ≡ ghash key.now (hashed_text ad.now ciphertext.now) }
+{
+    let ad_hash = absorb(key, 0, ad);
+    let text_hash = absorb(key, ad_hash, ciphertext);
+    absorb(key, text_hash, &length_block(ad, ciphertext)).to_be_bytes()
+}
