@@ -1,0 +1,27 @@
+-- What of the runtime stands behind an object.
+use Rattle.std.specs.Prelude.{Option}
+use Rattle.outside_real.specs.declared.clock.HostClock.{HostClock}
+use Rattle.outside_real.specs.declared.entropy.OsEntropy.{OsEntropy}
+use Rattle.outside_real.specs.declared.stream.StdSource.{StdSource}
+use Rattle.outside_real.specs.declared.link.HostLink.{HostLink}
+use Rattle.outside_real.specs.declared.link.HostListen.{HostListen}
+
+-- the open random device
+abbrev pub device_of : {R F D : Type 0} → OsEntropy R F D → F
+device_of entropy = entropy.device
+
+-- the reader of standard input
+abbrev pub source_reader : {R I : Type 0} → StdSource R I → I
+source_reader source = source.input
+
+-- the same
+abbrev pub link_reader : {R I : Type 0} → HostLink R I → I
+link_reader link = link.input
+
+-- the link that is to come, if it hasn't come yet
+abbrev pub link_to_come : {R I : Type 0} → HostListen R I → Option (HostLink R I)
+link_to_come listen = listen.link
+
+-- the runtime whose clock it is
+abbrev pub clock_of : {R : Type 0} → HostClock R → R
+clock_of clock = clock.rt

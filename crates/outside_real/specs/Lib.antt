@@ -1,0 +1,3 @@
+pub mod HostPath
+pub mod Behind
+pub mod Missing

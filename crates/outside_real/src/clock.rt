@@ -1,0 +1,53 @@
+ghost use Rattle.std.specs.Prelude.{◌≡◌, ◌%◌, ◌^◌, None};
+ghost use Rattle.outside_real.specs.Behind.{clock_of};
+
+use outside::Clock;
+use std::rt::Clock as SystemClock;
+use std::time::{SystemTime, UNIX_EPOCH};
+
+/// The system's clock.
+#[derive(Drop)]
+pub struct HostClock<R> {
+    rt: R,
+}
+
+/// The low 32 bits.
+fn cut(seconds: u64) -> u32
+    ensures { result ≡ seconds % 2 ^ 32 }
+{
+    (seconds % (1 << 32)) as u32
+}
+
+impl<R: SystemClock> HostClock<R> {
+    /// The runtime's clock.
+    pub fn new(rt: R) -> HostClock<R>
+        ensures { clock_of result ≡ rt }
+    {
+        HostClock { rt }
+    }
+
+    fn since_1970(&self) -> Option<u64> {
+        let now = SystemTime::now(&self.rt).ok()?;
+        Some(now.duration_since(UNIX_EPOCH).ok()?.as_secs())
+    }
+}
+
+impl<R: SystemClock> Clock for HostClock<R> {
+    ghost second = { λ _. None };
+
+    /// The low 32 bits of the seconds since 1970, and 0 where the clock fails or stands before 1970.
+    fn now(&self) -> u32 {
+        cut(self.since_1970().unwrap_or(0))
+    }
+}
+
+#[cfg(test)]
+mod tests {
+    use super::*;
+
+    #[test]
+    fn clock_is_past_2024(rt: HostRuntime) {
+        let clock = HostClock::new(&rt);
+        assert!(rt; clock.now() > 1_704_067_200);
+    }
+}

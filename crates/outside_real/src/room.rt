@@ -1,0 +1,80 @@
+ghost use Rattle.std.specs.Prelude.{◌≡◌, ◌+◌, ◌≤◌, ◌∷◌, ◌++◌, length, IfOk, IsTrue, string_bytes, string_len};
+ghost use Rattle.std.specs.String.{string_capacity};
+ghost use Rattle.vault_path.specs.Parts.{is_part};
+ghost use Rattle.outside_real.specs.HostPath.{host_path};
+
+use std::alloc::{AllocError, Global};
+use std::str;
+use vault_path::VaultPath;
+
+/// What the parts of the longest path take: 6 parts of 255 bytes, each after a slash.
+const LONGEST_PARTS: usize = 6 * 256;
+
+/// A folder's own path, and room for the host's text of any path in it.
+#[derive(Drop)]
+pub(crate) struct PathRoom {
+    base: String,
+    room: String,
+    ghost roomy: { string_len base + 1536 ≤ string_capacity room },
+}
+
+impl PathRoom {
+    /// Reserves the room for the paths in a folder.
+    pub(crate) fn new(alloc: Global, folder: &str) -> Result<PathRoom, AllocError>
+        ensures { IfOk result (λ paths. string_bytes paths.base ≡ folder.now) }
+    {
+        let base = String::from_str(alloc, folder)?;
+        let room = match base.len().checked_add(LONGEST_PARTS) {
+            Some(capacity) => String::with_capacity(alloc, capacity)?,
+            None => return Err(AllocError),
+        };
+        Ok(PathRoom { base, room })
+    }
+
+    /// Composes the host's text of a path. It takes no memory.
+    pub(crate) fn compose(&mut self, path: &VaultPath)
+        ensures text { string_bytes self.new.room ≡ host_path (string_bytes self.old.base) path.now }
+        ensures base { string_bytes self.new.base ≡ string_bytes self.old.base }
+    {
+        compose(self.base.as_str(), &mut self.room, path);
+    }
+
+    /// The text that was composed last.
+    pub(crate) fn text(&self) -> &str
+        ensures { result.now ≡ string_bytes self.now.room }
+    {
+        self.room.as_str()
+    }
+}
+
+fn compose(base: &str, room: &mut String, path: &VaultPath)
+    requires { length base.now + LONGEST_PARTS ≤ string_capacity room.old }
+    ensures text { string_bytes room.new ≡ host_path base.now path.now }
+    ensures capacity { string_capacity room.old ≤ string_capacity room.new }
+{
+    room.clear();
+    room.push_str(base).unwrap();
+    for index in 0..path.len() {
+        push_part(room, path.part(index));
+    }
+}
+
+/// Appends a slash and a part, for which there is room.
+fn push_part(room: &mut String, part: &[u8])
+    requires good { IsTrue (is_part part.now) }
+    requires fits { string_len room.old + 256 ≤ string_capacity room.old }
+    ensures text { string_bytes room.new ≡ string_bytes room.old ++ 47 ∷ part.now }
+    ensures len { string_len room.new ≤ string_len room.old + 256 }
+    ensures capacity { string_capacity room.old ≤ string_capacity room.new }
+{
+    room.push_str("/").unwrap();
+    room.push_str(part_text(part)).unwrap();
+}
+
+fn part_text(part: &[u8]) -> &str
+    requires { IsTrue (is_part part.now) }
+    ensures text { result.now ≡ part.now }
+    ensures len { length result.now ≤ 255 }
+{
+    str::from_utf8(part).unwrap()
+}

@@ -1,0 +1,130 @@
+ghost use Rattle.std.specs.Prelude.{◌≡◌, ◌≤◌, ◌<◌, ℕ, length, take, drop, min, IfOk, Ok, OnOk};
+ghost use Rattle.std.specs.Io.KnownBytes.{Consumes, Appends, IsAtEnd};
+
+use std::io;
+use std::io::{Error, ErrorKind, Read, Write};
+
+/// How many bytes go through the stack at a time.
+const CHUNK: usize = 8192;
+
+/// One read, tried again where a signal cuts it short.
+fn read_once<I: Read>(input: &mut I, out: &mut [u8]) -> io::Result<usize>
+    ensures count { IfOk result (λ n. n ≤ length out.old) }
+    ensures bytes { IfOk result (λ n. Consumes (I.remaining input.old) (I.remaining input.new) (take n out.new)) }
+    ensures end { result ≡ Ok 0 → 0 < length out.old → IsAtEnd (I.remaining input.new) }
+{
+    for _ in 0..u64::MAX {
+        match input.read(out) {
+            Err(e) if e.kind() == ErrorKind::Interrupted => {}
+            answer => return answer,
+        }
+    }
+    Err(Error::from(ErrorKind::TimedOut))
+}
+
+/// Reads some bytes, at most `out` has room for, and says how many. The rest of `out` is as it was.
+pub(crate) fn read_some<I: Read>(input: &mut I, out: &mut [u8]) -> io::Result<usize>
+    ensures count { IfOk result (λ n. n ≤ length out.old) }
+    ensures rest { IfOk result (λ n. drop n out.new ≡ drop n out.old) }
+    ensures bytes { IfOk result (λ n. Consumes (I.remaining input.old) (I.remaining input.new) (take n out.new)) }
+    ensures end { result ≡ Ok 0 → 0 < length out.old → IsAtEnd (I.remaining input.new) }
+{
+    let mut chunk = [0u8; CHUNK];
+    let most = out.len().min(CHUNK);
+    let count = read_once(input, &mut chunk[..most])?;
+    out[..count].copy_from_slice(&chunk[..count]);
+    Ok(count)
+}
+
+/// Reads one byte, if `out` has room for it, and says how many it read. The rest of `out` is as it was.
+pub(crate) fn read_one<I: Read>(input: &mut I, out: &mut [u8]) -> io::Result<usize>
+    ensures count { IfOk result (λ n. n ≤ min 1 (length out.old)) }
+    ensures rest { IfOk result (λ n. drop n out.new ≡ drop n out.old) }
+    ensures bytes { IfOk result (λ n. Consumes (I.remaining input.old) (I.remaining input.new) (take n out.new)) }
+    ensures end { result ≡ Ok 0 → 0 < length out.old → IsAtEnd (I.remaining input.new) }
+{
+    if out.is_empty() {
+        return Ok(0);
+    }
+    let mut byte = [0u8; 1];
+    let count = read_once(input, &mut byte)?;
+    if count == 1 {
+        out[0] = byte[0];
+    }
+    Ok(count)
+}
+
+/// Reads until `out` is full or the end comes, and says how many bytes it read. The rest of `out` is as it was.
+pub(crate) fn read_full<I: Read>(input: &mut I, out: &mut [u8]) -> io::Result<usize>
+    ensures count { IfOk result (λ n. n ≤ length out.old) }
+    ensures rest { IfOk result (λ n. drop n out.new ≡ drop n out.old) }
+    ensures bytes { IfOk result (λ n. Consumes (I.remaining input.old) (I.remaining input.new) (take n out.new)) }
+    ensures end { IfOk result (λ n. n < length out.old → IsAtEnd (I.remaining input.new)) }
+{
+    let mut filled = 0;
+    while filled < out.len() {
+        let count = read_some(input, &mut out[filled..])?;
+        if count == 0 {
+            return Ok(filled);
+        }
+        filled += count;
+    }
+    Ok(filled)
+}
+
+/// Writes some bytes from the front of a piece, at least one unless it is empty, and says how many. They leave at once.
+pub(crate) fn write_some<O: Write>(output: &mut O, piece: &[u8]) -> io::Result<usize>
+    ensures count { IfOk result (λ n. n ≤ length piece.now) }
+    ensures some { IfOk result (λ n. 0 < length piece.now → 0 < n) }
+    ensures bytes { IfOk result (λ n. Appends (O.contents output.old) (O.contents output.new) (take n piece.now)) }
+{
+    for _ in 0..u64::MAX {
+        match output.write(piece) {
+            Err(e) if e.kind() == ErrorKind::Interrupted => {}
+            Err(e) => return Err(e),
+            Ok(0) if !piece.is_empty() => return Err(Error::from(ErrorKind::WriteZero)),
+            Ok(count) => {
+                output.flush()?;
+                return Ok(count);
+            }
+        }
+    }
+    Err(Error::from(ErrorKind::TimedOut))
+}
+
+#[cfg(test)]
+mod tests {
+    use super::*;
+
+    #[test]
+    fn bytes_come_whole(rt: HostRuntime) -> io::Result<()> {
+        let rows: [(u64, usize); 6] = [(0, 0), (0, 3), (3, 5), (5, 3), (8193, 9000), (9000, 8193)];
+        for (length, most) in rows {
+            let mut input = io::repeat(7).take(length);
+            let mut out = [1u8; 9000];
+            let count = read_full(&mut input, &mut out[..most])?;
+            assert_eq!(rt;
+                count as u64,
+                length.min(most as u64),
+                "{length} into {most}"
+            );
+            assert!(rt;
+                out[..count].iter().all(|byte| *byte == 7),
+                "{length} into {most}"
+            );
+            assert!(rt;
+                out[count..].iter().all(|byte| *byte == 1),
+                "{length} into {most}"
+            );
+        }
+        let mut input = b"ab".as_slice();
+        let mut out = [1u8; 3];
+        assert_eq!(rt; read_one(&mut input, &mut out)?, 1);
+        assert!(rt; out.as_slice() == [b'a', 1, 1].as_slice());
+        assert_eq!(rt; read_some(&mut input, &mut out)?, 1, "what is left");
+        let mut output = Vec::new(rt.alloc());
+        assert_eq!(rt; write_some(&mut output, b"xyz")?, 3);
+        assert!(rt; output.as_slice() == b"xyz".as_slice());
+        Ok(())
+    }
+}
