@@ -1,0 +1,6 @@
+pub mod FieldLaws
+pub mod ChangeLaws
+pub mod MessageLaws
+pub mod FrameLaws
+pub mod NameLaws
+pub mod WroteLaws

@@ -1,0 +1,171 @@
+//! Writing answers and stats into a buffer.
+
+ghost use Rattle.std.specs.Prelude.{◌≡◌, ℕ, ◌+◌, ◌*◌, ◌<◌, ◌≤◌, ◌^◌, List, ◌++◌, length, take, drop};
+ghost use Rattle.std.specs.List.{flat_map};
+ghost use Rattle.ninep_wire.specs.Fields.{number, string, qid};
+ghost use Rattle.ninep_wire.specs.Answer.{answer_kind, answer_fields, spelled_answer, stat_fields, spelled_stat};
+ghost use Rattle.ninep_wire.specs.Plain.{plain_answer};
+ghost use Rattle.ninep_wire.specs.Writing.{HasForm, answer_size, stat_size, Wrote};
+
+use crate::answer::Answer;
+use crate::kinds;
+use crate::put::{put_qid, put_qids, put_string, put_u8, put_u16, put_u32, put_u64};
+use tree_model::{Qid, Stat};
+
+/// The bytes of a message before its fields: size[4] type[1] tag[2].
+const HEADER: usize = 7;
+
+fn kind_of(reply: &Answer<'_>) -> u8
+    ensures { (old : List ℕ) → result ≡ answer_kind (plain_answer reply.now old) }
+{
+    match reply {
+        Answer::Version { .. } => kinds::R_VERSION,
+        Answer::Attach { .. } => kinds::R_ATTACH,
+        Answer::Error { .. } => kinds::R_ERROR,
+        Answer::Flush => kinds::R_FLUSH,
+        Answer::Walk { .. } => kinds::R_WALK,
+        Answer::Open { .. } => kinds::R_OPEN,
+        Answer::Create { .. } => kinds::R_CREATE,
+        Answer::Read { .. } => kinds::R_READ,
+        Answer::Write { .. } => kinds::R_WRITE,
+        Answer::Clunk => kinds::R_CLUNK,
+        Answer::Remove => kinds::R_REMOVE,
+        Answer::Stat { .. } => kinds::R_STAT,
+        Answer::Wstat => kinds::R_WSTAT,
+    }
+}
+
+fn put_version(out: &mut [u8], msize: u32, version: &str) -> usize
+    requires text { length version.now < 2 ^ 16 }
+    requires room { 13 + length version.now ≤ length out.old }
+    ensures { Wrote out.old out.new HEADER result (number 4 msize ++ string version.now) }
+{
+    let at = put_u32(out, HEADER, msize);
+    put_string(out, at, version)
+}
+
+fn put_walk(out: &mut [u8], qids: &[Qid]) -> usize
+    requires count { length qids.now ≤ 16 }
+    requires room { 9 + 13 * length qids.now ≤ length out.old }
+    ensures bytes { Wrote out.old out.new HEADER result (number 2 (length qids.now) ++ flat_map qid qids.now) }
+    ensures count { result ≡ 9 + 13 * length qids.now }
+{
+    let at = put_u16(out, HEADER, qids.len() as u16);
+    put_qids(out, at, qids)
+}
+
+fn put_open(out: &mut [u8], opened: &Qid, iounit: u32) -> usize
+    requires { 24 ≤ length out.old }
+    ensures { Wrote out.old out.new HEADER result (qid opened.now ++ number 4 iounit) }
+{
+    let at = put_qid(out, HEADER, opened);
+    put_u32(out, at, iounit)
+}
+
+/// The count of a read's bytes, which stand behind it already.
+fn put_read(out: &mut [u8], count: u32) -> usize
+    requires { 11 + count ≤ length out.old }
+    ensures bytes { Wrote out.old out.new HEADER result (number 4 count ++ take count (drop 11 out.old)) }
+    ensures count { result ≡ 11 + count }
+{
+    let at = put_u32(out, HEADER, count);
+    at + count as usize
+}
+
+/// The count of a stat's bytes, which stand behind it already.
+fn put_stat(out: &mut [u8], count: u16) -> usize
+    requires { 9 + count ≤ length out.old }
+    ensures bytes { Wrote out.old out.new HEADER result (number 2 count ++ take count (drop 9 out.old)) }
+    ensures count { result ≡ 9 + count }
+{
+    let at = put_u16(out, HEADER, count);
+    at + usize::from(count)
+}
+
+/// The fields of an answer, behind its header.
+fn put_fields(reply: &Answer<'_>, out: &mut [u8]) -> usize
+    requires form { HasForm reply.now }
+    requires room { answer_size reply.now ≤ length out.old }
+    ensures bytes { Wrote out.old out.new HEADER result (answer_fields (plain_answer reply.now out.old)) }
+    ensures count { result ≡ answer_size reply.now }
+    ensures small { result < 2 ^ 32 }
+{
+    match reply {
+        Answer::Version { msize, version } => put_version(out, *msize, version),
+        Answer::Attach { qid } => put_qid(out, HEADER, qid),
+        Answer::Error { ename } => put_string(out, HEADER, ename),
+        Answer::Flush => HEADER,
+        Answer::Walk { count, qids } => put_walk(out, &qids[..*count]),
+        Answer::Open { qid, iounit } => put_open(out, qid, *iounit),
+        Answer::Create { qid, iounit } => put_open(out, qid, *iounit),
+        Answer::Read { count } => put_read(out, *count),
+        Answer::Write { count } => put_u32(out, HEADER, *count),
+        Answer::Clunk => HEADER,
+        Answer::Remove => HEADER,
+        Answer::Stat { count } => put_stat(out, *count),
+        Answer::Wstat => HEADER,
+    }
+}
+
+fn put_header(out: &mut [u8], size: u32, kind: u8, tag: u16) -> usize
+    requires { 7 ≤ length out.old }
+    ensures { Wrote out.old out.new 0 result (number 4 size ++ number 1 kind ++ number 2 tag) }
+{
+    let at = put_u32(out, 0, size);
+    let at = put_u8(out, at, kind);
+    put_u16(out, at, tag)
+}
+
+/// Writes an answer with its tag at the front of `out`, and gives how many bytes it has. No memory is taken.
+pub fn write_reply(reply: &Answer<'_>, tag: u16, out: &mut [u8]) -> usize
+    requires form { HasForm reply.now }
+    requires room { answer_size reply.now ≤ length out.old }
+    ensures count { result ≡ answer_size reply.now }
+    ensures size { result ≡ length (spelled_answer tag (plain_answer reply.now out.old)) }
+    ensures bytes { out.new ≡ spelled_answer tag (plain_answer reply.now out.old) ++ drop (length (spelled_answer tag (plain_answer reply.now out.old))) out.old }
+{
+    let size = put_fields(reply, out);
+    put_header(out, size as u32, kind_of(reply), tag);
+    size
+}
+
+/// The fields of a stat before its names.
+fn put_numbers(stat: &Stat<'_>, out: &mut [u8], at: usize) -> usize
+    requires { at + 39 ≤ length out.old }
+    ensures { Wrote out.old out.new at result (number 2 stat.now.kind ++ number 4 stat.now.device ++ qid stat.now.qid ++ number 4 stat.now.mode ++ number 4 stat.now.accessed ++ number 4 stat.now.modified ++ number 8 stat.now.length) }
+{
+    let at = put_u16(out, at, stat.kind);
+    let at = put_u32(out, at, stat.device);
+    let at = put_qid(out, at, &stat.qid);
+    let at = put_u32(out, at, stat.mode);
+    let at = put_u32(out, at, stat.accessed);
+    let at = put_u32(out, at, stat.modified);
+    put_u64(out, at, stat.length)
+}
+
+/// The fields of a stat, behind its size.
+fn put_stat_fields(stat: &Stat<'_>, out: &mut [u8]) -> usize
+    requires fits { stat_size stat.now < 2 ^ 16 }
+    requires room { stat_size stat.now + 2 ≤ length out.old }
+    ensures bytes { Wrote out.old out.new 2 result (stat_fields stat.now) }
+    ensures count { result ≡ stat_size stat.now + 2 }
+{
+    let at = put_numbers(stat, out, 2);
+    let at = put_string(out, at, stat.name);
+    let at = put_string(out, at, stat.owner);
+    let at = put_string(out, at, stat.group);
+    put_string(out, at, stat.modifier)
+}
+
+/// Writes a stat at the front of `out`, and gives how many bytes it has. No memory is taken.
+pub fn write_stat(stat: &Stat<'_>, out: &mut [u8]) -> usize
+    requires fits { stat_size stat.now < 2 ^ 16 }
+    requires room { stat_size stat.now + 2 ≤ length out.old }
+    ensures count { result ≡ stat_size stat.now + 2 }
+    ensures size { result ≡ length (spelled_stat stat.now) }
+    ensures bytes { out.new ≡ spelled_stat stat.now ++ drop (length (spelled_stat stat.now)) out.old }
+{
+    let end = put_stat_fields(stat, out);
+    put_u16(out, 0, (end - 2) as u16);
+    end
+}
