@@ -1,0 +1,4 @@
+pub mod Fronts
+pub mod Disks
+pub mod Names
+pub mod Drawn
