@@ -4,3 +4,4 @@ pub mod Doubling
 pub mod Chains
 pub mod Counters
 pub mod Sealing
+pub mod Shapes

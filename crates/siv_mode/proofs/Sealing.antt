@@ -10,7 +10,7 @@ use Rattle.siv_mode.specs.Siv.{mixed, xored_end, s2v, first_counter, keystream, 
 use Rattle.siv_mode.proofs.Xors.{length-xor_bytes, xor_bytes-twice}
 use Rattle.siv_mode.proofs.Counters.{keystream-push, counter_block}
 
-length-keystream : (ctr : List ℕ → List ℕ) (first n : ℕ) → MakesBlocks ctr → length (keystream ctr first n) ≡ 16 * n
+pub length-keystream : (ctr : List ℕ → List ℕ) (first n : ℕ) → MakesBlocks ctr → length (keystream ctr first n) ≡ 16 * n
 length-keystream ctr first zero makes = refl
 length-keystream ctr first (suc n) makes =
     let next : suc n ≡ n + 1 = omega arith in

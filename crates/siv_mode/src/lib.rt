@@ -12,4 +12,4 @@ mod tests;
 
 pub use keys::VaultKeys;
 pub use mac::cmac;
-pub use siv::{BadTag, open, s2v, seal};
+pub use siv::{BadTag, open, opening_is_exact, s2v, seal};

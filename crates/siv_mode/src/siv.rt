@@ -1,9 +1,11 @@
 ghost use Rattle.std.specs.Prelude.{◌≡◌, ◌↔◌, ◌+◌, ◌≤◌, ℕ, List, length, take, replicate, Option, Some, None, IsOk, OnOk, OnErr};
+ghost use Rattle.aes_block.specs.Aes.{aes};
 ghost use Rattle.aes_block.specs.Bytes.{AreBytes, MakesBlocks};
 ghost use Rattle.siv_mode.specs.Siv.{s2v as s2v_of, siv_sealed, siv_text, siv_opened, ad_of, mixed};
 
 use crate::blocks::{double, is_same, pad, xor_onto};
 use crate::counter::apply_counters;
+use crate::keys::VaultKeys;
 use crate::mac::{RunningMac, cmac};
 use aes_block::BlockKey;
 use thiserror::Error;
@@ -117,3 +119,18 @@ pub fn sealing_and_opening_agree()
         → MakesBlocks mac → MakesBlocks ctr → AreBytes sealed → 16 ≤ length sealed
         → (siv_opened mac ctr ad sealed ≡ Some text) ↔ (sealed ≡ siv_sealed mac ctr ad text) }
 {}
+
+/// What sealing and opening under a vault's keys come to: a sealed text has 16 bytes more than its text, sealing bytes gives
+/// bytes, and opening accepts exactly what sealing gives. It does nothing.
+pub fn opening_is_exact(keys: &VaultKeys)
+    ensures long { (ad : Option (List ℕ)) (text : List ℕ)
+        → length (siv_sealed (aes keys.now.mac) (aes keys.now.enc) ad text) ≡ length text + 16 }
+    ensures bytes { (ad : Option (List ℕ)) (text : List ℕ) → AreBytes text
+        → AreBytes (siv_sealed (aes keys.now.mac) (aes keys.now.enc) ad text) }
+    ensures exact { (ad : Option (List ℕ)) (sealed text : List ℕ)
+        → (siv_opened (aes keys.now.mac) (aes keys.now.enc) ad sealed ≡ Some text)
+        ↔ (sealed ≡ siv_sealed (aes keys.now.mac) (aes keys.now.enc) ad text) }
+{
+    keys.mac_key().makes_blocks();
+    keys.encryption_key().makes_blocks();
+}

@@ -1,0 +1,50 @@
+ghost use Rattle.std.specs.Prelude.{◌≡◌, ◌≤◌, [], ◌∷◌, ◌++◌, length, take, drop, IsTrue};
+ghost use Rattle.vault_path.specs.Parts.{is_path};
+ghost use Rattle.dir_paths.specs.Folder.{base32, folder_of};
+
+use crate::digits::base32;
+use sha1::Sha1;
+use siv_mode::VaultKeys;
+use vault_path::VaultPath;
+
+// An identifier has at most 1,000 bytes, and a sealed one 16 more.
+const SEALED_LIMIT: usize = 1016;
+
+// How many bytes a sealed text has more than its text.
+const TAG_LEN: usize = 16;
+
+/// The folder of the directory with this identifier, at most 1,000 bytes; the root's identifier is the empty text. It takes
+/// no memory.
+#[tactic(auto, unfolding(crate::specs::Folder::folder_of))]
+pub fn folder_of(keys: &VaultKeys, identifier: &[u8]) -> VaultPath
+    requires { length identifier.now ≤ 1000 }
+    ensures { result ≡ folder_of keys.now identifier.now }
+{
+    let mut buffer = [0; SEALED_LIMIT];
+    let sealed = &mut buffer[..identifier.len() + TAG_LEN];
+    let mac = keys.mac_key();
+    let ctr = keys.encryption_key();
+    siv_mode::seal(mac, ctr, None, identifier, sealed);
+    path_of(&Sha1::digest(sealed))
+}
+
+// `d`, the first 2 digits of a hash, the other 30.
+fn path_of(hash: &[u8; 20]) -> VaultPath
+    ensures { result ≡ (100 ∷ []) ∷ take 2 (base32 hash.now) ∷ drop 2 (base32 hash.now) ∷ [] }
+{
+    let digits = base32(hash);
+    let top = joined(&VaultPath::root(), b"d");
+    let middle = joined(&top, &digits[..2]);
+    joined(&middle, &digits[2..])
+}
+
+// The path one part further, where that is a path.
+fn joined(path: &VaultPath, part: &[u8]) -> VaultPath
+    requires { IsTrue (is_path (path.now ++ part.now ∷ [])) }
+    ensures { result ≡ path.now ++ part.now ∷ [] }
+{
+    let Ok(path) = path.join(part) else {
+        unreachable!();
+    };
+    path
+}

@@ -1,0 +1,13 @@
+use Rattle.std.proofs.Common.{◌+◌, length, take, Some}
+use Rattle.file_chunks.proofs.Layouts.{chunk_opens_is, sealed_chunk_is}
+use Rattle.file_chunks.proofs.chunk.seal_chunk.Goals as goal
+
+pub returns-clause-sealed : goal.returns-clause-sealed
+returns-clause-sealed g c =
+    sealed_chunk_is c.args.header.now c.args.i _ _ _ c.args.clear.now c.seal_into.new.out _ c.key.ensures c.place_data.ensures
+    c.seal_into.ensures.nonce c.seal_into.ensures.sealed
+
+pub returns-clause-opens : goal.returns-clause-opens
+returns-clause-opens g c =
+    chunk_opens_is c.args.header.now c.args.i _ _ (take (length c.args.clear.now + 28) c.seal_into.new.out) (Some c.args.clear.now)
+    c.key.ensures c.place_data.ensures c.seal_into.ensures.opens

@@ -1,0 +1,16 @@
+use Rattle.std.proofs.Common.{◌≡◌, length, arith, replicate}
+use Rattle.file_chunks.proofs.Layouts.{new_header_is, new_header_opens}
+use Rattle.file_chunks.proofs.header.new_header.Goals as goal
+
+pub returns-clause-bytes : goal.returns-clause-bytes
+returns-clause-bytes g c =
+    let size : length c.payload.result ≡ 40 = omega arith in
+    rw c.new.ensures (new_header_is c.args.keys.now c.sealing_key.result c.payload.result c.fill.new.out c.fill-2.new.out c.seal_into.new.out (replicate 68 0)
+    (omega arith) size c.sealing_key.ensures c.payload.ensures c.seal_into.ensures.sealed)
+
+pub returns-clause-opens : goal.returns-clause-opens
+returns-clause-opens g c =
+    let size : length c.payload.result ≡ 40 = omega arith in
+    let long : length c.seal_into.new.out ≡ 68 = omega arith in
+    rw c.new.ensures (new_header_opens c.args.keys.now c.sealing_key.result c.payload.result c.fill.new.out c.fill-2.new.out c.seal_into.new.out
+    long size c.sealing_key.ensures c.seal_into.ensures.nonce c.payload.ensures c.seal_into.ensures.opens)

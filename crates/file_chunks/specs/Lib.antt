@@ -1,0 +1,4 @@
+pub mod Envelope
+pub mod Header
+pub mod Chunk
+pub mod File

@@ -1,0 +1,42 @@
+ghost use Rattle.std.specs.Prelude.{◌≡◌, ◌↔◌, ◌<◌, ◌≤◌, ◌+◌, ◌/◌, ◌^◌, ℕ};
+ghost use Rattle.file_chunks.specs.File.{clear_length};
+
+/// The length of a header in bytes.
+pub const HEADER_LENGTH: usize = 68;
+
+/// The length of a full chunk's clear bytes.
+pub const CHUNK_LENGTH: usize = 32768;
+
+/// How many bytes sealing adds to a chunk: its nonce and its tag.
+pub const SEALING_LENGTH: usize = 28;
+
+/// The length of a full sealed chunk in bytes.
+pub const SEALED_LENGTH: usize = CHUNK_LENGTH + SEALING_LENGTH;
+
+/// The length of the content of a host file of this size, both in bytes; None exactly where no content has it.
+pub fn clear_len(size: u64) -> Option<u64>
+    ensures { result ≡ clear_length size }
+{
+    let sealed = size.checked_sub(HEADER_LENGTH as u64)?;
+    let last = sealed % SEALED_LENGTH as u64;
+    if 0 < last && last < SEALING_LENGTH as u64 {
+        return None;
+    }
+    let chunks = sealed.div_ceil(SEALED_LENGTH as u64);
+    Some(sealed - SEALING_LENGTH as u64 * chunks)
+}
+
+/// The first chunk that the slice of `count` bytes from `at` on meets, and how many chunks it meets.
+pub fn span(at: u64, count: u64) -> (u64, u64)
+    requires { at + count < 2 ^ 64 }
+    // Exactly the chunks in which some byte of the slice stands.
+    ensures chunks { (k : ℕ) → ((result.0 ≤ k) × (k < result.0 + result.1)) ↔ ((p : ℕ) × (at ≤ p) × (p < at + count) × (p / 32768 ≡ k)) }
+    ensures first { result.0 ≡ at / 32768 }
+{
+    let first = at / CHUNK_LENGTH as u64;
+    if count == 0 {
+        return (first, 0);
+    }
+    let last = (at + count - 1) / CHUNK_LENGTH as u64;
+    (first, last - first + 1)
+}

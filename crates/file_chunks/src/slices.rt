@@ -1,0 +1,45 @@
+ghost use Rattle.std.specs.Prelude.{◌≡◌, ◌↔◌, ◌⊎◌, ◌<◌, ◌≤◌, ◌+◌, ◌-◌, ◌*◌, ◌/◌, ◌%◌, ℕ, List, [], ◌++◌, length, take, drop, min, Some, None};
+ghost use Rattle.std.specs.Option.{is_some, option_map, option_and_then};
+ghost use Rattle.siv_mode.specs.Keys.{KeyPair};
+ghost use Rattle.tree_model.specs.Rows.{Cell, Content, bad_size, chunks, content_length, slice_of};
+ghost use Rattle.file_chunks.specs.Header.{Head, header_opens};
+ghost use Rattle.file_chunks.specs.Chunk.{chunk_opens};
+ghost use Rattle.file_chunks.specs.File.{IsKey, KeepsLength, clear_length, content_of, sealed_at};
+
+/// What reading a host file's content amounts to, for each pair of keys, all bytes of a file and each slice: which sizes
+/// are bad, how long the content is, and what the slice is by the chunk in which its first byte stands. A slice past that
+/// chunk is read as two, one after the other.
+pub fn reads_are_slices()
+    // The premise of the laws below: AES-256 makes blocks of 16 bytes.
+    ensures keeps { KeepsLength }
+    ensures bad { (keys : KeyPair) (bytes : List ℕ) → (clear_length (length bytes) ≡ None) ↔ (content_of keys bytes ≡ bad_size) }
+    ensures good { (keys : KeyPair) (bytes : List ℕ) (n : ℕ) → clear_length (length bytes) ≡ Some n →
+        (cells : List Cell) × (content_of keys bytes ≡ chunks (is_some (header_opens keys (take 68 bytes))) cells) }
+    ensures len { KeepsLength → (keys : KeyPair) (bytes : List ℕ) (n : ℕ) → IsKey keys.enc → clear_length (length bytes) ≡ Some n →
+        content_length (content_of keys bytes) ≡ n }
+
+    // A slice without a byte of the content.
+    ensures empty { KeepsLength → (keys : KeyPair) (bytes : List ℕ) (n at count : ℕ) → IsKey keys.enc → clear_length (length bytes) ≡ Some n →
+        (n ≤ at) ⊎ (count ≡ 0) → slice_of (content_of keys bytes) at count ≡ Some [] }
+
+    // The chunk of each byte is there, sealed.
+    ensures sealed { (bytes : List ℕ) (n at : ℕ) → clear_length (length bytes) ≡ Some n → at < n →
+        length (sealed_at bytes (at / 32768)) ≡ min 32768 (n - 32768 * (at / 32768)) + 28 }
+
+    // The header doesn't open, or the chunk doesn't.
+    ensures closed { KeepsLength → (keys : KeyPair) (bytes : List ℕ) (n at count : ℕ) → IsKey keys.enc → clear_length (length bytes) ≡ Some n →
+        at < n → 0 < count → header_opens keys (take 68 bytes) ≡ None → slice_of (content_of keys bytes) at count ≡ None }
+    ensures damaged { KeepsLength → (keys : KeyPair) (bytes : List ℕ) (n at count : ℕ) (head : Head) → IsKey keys.enc → clear_length (length bytes) ≡ Some n →
+        at < n → 0 < count → header_opens keys (take 68 bytes) ≡ Some head → chunk_opens head (at / 32768) (sealed_at bytes (at / 32768)) ≡ None →
+        slice_of (content_of keys bytes) at count ≡ None }
+
+    // The chunk opens, and the slice goes no further, or the content doesn't.
+    ensures opened { KeepsLength → (keys : KeyPair) (bytes : List ℕ) (n at count : ℕ) (head : Head) (clear : List ℕ) → IsKey keys.enc → clear_length (length bytes) ≡ Some n →
+        at < n → header_opens keys (take 68 bytes) ≡ Some head → chunk_opens head (at / 32768) (sealed_at bytes (at / 32768)) ≡ Some clear →
+        (at % 32768 + count ≤ 32768) ⊎ (n ≤ 32768 * (at / 32768 + 1)) →
+        slice_of (content_of keys bytes) at count ≡ Some (take count (drop (at % 32768) clear)) }
+
+    // Two slices, one after the other, are one.
+    ensures joined { (content : Content) (at first second : ℕ) → slice_of content at (first + second)
+        ≡ option_and_then (λ front. option_map (λ back. front ++ back) (slice_of content (at + first) second)) (slice_of content at first) }
+{}

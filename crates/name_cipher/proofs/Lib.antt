@@ -1,0 +1,3 @@
+pub mod ByteLemmas
+pub mod NameLemmas
+pub mod Opening
