@@ -1,0 +1,46 @@
+ghost use Rattle.std.specs.Prelude.{◌≡◌, ◌<◌, ◌++◌, length};
+ghost use Rattle.aes_block.specs.Bytes.{bytes_of, xor_bytes};
+ghost use Rattle.scrypt_kdf.specs.Pbkdf2.{block, pbkdf2};
+
+use hmac_sha::{hmac256, hmac256_of_pieces};
+
+// The bytes of a block.
+const BLOCK: usize = 32;
+
+// Xors 32 bytes onto as many others.
+fn xor_onto(target: &mut [u8; BLOCK], bytes: &[u8; BLOCK])
+    ensures { target.new ≡ xor_bytes target.old bytes.now }
+{
+    for (i, byte) in target.iter_mut().enumerate() {
+        *byte ^= bytes[i];
+    }
+}
+
+// Block `number`, counted from 1, of what `password` and `salt` give.
+fn block(password: &[u8], salt: &[u8], turns: u32, number: usize) -> [u8; BLOCK]
+    requires { 0 < turns }
+    ensures { result ≡ block password.now salt.now turns number }
+{
+    let counter = (number % (1 << 32)) as u32;
+    let mut u = hmac256_of_pieces(password, salt, &counter.to_be_bytes());
+    let mut xored = u;
+    for _turn in 1..turns {
+        u = hmac256(password, &u);
+        xor_onto(&mut xored, &u);
+    }
+    xored
+}
+
+/// Fills `out` with what PBKDF2 (RFC 8018, 5.2) with HMAC-SHA-256 makes of a password and a salt of any lengths in
+/// `turns` iterations.
+pub fn pbkdf2(password: &[u8], salt: &[u8], turns: u32, out: &mut [u8])
+    requires { 0 < turns }
+    ensures { out.new ≡ pbkdf2 password.now salt.now turns (length out.old) }
+{
+    for i in 0..out.len().div_ceil(BLOCK) {
+        let block = block(password, salt, turns, i + 1);
+        let start = BLOCK * i;
+        let len = (out.len() - start).min(BLOCK);
+        out[start..start + len].copy_from_slice(&block[..len]);
+    }
+}

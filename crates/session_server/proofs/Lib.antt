@@ -1,0 +1,3 @@
+pub mod Links
+pub mod SoFar
+pub mod Stops

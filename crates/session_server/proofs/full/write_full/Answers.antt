@@ -1,0 +1,18 @@
+use Rattle.std.proofs.Common.{◌∙◌, arith, ◌≤◌, ◌-◌, length, drop}
+use Rattle.std.proofs.lemmas.List.{length-take, length-drop}
+use Rattle.session_server.proofs.Links.{writes_behind}
+use Rattle.session_server.proofs.full.write_full.Goals as goal
+
+pub loop-count-preserved : goal.loop-count-preserved
+loop-count-preserved g c =
+    let inv = c.loop-count.invariant in
+    let rest = drop c.loop-count.count c.args.piece.now in
+    let fits : c.in-Ok.more ≤ length c.args.piece.now - c.loop-count.count =
+    omega (arith, c.in-Ok.ensures.count, length-take (length c.args.piece.now - c.loop-count.count) rest, length-drop c.loop-count.count c.args.piece.now)
+    in (
+      omega (arith, fits, inv.0),
+      writes_behind _ _ _ c.loop-count.count c.in-Ok.more c.args.piece.now fits inv.1 c.in-Ok.ensures.bytes,
+      omega (arith, inv.2, c.write.ensures.cause.later),
+      c.write.ensures.left ∙ inv.3,
+      c.write.ensures.reads ∙ inv.4,
+    )

@@ -1,0 +1,4 @@
+pub mod Clear
+pub mod Loaded
+pub mod Entries
+pub mod Faults
