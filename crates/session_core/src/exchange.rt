@@ -3,7 +3,6 @@
 ghost use Rattle.std.specs.Prelude.{◌≡◌, ℕ, ◌+◌, ◌≤◌, ◌<◌, ◌++◌, List, [], ◌∷◌, length, take, drop};
 ghost use Rattle.std.specs.List.{AllByRecursion};
 ghost use Rattle.tree_model.specs.Asked.{Asked, plain_request, CanAsk};
-ghost use Rattle.tree_model.specs.History.{Origin};
 ghost use Rattle.ninep_wire.specs.Answer.{error, spelled_answer};
 ghost use Rattle.ninep_wire.specs.Plain.{plain_call, plain_answer};
 ghost use Rattle.ninep_wire.specs.Reading.{IsFrame};
@@ -92,7 +91,7 @@ fn ask<B: TreeObject>(
     ensures outcome { (entry : Asked) × (entry.request ≡ plain_request request.now) × (entry.moment ≡ now)
         × (take result.0 out.new ≡ spelled_answer tag (outcome_of stage (plain_call call.now) entry.reply entry.bytes).answer)
         × (result.1 ≡ (outcome_of stage (plain_call call.now) entry.reply entry.bytes).stage)
-        × ((origin : Origin) (before : List Asked) → B.stands object.old origin before → B.stands object.new origin (before ++ entry ∷ [])) }
+        × ((origin : B) (before : List Asked) → B.stands object.old origin before → B.stands object.new origin (before ++ entry ∷ [])) }
     ensures size { (7 ≤ result.0) × (result.0 ≤ limit result.1) }
     ensures good { HasGoodSize result.1 }
 {
@@ -114,7 +113,7 @@ pub(crate) fn exchange<B: TreeObject>(
     requires room { 65560 ≤ length out.old }
     ensures exchanged { (asked : List Asked) × Exchanged stage frame.now asked (take result.0 out.new) result.1
         × AllByRecursion (λ a. a.moment ≡ now) asked
-        × ((origin : Origin) (before : List Asked) → B.stands object.old origin before → B.stands object.new origin (before ++ asked)) }
+        × ((origin : B) (before : List Asked) → B.stands object.old origin before → B.stands object.new origin (before ++ asked)) }
     ensures size { (7 ≤ result.0) × (result.0 ≤ limit result.1) }
     ensures good { HasGoodSize result.1 }
 {

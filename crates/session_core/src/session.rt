@@ -1,7 +1,6 @@
 ghost use Rattle.std.specs.Prelude.{◌≡◌, ◌≤◌, ◌++◌, List, length, take};
 ghost use Rattle.std.specs.List.{AllByRecursion};
 ghost use Rattle.tree_model.specs.Asked.{Asked};
-ghost use Rattle.tree_model.specs.History.{Origin};
 ghost use Rattle.ninep_wire.specs.Reading.{IsFrame};
 ghost use Rattle.session_core.specs.Session.{limit, Exchanged};
 ghost use Rattle.session_core.specs.declared.stage.Stage.TheVariants.{Fresh};
@@ -76,7 +75,7 @@ impl Session {
         requires room { 65560 ≤ length out.old }
         ensures exchanged { (asked : List Asked) × Exchanged self.old frame.now asked (take result out.new) self.new
             × AllByRecursion (λ a. a.moment ≡ now) asked
-            × ((origin : Origin) (before : List Asked) → B.stands object.old origin before → B.stands object.new origin (before ++ asked)) }
+            × ((origin : B) (before : List Asked) → B.stands object.old origin before → B.stands object.new origin (before ++ asked)) }
         ensures size { (7 ≤ result) × (result ≤ limit self.new) }
         ensures small { result ≤ 65560 }
     {

@@ -4,7 +4,6 @@ use Rattle.std.specs.List.{concat, AllByRecursion}
 use Rattle.std.proofs.lemmas.List.{append-nil, take-append-drop, length-append, length-drop}
 use Rattle.outside.specs.Calls.{Told, Changes}
 use Rattle.tree_model.specs.Asked.{Asked}
-use Rattle.tree_model.specs.History.{Origin}
 use Rattle.ninep_wire.specs.Reading.{IsFrame}
 use Rattle.session_core.specs.declared.stage.Stage.{Stage}
 use Rattle.session_core.specs.declared.stage.Stage.TheVariants.{Fresh}
@@ -15,18 +14,18 @@ use Rattle.session_server.specs.Talk.{Answered, EndsAfter, Talk, IsTaken, IsRead
 use Rattle.session_server.specs.Steps.{Reads, Writes, IsReadEnd, StopsAt}
 use Rattle.session_server.proofs.Links.{reads_nothing, reads_then, reads_more, reads_with, told_always, writes_nothing, writes_more}
 
-abbrev pub Stands : Type 1
-Stands = Origin → List Asked → Type 0
+abbrev pub Stands : Type 0 → Type 1
+Stands X = X → List Asked → Type 0
 
 -- what was asked is what the object stands for from then on
-abbrev pub Goes : Stands → Stands → List Asked → Type 0
-Goes stands stands' asked = (origin : Origin) (before : List Asked) → stands origin before → stands' origin (before ++ asked)
+abbrev pub Goes : {X : Type 0} → Stands X → Stands X → List Asked → Type 0
+Goes {X} stands stands' asked = (origin : X) (before : List Asked) → stands origin before → stands' origin (before ++ asked)
 
 abbrev pub At : Option ℕ → List Asked → Type 0
 At second asked = Told second (λ s. AllByRecursion (λ a. a.moment ≡ s) asked)
 
 -- what a session says of the talk that it held
-abbrev pub Held : SessionEnd → Option (List ℕ) → Option (List ℕ) → Option (List ℕ) → Option (List ℕ) → Option ℕ → Stands → Stands → Type 0
+abbrev pub Held : {X : Type 0} → SessionEnd → Option (List ℕ) → Option (List ℕ) → Option (List ℕ) → Option (List ℕ) → Option ℕ → Stands X → Stands X → Type 0
 Held end left left' taken taken' second stands stands' =
     (input : List ℕ) × (asked : List Asked) × (out : List ℕ) × (given : List ℕ)
     × Talk input asked out end
@@ -36,7 +35,7 @@ Held end left left' taken taken' second stands stands' =
     × At second asked
     × Goes stands stands' asked
 
-pub record SoFar (n : ℕ) (stage : Stage) (left left' taken taken' : Option (List ℕ)) (second : Option ℕ) (stands stands' : Stands) : Type 0 where
+pub record SoFar {X : Type 0} (n : ℕ) (stage : Stage) (left left' taken taken' : Option (List ℕ)) (second : Option ℕ) (stands stands' : Stands X) : Type 0 where
   pub frames : List (List ℕ)
   pub asked : List Asked
   pub out : List ℕ
@@ -104,17 +103,17 @@ pub at_moment : (second : Option ℕ) (moment : ℕ) (xs : List Asked) → Told 
 at_moment None moment xs e h = tt
 at_moment (Some s) moment xs e h = all_at s moment xs e h
 
-goes_more : (s s' s'' : Stands) (xs ys : List Asked) → Goes s s' xs → Goes s' s'' ys → Goes s s'' (xs ++ ys)
+goes_more : {X : Type 0} → (s s' s'' : Stands X) (xs ys : List Asked) → Goes s s' xs → Goes s' s'' ys → Goes s s'' (xs ++ ys)
 goes_more s s' s'' xs ys h k = λ origin before start. subst (λ (w : List Asked). s'' origin w) (append_assoc before xs ys) (k origin (before ++ xs) (h origin before start))
 
-no_change : (s : Stands) → Goes s s []
+no_change : {X : Type 0} → (s : Stands X) → Goes s s []
 no_change s = λ origin before start. subst (λ (w : List Asked). s origin w) (sym (append-nil before)) start
 
 at_none : (second : Option ℕ) → At second []
 at_none None = tt
 at_none (Some s) = tt
 
-pub start : (left taken : Option (List ℕ)) (second : Option ℕ) (stands : Stands) → SoFar 0 Fresh left left taken taken second stands stands
+pub start : {X : Type 0} → (left taken : Option (List ℕ)) (second : Option ℕ) (stands : Stands X) → SoFar 0 Fresh left left taken taken second stands stands
 start left taken second stands = record {
   frames = [];
   asked = [];
@@ -127,7 +126,7 @@ start left taken second stands = record {
   goes = no_change stands;
 }
 
-pub more : (n : ℕ) (stage : Stage) (left left' left'' taken taken' taken'' : Option (List ℕ)) (second : Option ℕ) (stands stands' stands'' : Stands)
+pub more : {X : Type 0} → (n : ℕ) (stage : Stage) (left left' left'' taken taken' taken'' : Option (List ℕ)) (second : Option ℕ) (stands stands' stands'' : Stands X)
     (frame : List ℕ) (asked : List Asked) (answer sent : List ℕ) (next : Stage)
     → SoFar n stage left left' taken taken' second stands stands' → Turn stage frame asked answer next
     → Reads left' left'' frame → Writes taken' taken'' answer → At second asked → Goes stands' stands'' asked
@@ -164,7 +163,7 @@ all_taken WriteFault out kind = absurd kind
 all_taken Limit out kind = absurd kind
 all_taken Memory out kind = absurd kind
 
-pub held_stop : (n : ℕ) (stage : Stage) (left left' left'' taken taken' taken'' : Option (List ℕ)) (second : Option ℕ) (stands stands' : Stands) (end : SessionEnd)
+pub held_stop : {X : Type 0} → (n : ℕ) (stage : Stage) (left left' left'' taken taken' taken'' : Option (List ℕ)) (second : Option ℕ) (stands stands' : Stands X) (end : SessionEnd)
     → SoFar n stage left left' taken taken' second stands stands' → n < 2 ^ 32 → StopsAt [] stage left' left'' end → taken'' ≡ taken'
     → Held end left left'' taken taken'' second stands stands'
 held_stop n stage left left' left'' taken taken' taken'' second stands stands' end so lt stop same = (
@@ -188,7 +187,7 @@ held_stop n stage left left' left'' taken taken' taken'' second stands stands' e
   so.goes,
 )
 
-pub held_limit : (stage : Stage) (left left' taken taken' : Option (List ℕ)) (second : Option ℕ) (stands stands' : Stands)
+pub held_limit : {X : Type 0} → (stage : Stage) (left left' taken taken' : Option (List ℕ)) (second : Option ℕ) (stands stands' : Stands X)
     → SoFar (2 ^ 32) stage left left' taken taken' second stands stands' → Held Limit left left' taken taken' second stands stands'
 held_limit stage left left' taken taken' second stands stands' so = (
   concat so.frames,
@@ -203,7 +202,7 @@ held_limit stage left left' taken taken' second stands stands' so = (
   so.goes,
 )
 
-pub held_memory : (left taken : Option (List ℕ)) (second : Option ℕ) (stands : Stands) → Held Memory left left taken taken second stands stands
+pub held_memory : {X : Type 0} → (left taken : Option (List ℕ)) (second : Option ℕ) (stands : Stands X) → Held Memory left left taken taken second stands stands
 held_memory left taken second stands = (
   [],
   [],
@@ -218,7 +217,7 @@ held_memory left taken second stands = (
 )
 
 -- the last message is answered, and only a front of the answer is taken
-pub held_fault : (n : ℕ) (stage : Stage) (left left' left'' taken taken' taken'' : Option (List ℕ)) (second : Option ℕ) (stands stands' stands'' : Stands)
+pub held_fault : {X : Type 0} → (n : ℕ) (stage : Stage) (left left' left'' taken taken' taken'' : Option (List ℕ)) (second : Option ℕ) (stands stands' stands'' : Stands X)
     (frame : List ℕ) (asked : List Asked) (answer : List ℕ) (sent : ℕ) (next : Stage)
     → SoFar n stage left left' taken taken' second stands stands' → n < 2 ^ 32 → Turn stage frame asked answer next
     → Reads left' left'' frame → sent < length answer → Writes taken' taken'' (take sent answer) → At second asked → Goes stands' stands'' asked

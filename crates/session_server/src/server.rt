@@ -4,7 +4,6 @@ ghost use Rattle.std.specs.Prelude.{◌≡◌, ◌≤◌, ℕ, List, ◌++◌, l
 ghost use Rattle.std.specs.List.{AllByRecursion};
 ghost use Rattle.outside.specs.Calls.{HasCause, Told, Changes};
 ghost use Rattle.tree_model.specs.Asked.{Asked};
-ghost use Rattle.tree_model.specs.History.{Origin};
 ghost use Rattle.session_server.specs.Talk.{Talk, IsTaken, IsReadUp};
 
 use crate::ending::SessionEnd;
@@ -41,7 +40,7 @@ fn serve<L: Link, B: TreeObject, K: Clock>(
         × Changes (L.taken link.old) (L.taken link.new) (λ old new. new ≡ old ++ taken)
         × IsTaken result said taken
         × Told (K.second clock.now) (λ second. AllByRecursion (λ a. a.moment ≡ second) asked)
-        × ((origin : Origin) (before : List Asked) → B.stands object.old origin before → B.stands object.new origin (before ++ asked)) }
+        × ((origin : B) (before : List Asked) → B.stands object.old origin before → B.stands object.new origin (before ++ asked)) }
     ensures read_fault { HasCause (L.read_faults link.old) (L.read_faults link.new) (result ≡ SessionEnd.ReadFault) }
     ensures write_fault { HasCause (L.write_faults link.old) (L.write_faults link.new) (result ≡ SessionEnd.WriteFault) }
 {
@@ -78,7 +77,7 @@ pub fn serve_session<L: Link, B: TreeObject, K: Clock>(
         × Changes (L.taken link.old) (L.taken link.new) (λ old new. new ≡ old ++ taken)
         × IsTaken result out taken
         × Told (K.second clock.now) (λ second. AllByRecursion (λ a. a.moment ≡ second) asked)
-        × ((origin : Origin) (before : List Asked) → B.stands object.old origin before → B.stands object.new origin (before ++ asked)) }
+        × ((origin : B) (before : List Asked) → B.stands object.old origin before → B.stands object.new origin (before ++ asked)) }
     ensures read_fault { HasCause (L.read_faults link.old) (L.read_faults link.new) (result ≡ SessionEnd.ReadFault) }
     ensures write_fault { HasCause (L.write_faults link.old) (L.write_faults link.new) (result ≡ SessionEnd.WriteFault) }
 {

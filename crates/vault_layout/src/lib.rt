@@ -7,3 +7,6 @@ mod tree;
 
 pub use loading::{LoadErr, load, loading_is_clear};
 pub use tree::Loaded;
+
+#[cfg(test)]
+mod tests;
