@@ -46,7 +46,7 @@ first_blocks f n = flat_map f (range_with_len 0 n)
 range-more : (n : ℕ) → range_with_len 0 (n + 1) ≡ range_with_len 0 n ++ n ∷ []
 range-more n = sym (map-id _) ∙ map-range_with_len_more (λ x. x) 0 n n (omega arith) ∙ ap (λ (l : List ℕ). l ++ n ∷ []) (map-id _)
 
-first_blocks-more : (f : ℕ → List ℕ) (n : ℕ) → first_blocks f (n + 1) ≡ first_blocks f n ++ f n
+pub first_blocks-more : (f : ℕ → List ℕ) (n : ℕ) → first_blocks f (n + 1) ≡ first_blocks f n ++ f n
 first_blocks-more f n = ap (flat_map f) (range-more n) ∙ sym (flat_map_more f [] (range_with_len 0 n) n)
 
 -- the first n blocks are written into out

@@ -1,1 +1,4 @@
 pub mod Pbkdf2
+pub mod Salsa
+pub mod Scrypt
+pub mod Rows

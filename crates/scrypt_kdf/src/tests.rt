@@ -44,6 +44,151 @@ const ROWS: [Row; 5] = [
     },
 ];
 
+// What scrypt makes of a password and a salt, in hex, with these costs.
+#[derive(Drop)]
+struct KeyRow {
+    password: &'static str,
+    salt: &'static str,
+    n: u64,
+    r: u64,
+    p: u64,
+    key: &'static str,
+}
+
+// The first two rows are those of RFC 7914, 12.
+const KEYS: [KeyRow; 8] = [
+    KeyRow {
+        password: "",
+        salt: "",
+        n: 16,
+        r: 1,
+        p: 1,
+        key: "77d6576238657b203b19ca42c18a0497f16b4844e3074ae8dfdffa3fede21442fcd0069ded0948f8326a753a0fc81f17e8d3e0fb2e0d3628cf35e20c38d18906",
+    },
+    KeyRow {
+        password: "70617373776f7264",
+        salt: "4e61436c",
+        n: 1024,
+        r: 8,
+        p: 16,
+        key: "fdbabe1c9d3472007856e7190d01e9fe7c6ad7cbc8237830e77376634b3731622eaf30d92e22a3886ff109279d9830dac727afb94a83ee6d8360cbdfa2cc0640",
+    },
+    KeyRow {
+        password: "391654e4a70ff02a3adf",
+        salt: "6adc495f57984cc5",
+        n: 2,
+        r: 1,
+        p: 1,
+        key: "bea9c5eb89af2aea0c420ec57552b6e64231f20d61b3dac1e45570db1054c4fb",
+    },
+    KeyRow {
+        password: "7f4ca285383bded0afcd",
+        salt: "c66b7bcb15616b31",
+        n: 4,
+        r: 3,
+        p: 2,
+        key: "b400e69ea58560e25660acea224b53ff83e3fb319578801a4660e31dea783e9e7150ce037972fc09",
+    },
+    KeyRow {
+        password: "7a9a8b5b56b91837c264",
+        salt: "493d1c8ae9b52576",
+        n: 16,
+        r: 8,
+        p: 1,
+        key: "4b54f5b3baadcc0aa365a1982ccf0e4260ee41a493d6feec2ffaa85fec8cb4e1d78901a3ab343b2b279378e1ac225e46a38df4bfdc1528623f0d38cffdda5532",
+    },
+    KeyRow {
+        password: "7aaccda36d1f7bf9f6ab",
+        salt: "398480e700767be6",
+        n: 1024,
+        r: 8,
+        p: 1,
+        key: "c138d798c544b703ae90894a940d5012a7362a1dea58a297c92e7933fb5c9e72",
+    },
+    KeyRow {
+        password: "249a108b167374650917",
+        salt: "216a1084d18b1671",
+        n: 64,
+        r: 1,
+        p: 7,
+        key: "f52fe5a914f8637d2dd12a711882c29e29295f1266884acb9d74e698e30ba2b074",
+    },
+    KeyRow {
+        password: "52623f25e5c6856926eb",
+        salt: "fc6f70d7ec45cd03",
+        n: 32768,
+        r: 8,
+        p: 1,
+        key: "c53db005daec92d67ffee6778e55474eded71d2cfc4a0ef964e73d292f301f1a",
+    },
+];
+
+// Sizes that are refused.
+#[derive(Drop)]
+struct RefusedRow {
+    n: u64,
+    r: u64,
+    p: u64,
+    error: ScryptErr,
+}
+
+const REFUSED: [RefusedRow; 9] = [
+    RefusedRow {
+        n: 3,
+        r: 8,
+        p: 1,
+        error: ScryptErr::BadCost,
+    },
+    RefusedRow {
+        n: 1,
+        r: 8,
+        p: 1,
+        error: ScryptErr::BadCost,
+    },
+    RefusedRow {
+        n: 0,
+        r: 0,
+        p: 0,
+        error: ScryptErr::BadCost,
+    },
+    RefusedRow {
+        n: 2,
+        r: 8,
+        p: 0,
+        error: ScryptErr::BadCost,
+    },
+    RefusedRow {
+        n: 1 << 20,
+        r: 16,
+        p: 1,
+        error: ScryptErr::TooLarge,
+    },
+    RefusedRow {
+        n: 2,
+        r: u64::MAX,
+        p: 1,
+        error: ScryptErr::TooLarge,
+    },
+    RefusedRow {
+        n: 2,
+        r: 1,
+        p: u64::MAX,
+        error: ScryptErr::TooLarge,
+    },
+    RefusedRow {
+        n: 1 << 63,
+        r: u64::MAX,
+        p: u64::MAX,
+        error: ScryptErr::TooLarge,
+    },
+    RefusedRow {
+        n: u64::MAX,
+        r: u64::MAX,
+        p: 1,
+        error: ScryptErr::BadCost,
+    },
+];
+
 #[test]
 fn passwords_give_the_vectors(rt: HostRuntime) -> Result<(), Fail> {
     for row in &ROWS {
@@ -59,4 +204,37 @@ fn passwords_give_the_vectors(rt: HostRuntime) -> Result<(), Fail> {
         );
     }
     Ok(())
+}
+
+#[test]
+fn scrypt_gives_the_vectors(rt: HostRuntime) -> Result<(), Fail> {
+    for row in &KEYS {
+        let password = hex::decode(rt.alloc(), row.password)?;
+        let salt = hex::decode(rt.alloc(), row.salt)?;
+        let mut key = hex::decode(rt.alloc(), row.key)?;
+        key.fill(0);
+        scrypt(rt.alloc(), &password, &salt, row.n, row.r, row.p, &mut key)?;
+        assert_eq!(rt; hex::encode(rt.alloc(), key.as_slice())?.as_str(), row.key);
+    }
+    Ok(())
+}
+
+#[test]
+fn refused_sizes_leave_the_output(rt: HostRuntime) {
+    for row in &REFUSED {
+        let mut key = [7; 32];
+        assert_eq!(rt;
+            scrypt(
+                rt.alloc(),
+                b"password",
+                b"NaCl",
+                row.n,
+                row.r,
+                row.p,
+                &mut key
+            ),
+            Err(row.error)
+        );
+        assert_eq!(rt; key, [7; 32]);
+    }
 }
