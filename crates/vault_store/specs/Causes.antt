@@ -1,0 +1,10 @@
+-- The errors of loading as those of opening.
+use Rattle.vault_layout.specs.declared.loading.LoadErr.{LoadErr}
+use Rattle.vault_layout.specs.declared.loading.LoadErr.TheVariants as loading
+use Rattle.vault_store.specs.declared.opening.OpenErr.{OpenErr}
+use Rattle.vault_store.specs.declared.opening.OpenErr.TheVariants.{Device, NoRoot, Memory}
+
+abbrev pub open_err_of : LoadErr → OpenErr
+open_err_of loading.Device = Device
+open_err_of loading.NoRoot = NoRoot
+open_err_of loading.Memory = Memory

@@ -1,0 +1,37 @@
+-- How the steps of a read end.
+use Rattle.std.specs.Prelude.{◌≡◌, ◌⊎◌, ℕ, ◌≤◌, List, length, false, Option, Some, None, Result, Ok, Err, IsNone}
+use Rattle.outside.specs.Disk.{Disk, Path, node_at, file}
+use Rattle.outside.specs.Calls.{Rose}
+use Rattle.tree_model.specs.declared.refusal.Refusal.TheVariants as refusals
+use Rattle.tree_model.specs.Rows.{Rows}
+use Rattle.tree_model.specs.Asked.{PlainRequest}
+use Rattle.tree_model.specs.Step.{Answer, step, refuses, early_refusal}
+use Rattle.tree_model.specs.History.{MayLackMemory}
+use Rattle.file_chunks.specs.File.{is_bad_size, chunk_count}
+use Rattle.vault_store.specs.declared.room.ReadErr.{ReadErr}
+use Rattle.vault_store.specs.declared.room.ReadErr.TheVariants.{Device, Damaged}
+
+-- A step that looks for something ends with it, or with damage where there is none, or with the folder's fault.
+abbrev pub Ends : {A : Type 0} → Option A → ℕ → ℕ → Result A ReadErr → Type 0
+Ends found before now (Ok a) = found ≡ Some a
+Ends found before now (Err Damaged) = found ≡ None
+Ends found before now (Err Device) = Rose before now
+
+-- a host file that has room for a header and an empty chunk
+pub record HasChunk (disk : Disk) (path : Path) (bytes : List ℕ) : Type 0 where
+  pub there : node_at disk path ≡ Some (file bytes)
+  pub long : 96 ≤ length bytes
+
+-- a host file that is shown: of this size, which is good, and with at most one chunk
+pub record IsShownFile (disk : Disk) (path : Path) (size : ℕ) (bytes : List ℕ) : Type 0 where
+  pub there : node_at disk path ≡ Some (file bytes)
+  pub long : length bytes ≡ size
+  pub good : is_bad_size size ≡ false
+  pub few : chunk_count size ≤ 1
+
+-- The answer to a request in these rows: the step's, or a fault for its cause. The counts of the folder's faults are those before and after.
+abbrev pub MayAnswer : Rows → PlainRequest → ℕ → ℕ → Answer → Type 0
+MayAnswer rows request before now answer =
+    (answer ≡ step rows request)
+    ⊎ ((answer ≡ refuses refusals.DeviceFault) × IsNone (early_refusal rows request) × Rose before now)
+    ⊎ ((answer ≡ refuses refusals.OutOfMemory) × MayLackMemory request × (step rows request ≡ refuses refusals.Removed → ⊥))
