@@ -1,0 +1,5 @@
+pub mod Keys
+pub mod Parts
+pub mod Reading
+pub mod ReadsBack
+pub mod Symbols

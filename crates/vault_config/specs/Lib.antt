@@ -1,0 +1,4 @@
+pub mod Token
+pub mod Config
+pub mod Faults
+pub mod Algorithms

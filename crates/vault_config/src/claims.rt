@@ -1,0 +1,43 @@
+ghost use Rattle.std.specs.Prelude.{◌≡◌, Ok, MatchResult};
+ghost use Rattle.vault_config.specs.Config.{claims_checked, combo_checked, threshold_of};
+ghost use Rattle.vault_config.specs.Faults.{IsFault};
+
+use crate::config::{ClaimName, ConfigErr};
+use json_members::Object;
+
+// The vault format that is served, and its ciphers of names and contents.
+pub(crate) const FORMAT: u64 = 8;
+
+pub(crate) const COMBO: &str = "SIV_GCM";
+
+// The threshold that claims say, tested in the order format, combination, threshold.
+pub(crate) fn check_claims(claims: &Object) -> Result<u32, ConfigErr>
+    ensures { MatchResult result (λ n. claims_checked claims.now ≡ Ok n) (λ e. IsFault e (claims_checked claims.now)) }
+{
+    match claims.integer("format") {
+        Some(FORMAT) => check_combo(claims),
+        Some(format) => Err(ConfigErr::Format(format)),
+        None => Err(ConfigErr::Claim(ClaimName::Format)),
+    }
+}
+
+// The threshold of claims whose format is known.
+fn check_combo(claims: &Object) -> Result<u32, ConfigErr>
+    ensures { MatchResult result (λ n. combo_checked claims.now ≡ Ok n) (λ e. IsFault e (combo_checked claims.now)) }
+{
+    match claims.text("cipherCombo") {
+        Some(combo) if combo == COMBO => threshold_of(claims),
+        Some(_) => Err(ConfigErr::Combo),
+        None => Err(ConfigErr::Claim(ClaimName::CipherCombo)),
+    }
+}
+
+// The threshold, from 1 to 250 characters.
+fn threshold_of(claims: &Object) -> Result<u32, ConfigErr>
+    ensures { MatchResult result (λ n. threshold_of claims.now ≡ Ok n) (λ e. IsFault e (threshold_of claims.now)) }
+{
+    match claims.integer("shorteningThreshold") {
+        Some(threshold @ 1..=250) => Ok(threshold as u32),
+        _ => Err(ConfigErr::Claim(ClaimName::ShorteningThreshold)),
+    }
+}
