@@ -1,0 +1,9 @@
+pub mod Words
+pub mod Secret
+pub mod Report
+pub mod Served
+pub mod Ending
+pub mod Reading
+pub mod Writing
+pub mod Refusing
+pub mod Serving

@@ -1,0 +1,23 @@
+-- The secret: a line of 128 hexadecimal digits, the encryption key and then the MAC key.
+use Rattle.std.specs.Prelude.{◌≡◌, ◌⊎◌, ℕ, List, [], ◌∷◌, ◌++◌, length, take, drop, Option, None, ◌==◌, if◌then◌else◌}
+use Rattle.std.specs.Option.{option_map}
+use Rattle.std.specs.Result.{result_ok}
+use Rattle.std.specs.List.{before_first}
+use Rattle.hex.specs.Hex.{decode_of}
+use Rattle.siv_mode.specs.Keys.{KeyPair}
+
+-- the bytes up to the first LF, or all of them
+abbrev pub line_of : List ℕ → List ℕ
+line_of bytes = before_first (λ b. b == 10) bytes
+
+-- two keys of 32 bytes, one after the other
+abbrev pub pair_of : List ℕ → KeyPair
+pair_of keys = record { enc = take 32 keys; mac = drop 32 keys }
+
+-- the keys of a line, and None where it isn't 128 hexadecimal digits
+unfoldable pub raw_keys : List ℕ → Option KeyPair
+raw_keys line = if length line == 128 then option_map pair_of (result_ok (decode_of line)) else None
+
+-- what is left after a line whose keys are good: its LF was taken, if there is one, and nothing after it
+abbrev pub IsAfterLine : List ℕ → List ℕ → Type 0
+IsAfterLine bytes left = (bytes ≡ line_of bytes ++ 10 ∷ left) ⊎ ((bytes ≡ line_of bytes) × (left ≡ []))

@@ -1,0 +1,15 @@
+//! Does the job that the command line names: serves a vault.
+#![tactic(auto)]
+
+mod opening;
+mod program;
+mod refusal;
+mod report;
+mod secret;
+mod serving;
+mod words;
+
+pub use program::{Ended, Worker, run};
+
+#[cfg(test)]
+mod tests;

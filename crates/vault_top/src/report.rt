@@ -1,0 +1,100 @@
+//! Writing the report.
+
+ghost use Rattle.std.specs.Prelude.{◌≡◌, ◌≤◌, List, ◌++◌, length, take, IfOk, OnOk, OnErr, IsErr, string_bytes, decimal, option_to_list};
+ghost use Rattle.outside.specs.Calls.{Rose, HasCause, Changes};
+ghost use Rattle.vault_top.specs.Report.{sessions_line};
+ghost use Rattle.vault_top.specs.Writing.{TakesPart, IsWritten};
+
+use outside::{Failed, Sink};
+use session_server::SessionEnd;
+use std::alloc::{AllocError, Global};
+
+/// Writes all bytes, unless the sink fails.
+pub(crate) fn write_all<O: Sink>(out: &mut O, bytes: &[u8]) -> Result<(), Failed>
+    ensures whole { OnOk result (Changes (O.taken out.old) (O.taken out.new) (λ old new. new ≡ old ++ bytes.now)) }
+    ensures part { OnErr result (Changes (O.taken out.old) (O.taken out.new) (TakesPart bytes.now)) }
+    ensures cause { HasCause (O.faults out.old) (O.faults out.new) (IsErr result) }
+{
+    let mut count = 0;
+    while count < bytes.len() {
+        match out.write(&bytes[count..]) {
+            Ok(more) => count += more,
+            Err(failed) => return Err(failed),
+        }
+    }
+    Ok(())
+}
+
+/// Writes a text of the report, and gives the program's status: `whole`, or `cut` where the sink failed.
+pub(crate) fn report<O: Sink>(out: &mut O, text: &[u8], whole: u8, cut: u8) -> u8
+    ensures written { IsWritten (Rose (O.faults out.old) (O.faults out.new)) (O.taken out.old) (O.taken out.new) text.now whole cut result }
+    ensures faults { O.faults out.old ≤ O.faults out.new }
+{
+    match write_all(out, text) {
+        Ok(()) => whole,
+        Err(_) => cut,
+    }
+}
+
+/// How many sessions there were, and how many of them ended in each way.
+#[derive(Clone, Copy, Debug, Default, PartialEq, Eq)]
+pub(crate) struct Counts {
+    sessions: u32,
+    done: u32,
+    cut: u32,
+    bad: u32,
+    read: u32,
+    write: u32,
+    memory: u32,
+    limit: u32,
+}
+
+impl Counts {
+    ghost use Rattle.std.specs.Prelude.{◌≡◌, List, IfOk, string_bytes, option_to_list};
+    ghost use Rattle.vault_top.specs.Report.{sessions_line};
+    ghost use Rattle.vault_top.specs.Writing.{AreCounts};
+
+    /// The counts of one session, or of none.
+    pub(crate) fn of(end: Option<SessionEnd>) -> Counts
+        ensures { AreCounts result (option_to_list end) }
+    {
+        let mut counts = Counts::default();
+        let Some(end) = end else {
+            return counts;
+        };
+        counts.sessions = 1;
+        match end {
+            SessionEnd::Done => counts.done = 1,
+            SessionEnd::Cut { .. } => counts.cut = 1,
+            SessionEnd::BadFrame(_) => counts.bad = 1,
+            SessionEnd::ReadFault => counts.read = 1,
+            SessionEnd::WriteFault => counts.write = 1,
+            SessionEnd::Memory => counts.memory = 1,
+            SessionEnd::Limit => counts.limit = 1,
+        }
+        counts
+    }
+
+    /// The report's last line.
+    pub(crate) fn line(&self, alloc: Global) -> Result<String, AllocError>
+        ensures { IfOk result (λ line. (ends : List SessionEnd) → AreCounts self.now ends → string_bytes line ≡ sessions_line ends) }
+    {
+        let mut line = String::new(alloc);
+        add_count(&mut line, "sessions ", self.sessions)?;
+        add_count(&mut line, " done ", self.done)?;
+        add_count(&mut line, " cut ", self.cut)?;
+        add_count(&mut line, " bad ", self.bad)?;
+        add_count(&mut line, " read ", self.read)?;
+        add_count(&mut line, " write ", self.write)?;
+        add_count(&mut line, " memory ", self.memory)?;
+        add_count(&mut line, " limit ", self.limit)?;
+        line.push_str("\n")?;
+        Ok(line)
+    }
+}
+
+fn add_count(line: &mut String, word: &str, count: u32) -> Result<(), AllocError>
+    ensures { OnOk result (string_bytes line.new ≡ string_bytes line.old ++ (word.now ++ decimal count)) }
+{
+    write!(line, "{word}{count}")
+}

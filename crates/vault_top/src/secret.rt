@@ -1,0 +1,120 @@
+ghost use Rattle.std.specs.Prelude.{◌≡◌, ◌<◌, ◌≤◌, length, take, drop, Some, None, IfOk, OnOk, OnErr, IsErr, IsErrOf};
+ghost use Rattle.outside.specs.Calls.{HasCause, Told, Changes};
+ghost use Rattle.vault_top.specs.Secret.{line_of, raw_keys, IsAfterLine};
+ghost use Rattle.vault_top.specs.Reading.{HasLine, HasNext};
+
+use outside::{Failed, Source};
+use siv_mode::VaultKeys;
+use thiserror::Error;
+
+/// How many digits the line has, and how many bytes a key.
+const DIGITS: usize = 128;
+
+const KEY_LEN: usize = 32;
+
+/// Why the secret gives no keys.
+#[derive(Clone, Copy, Debug, PartialEq, Eq, Error)]
+pub(crate) enum SecretErr {
+    /// The source failed: its count of faults rose.
+    #[error("the secret's source failed")]
+    Device,
+    /// The line isn't 128 hexadecimal digits.
+    #[error("bad secret")]
+    Bad,
+}
+
+impl From<Failed> for SecretErr {
+    ghost use Rattle.std.specs.Prelude.{◌≡◌};
+    ghost use Rattle.vault_top.specs.declared.secret.SecretErr.TheVariants.{Device};
+
+    ghost from_gives = { λ _ e. e ≡ Device };
+
+    fn from(_: Failed) -> SecretErr {
+        SecretErr::Device
+    }
+}
+
+/// Reads the keys from the first line of the secret, which holds 128 hexadecimal digits: the encryption key and then the MAC key. It reads
+/// one byte at a time, so that the bytes after the line's LF stay unread.
+pub(crate) fn read_keys<S: Source>(secret: &mut S) -> Result<VaultKeys, SecretErr>
+    ensures keys { IfOk result (λ keys. Told (S.left secret.old) (λ bytes. raw_keys (line_of bytes) ≡ Some keys)) }
+    ensures left { OnOk result (Changes (S.left secret.old) (S.left secret.new) IsAfterLine) }
+    ensures bad { IsErrOf result SecretErr.Bad → Told (S.left secret.old) (λ bytes. raw_keys (line_of bytes) ≡ None) }
+    ensures cause { HasCause (S.faults secret.old) (S.faults secret.new) (IsErrOf result SecretErr.Device) }
+{
+    let mut line = [0u8; DIGITS];
+    let count = match read_line(secret, &mut line) {
+        Ok(count) => count,
+        Err(error) => return Err(error),
+    };
+    match decode_keys(&line[..count]) {
+        Some(keys) => Ok(keys),
+        None => Err(SecretErr::Bad),
+    }
+}
+
+/// Reads a line of at most as many bytes as `line` has room for into its front, and gives their number. It takes the line's LF, or its
+/// first byte too many, and none after it.
+fn read_line<S: Source>(secret: &mut S, line: &mut [u8]) -> Result<usize, SecretErr>
+    ensures count { IfOk result (λ count. count ≤ length line.old) }
+    ensures line { IfOk result (λ count. Changes (S.left secret.old) (S.left secret.new) (HasLine (take count line.new))) }
+    ensures long { IsErrOf result SecretErr.Bad → Told (S.left secret.old) (λ bytes. length line.old < length (line_of bytes)) }
+    ensures cause { HasCause (S.faults secret.old) (S.faults secret.new) (IsErrOf result SecretErr.Device) }
+{
+    let mut count = 0;
+    loop {
+        match next_byte(secret) {
+            Ok(None) => return Ok(count),
+            Ok(Some(b'\n')) => return Ok(count),
+            Ok(Some(_)) if count == line.len() => return Err(SecretErr::Bad),
+            Ok(Some(byte)) => {
+                line[count] = byte;
+                count += 1;
+            }
+            Err(failed) => return Err(SecretErr::from(failed)),
+        }
+    }
+}
+
+/// The next byte, or None at the end.
+fn next_byte<S: Source>(secret: &mut S) -> Result<Option<u8>, Failed>
+    ensures byte { IfOk result (λ byte. Changes (S.left secret.old) (S.left secret.new) (HasNext byte)) }
+    ensures failed { OnErr result (S.left secret.new ≡ S.left secret.old) }
+    ensures cause { HasCause (S.faults secret.old) (S.faults secret.new) (IsErr result) }
+{
+    let mut byte = [0u8; 1];
+    match secret.read(&mut byte) {
+        Ok(0) => Ok(None),
+        Ok(_) => Ok(Some(byte[0])),
+        Err(failed) => Err(failed),
+    }
+}
+
+/// The keys that a line spells, if it is 128 hexadecimal digits.
+fn decode_keys(line: &[u8]) -> Option<VaultKeys>
+    ensures { result ≡ raw_keys line.now }
+{
+    let mut keys = [0u8; DIGITS / 2];
+    if hex::decode_to_slice(line, &mut keys).is_err() {
+        return None;
+    }
+    Some(keys_in(&keys))
+}
+
+/// The encryption key and then the MAC key.
+fn keys_in(bytes: &[u8; DIGITS / 2]) -> VaultKeys
+    ensures enc { result.enc ≡ take 32 bytes.now }
+    ensures mac { result.mac ≡ drop 32 bytes.now }
+{
+    let (enc, mac) = bytes.split_at(KEY_LEN);
+    VaultKeys::new(&key(enc), &key(mac))
+}
+
+fn key(bytes: &[u8]) -> [u8; KEY_LEN]
+    requires { length bytes.now ≡ 32 }
+    ensures { result ≡ bytes.now }
+{
+    let mut key = [0u8; KEY_LEN];
+    key.copy_from_slice(bytes);
+    key
+}
