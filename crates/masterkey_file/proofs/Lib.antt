@@ -1,0 +1,4 @@
+pub mod Costs
+pub mod Lines
+pub mod Members
+pub mod ReadsBack

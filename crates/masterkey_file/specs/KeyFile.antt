@@ -1,0 +1,139 @@
+-- The masterkey file of a vault (Cryptomator's vault format 8, `masterkey.cryptomator`): a JSON object with the vault's two keys, each wrapped
+-- (RFC 3394) under a key that scrypt (RFC 7914) makes of the password.
+use Rattle.std.specs.Prelude.{◌≡◌, ◌⊎◌, ℕ, List, length, Bool, Option, Some, None, option_and_then, Result, Ok, Err, codes, nat_lt, nat_le, ◌==◌, if◌then◌else◌}
+use Rattle.std.specs.Option.{ok_or}
+use Rattle.std.specs.Result.{result_ok}
+use Rattle.base64.specs.GeneralPurpose.{decode_of, encode_of}
+use Rattle.base64.specs.Engines.{standard}
+use Rattle.sha2.specs.Sha256.{sha256}
+use Rattle.serde_json.specs.Data.{Data, number, string, object, unsigned, member, no_members}
+use Rattle.serde_json.specs.Written.{compact_text}
+use Rattle.aes_block.specs.Aes.{aes, inverse_aes}
+use Rattle.aes_block.specs.Bytes.{bytes_of}
+use Rattle.siv_mode.specs.Keys.{KeyPair}
+use Rattle.hmac_sha.specs.Hmac.{hmac}
+use Rattle.key_wrap.specs.Wrap.{wrapped, unwrapped}
+use Rattle.scrypt_kdf.specs.Scrypt.{scrypt, IsCost, IsTooLarge}
+use Rattle.json_members.specs.Members.{object_of, text_at, integer_at}
+
+-- the longest file, in bytes
+abbrev pub file_limit : ℕ
+file_limit = 65536
+
+-- the members that are read. Every other member, `version` and `versionMac` too, isn't looked at
+pub data Field : Type 0 where
+  salt : Field
+  cost : Field
+  block_size : Field
+  encryption_key : Field
+  mac_key : Field
+
+abbrev pub name_of : Field → List ℕ
+name_of salt = codes "scryptSalt"
+name_of cost = codes "scryptCostParam"
+name_of block_size = codes "scryptBlockSize"
+name_of encryption_key = codes "primaryMasterKey"
+name_of mac_key = codes "hmacMasterKey"
+
+-- what the members hold: the salt, scrypt's cost N and block size r, and the two wrapped keys
+pub record Fields : Type 0 where
+  pub salt_bytes : List ℕ
+  pub n : ℕ
+  pub r : ℕ
+  pub wrapped_encryption_key : List ℕ
+  pub wrapped_mac_key : List ℕ
+
+-- the bytes of a member in base64 (RFC 4648, section 4), where they are of a length that may be
+abbrev pub bytes_at : Field → (ℕ → Bool) → Data → Option (List ℕ)
+bytes_at f fits value =
+    option_and_then (λ bytes. if fits (length bytes) then Some bytes else None)
+    (option_and_then (λ text. result_ok (decode_of standard text)) (text_at (name_of f) value))
+
+-- a salt has 0 to 1,024 bytes
+abbrev pub fits_salt : ℕ → Bool
+fits_salt n = nat_le n 1024
+
+-- a wrapped key has 40 bytes
+abbrev pub fits_key : ℕ → Bool
+fits_key n = n == 40
+
+-- why a file isn't looked into further
+pub data Fault : Type 0 where
+  too_long : ℕ → Fault
+  not_json : Fault
+  bad_field : Field → Fault
+
+-- what follows a step that went well
+abbrev pub result_and_then : {T U E : Type 0} → (T → Result U E) → Result T E → Result U E
+result_and_then f (Ok x) = f x
+result_and_then f (Err e) = Err e
+
+-- a member's value, or the fault of that field; then the rest
+abbrev pub on_field : {A B : Type 0} → Field → Option A → (A → Result B Fault) → Result B Fault
+on_field f value rest = result_and_then rest (ok_or value (bad_field f))
+
+-- the members, in the order of their tests
+abbrev pub fields_in : Data → Result Fields Fault
+fields_in value =
+    on_field salt (bytes_at salt fits_salt value) (λ s.
+    on_field cost (integer_at (name_of cost) value) (λ n.
+    on_field block_size (integer_at (name_of block_size) value) (λ r.
+    on_field encryption_key (bytes_at encryption_key fits_key value) (λ enc.
+    on_field mac_key (bytes_at mac_key fits_key value) (λ mac.
+    Ok (record { salt_bytes = s; n = n; r = r; wrapped_encryption_key = enc; wrapped_mac_key = mac }))))))
+
+-- what a file's members hold
+unfoldable pub fields_of : List ℕ → Result Fields Fault
+fields_of bytes =
+    if nat_lt file_limit (length bytes) then Err (too_long (length bytes))
+    else result_and_then fields_in (ok_or (object_of bytes) not_json)
+
+-- the key that wraps the others: scrypt with one part
+abbrev pub wrapping_key : List ℕ → Fields → List ℕ
+wrapping_key password f = scrypt password f.salt_bytes f.n f.r 1 32
+
+-- scrypt takes this cost and block size
+abbrev pub HasGoodCost : Fields → Type 0
+HasGoodCost f = IsCost f.n f.r 1 × (IsTooLarge f.n f.r 1 → ⊥)
+
+-- the keys that a password opens in a file
+pub record OpensTo (bytes password : List ℕ) (keys : KeyPair) : Type 0 where
+  pub fields : Fields
+  pub read : fields_of bytes ≡ Ok fields
+  pub cost : HasGoodCost fields
+  pub enc : unwrapped (inverse_aes (wrapping_key password fields)) fields.wrapped_encryption_key ≡ Some keys.enc
+  pub mac : unwrapped (inverse_aes (wrapping_key password fields)) fields.wrapped_mac_key ≡ Some keys.mac
+
+-- the password is another: the check value of one of the two keys differs
+pub record IsRefused (bytes password : List ℕ) : Type 0 where
+  pub fields : Fields
+  pub read : fields_of bytes ≡ Ok fields
+  pub cost : HasGoodCost fields
+  pub differs :
+      (unwrapped (inverse_aes (wrapping_key password fields)) fields.wrapped_encryption_key ≡ None)
+      ⊎ (unwrapped (inverse_aes (wrapping_key password fields)) fields.wrapped_mac_key ≡ None)
+
+-- ---- what is written
+
+abbrev pub text_of : List ℕ → Data
+text_of bytes = string (encode_of standard bytes)
+
+-- the MAC of the version 999 as four bytes, most significant first
+abbrev pub version_mac : KeyPair → List ℕ
+version_mac keys = hmac sha256 64 keys.mac (bytes_of 4 999)
+
+-- N 32768 and r 8; the members in the order of their names' bytes
+abbrev pub written_value : KeyPair → List ℕ → List ℕ → Data
+written_value keys password salt_bytes =
+    let kek = scrypt password salt_bytes 32768 8 1 32 in
+    object (member (codes "hmacMasterKey") (text_of (wrapped (aes kek) keys.mac))
+    (member (codes "primaryMasterKey") (text_of (wrapped (aes kek) keys.enc))
+    (member (codes "scryptBlockSize") (number (unsigned 8))
+    (member (codes "scryptCostParam") (number (unsigned 32768))
+    (member (codes "scryptSalt") (text_of salt_bytes)
+    (member (codes "version") (number (unsigned 999))
+    (member (codes "versionMac") (text_of (version_mac keys)) no_members)))))))
+
+-- the file of these keys under a password, with a salt of 8 bytes: compact JSON
+unfoldable pub key_file : KeyPair → List ℕ → List ℕ → List ℕ
+key_file keys password salt_bytes = compact_text (written_value keys password salt_bytes)
