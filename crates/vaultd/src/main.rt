@@ -4,9 +4,9 @@
 use outside::{Gate, Sink, Stage};
 use outside_real::{HostClock, HostFolder, HostListen, NullSink, OsEntropy, StdSink, StdSource};
 use std::alloc::{AllocError, AllocFailed};
+use std::env;
 use std::io::ErrorKind;
 use std::process::ExitCode;
-use std::{env, io};
 use vault_top::{Worker, run};
 
 // Why the program can't begin.
