@@ -7,3 +7,4 @@ pub mod Reading
 pub mod Writing
 pub mod Refusing
 pub mod Serving
+pub mod Sound

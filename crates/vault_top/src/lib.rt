@@ -1,6 +1,7 @@
 //! Does the job that the command line names: serves a vault.
 #![tactic(auto)]
 
+mod laws;
 mod opening;
 mod program;
 mod refusal;
@@ -9,6 +10,7 @@ mod secret;
 mod serving;
 mod words;
 
+pub use laws::a_sound_vault_is_served;
 pub use program::{Ended, Worker, run};
 
 #[cfg(test)]
