@@ -24,11 +24,11 @@ pub trait BlockKey {
     /// What the inverse cipher makes of a block.
     ghost inverse_cipher: { Self → List ℕ → List ℕ };
 
-    /// Encrypts a block of 16 bytes in place.
+    /// Encrypts a block of 16 bytes in place: for AES by the cipher of FIPS 197, section 5.1.
     fn encrypt(&self, block: &mut [u8; 16])
         ensures { block.new ≡ cipher self.now block.old };
 
-    /// Decrypts a block of 16 bytes in place.
+    /// Decrypts a block of 16 bytes in place: for AES by the inverse cipher of FIPS 197, section 5.3.
     fn decrypt(&self, block: &mut [u8; 16])
         ensures { block.new ≡ inverse_cipher self.now block.old };
 
@@ -45,7 +45,7 @@ fn each_is_a_byte(bytes: &[u8])
     let _length = bytes.len();
 }
 
-/// An AES key of 32 bytes. Clauses see its bytes.
+/// An AES key of 32 bytes, expanded for 14 rounds (FIPS 197, section 5). Clauses see its bytes.
 #[derive(Drop)]
 pub struct Key256 {
     schedule: [u8; 240],
@@ -60,7 +60,7 @@ impl Model for Key256 {
 }
 
 impl Key256 {
-    /// The key of 32 bytes.
+    /// The key of 32 bytes, expanded as in FIPS 197, section 5.2.
     pub fn new(key: &[u8; 32]) -> Key256
         ensures { result ≡ key.now }
     {
@@ -107,7 +107,7 @@ impl BlockKey for Key256 {
     }
 }
 
-/// An AES key of 16 bytes. Clauses see its bytes.
+/// An AES key of 16 bytes, expanded for 10 rounds (FIPS 197, section 5). Clauses see its bytes.
 #[derive(Drop)]
 pub struct Key128 {
     schedule: [u8; 176],
@@ -122,7 +122,7 @@ impl Model for Key128 {
 }
 
 impl Key128 {
-    /// The key of 16 bytes.
+    /// The key of 16 bytes, expanded as in FIPS 197, section 5.2.
     pub fn new(key: &[u8; 16]) -> Key128
         ensures { result ≡ key.now }
     {

@@ -1,10 +1,10 @@
-ghost use Rattle.std.specs.Prelude.{◌≡◌, ◌↔◌, ◌≤◌, ℕ, List, ◌++◌, length, take, drop, Option, Some, None, IsOk, OnOk, OnErr, IsTrue};
+ghost use Rattle.std.specs.Prelude.{◌≡◌, ◌↔◌, ◌≤◌, ℕ, List, ◌++◌, length, take, drop, Option, Some, None, IsOk, OnOk, OnErr};
 ghost use Rattle.aes_block.specs.Aes.{aes};
 ghost use Rattle.aes_block.specs.Bytes.{MakesBlocks, xor_bytes};
 ghost use Rattle.gcm_mode.specs.Gcm.{counted, counter_block, gcm_opened, gcm_sealed, gcm_tag};
 
 use crate::ghash::{HashKey, hash_of};
-use aes_block::{BlockKey, Key256};
+use aes_block::{BlockKey, Key256, blocks_equal};
 use std::marker::Model;
 use thiserror::Error;
 
@@ -84,13 +84,6 @@ fn count_over(key: &Key256, nonce: &[u8; 12], text: &mut [u8])
     }
 }
 
-// Whether two tags are one. They are compared as whole numbers, so that the time doesn't tell where they differ.
-fn are_equal(left: &[u8; BLOCK_LEN], right: &[u8; BLOCK_LEN]) -> bool
-    ensures { IsTrue result ↔ (left.now ≡ right.now) }
-{
-    u128::from_be_bytes(*left) == u128::from_be_bytes(*right)
-}
-
 impl GcmKey {
     /// Makes a key of 32 bytes ready: its key schedule and the hash subkey (SP 800-38D, 7.1, step 1).
     pub fn new(key: &[u8; 32]) -> GcmKey
@@ -147,7 +140,7 @@ impl GcmKey {
         ensures closed { OnErr result (gcm_opened (aes self.now) nonce.now ad.now buf.old tag.now ≡ None) }
     {
         let expected = self.tag_of(nonce, ad, buf);
-        if !are_equal(&expected, tag) {
+        if !blocks_equal(&expected, tag) {
             return Err(BadTag);
         }
         count_over(&self.cipher, nonce, buf);
@@ -155,8 +148,8 @@ impl GcmKey {
     }
 }
 
-/// Opening what was sealed gives the text, and a ciphertext with a tag is accepted exactly where both are what sealing its
-/// text gives, for each cipher that makes blocks.
+/// Opening what was sealed (SP 800-38D, 7.1 and 7.2) gives the text, and a ciphertext with a tag is accepted exactly where both
+/// are what sealing its text gives, for each cipher that makes blocks. It does nothing.
 pub fn sealing_and_opening_agree()
     ensures opens { (cipher : List ℕ → List ℕ) (nonce ad text : List ℕ) → MakesBlocks cipher →
         gcm_opened cipher nonce ad (take (length text) (gcm_sealed cipher nonce ad text)) (drop (length text) (gcm_sealed cipher nonce ad text)) ≡ Some text }

@@ -55,7 +55,7 @@ fn nibble_product(nibble: usize, v: u128) -> u128
 
 // A hash subkey, and in a table its products with the polynomials of degree 3. Clauses see the subkey.
 #[derive(Drop)]
-pub struct HashKey {
+pub(crate) struct HashKey {
     table: [u128; 16],
 }
 
@@ -71,7 +71,7 @@ impl Model for HashKey {
 }
 
 impl HashKey {
-    pub fn new(subkey: u128) -> HashKey
+    pub(crate) fn new(subkey: u128) -> HashKey
         ensures { result ≡ subkey }
     {
         let mut table = [0u128; 16];
@@ -130,7 +130,7 @@ fn length_block(ad: &[u8], ciphertext: &[u8]) -> [u8; BLOCK_LEN]
 }
 
 // GHASH of associated data, a ciphertext and their lengths (7.1, step 5).
-pub fn hash_of(key: &HashKey, ad: &[u8], ciphertext: &[u8]) -> [u8; BLOCK_LEN]
+pub(crate) fn hash_of(key: &HashKey, ad: &[u8], ciphertext: &[u8]) -> [u8; BLOCK_LEN]
     ensures { result ≡ ghash key.now (hashed_text ad.now ciphertext.now) }
 {
     let ad_hash = absorb(key, 0, ad);

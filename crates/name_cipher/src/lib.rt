@@ -5,6 +5,8 @@ mod name;
 mod sealed;
 #[cfg(test)]
 mod tests;
+#[cfg(test)]
+mod vectors;
 
 pub use name::{BadName, Name, clear_name};
 pub use sealed::{open_name, opening_undoes_sealing, seal_name};

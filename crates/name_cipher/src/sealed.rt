@@ -38,7 +38,8 @@ pub fn seal_name(
     Ok(Text::from_vec(text.into_bytes()))
 }
 
-/// The clear name of a sealed name in the directory whose identifier is `parent`. `None` comes exactly where the text isn't
+/// The clear name of a sealed name in the directory whose identifier is `parent` (RFC 5297, section 2.7, under the same
+/// encoding). `None` comes exactly where the text isn't
 /// what `seal_name` gives of any valid name: its suffix, its base64, its tag or its clear name is another.
 pub fn open_name(
     alloc: Global,

@@ -1,7 +1,9 @@
 use super::*;
+use crate::vectors;
 use base64::engine::general_purpose::URL_SAFE;
 use siv_mode::VaultKeys;
 use std::alloc::{AllocError, Global};
+use std::process::Abort;
 use std::test::Fail;
 
 const ENCRYPTION_KEY: [u8; 32] = [
@@ -22,61 +24,33 @@ fn keys() -> VaultKeys {
     VaultKeys::new(&ENCRYPTION_KEY, &MAC_KEY)
 }
 
+// The bytes that a word of a row stands for.
+fn bytes(alloc: Global, word: Option<&str>) -> Result<Vec<u8>, Fail> {
+    let digits = word.ok_or("a short row")?;
+    Ok(hex::decode(alloc, if digits == "-" { "" } else { digits })?)
+}
+
+fn check_row(rt: &impl Abort, alloc: Global, row: &str) -> Result<(), Fail> {
+    let mut words = row.split(' ');
+    let parent = bytes(alloc, words.next())?;
+    let name = clear_name(alloc, &bytes(alloc, words.next())?)?;
+    let text = words.next().ok_or("no sealed name")?;
+    let sealed = seal_name(alloc, &keys(), &parent, &name)?;
+    assert!(rt; sealed.as_bytes() == text.as_bytes(), "sealed: {row}");
+    let opened = open_name(alloc, &keys(), &parent, text.as_bytes())?;
+    let opened = opened.ok_or("a sealed name")?;
+    assert!(rt; opened.as_bytes() == name.as_bytes(), "opened: {row}");
+    Ok(())
+}
+
 #[test]
 fn sealed_names_are_those_of_the_vectors(rt: HostRuntime) -> Result<(), Fail> {
-    for (parent, name, text) in [
-        ("", "a", "WUZq1afYEE8ijZEsFMM9FE0=.c9r"),
-        ("", "hello.txt", "gQ5vZOUTdHpBq3UmJCb7TmtSmL9qw1e7GA==.c9r"),
-        ("", "\u{e9}", "Cn9KRtsBxsYEipgWa3qaaYKr.c9r"),
-        (
-            "",
-            "\u{65e5}\u{672c}\u{8a9e}",
-            "2iiDl7T-Gl5BVIBRVuDL0JHbTEj2VE3fDA==.c9r",
-        ),
-        (
-            "",
-            "xxxxxxxxxxxxxxxxxxxxxxxxxxxxxxxxxxxxxxxxxxxxxxxxxxxxxxxxxxxxxxxxxxxxxxxxxxxxxxxxxxxxxxxxxxxxxxxxxxxxxxxxxxxxxxxxxxxxxxxxxxxxxxxxxxxxxxxxxxxxxxxxxx",
-            "hx1PIAySSem-nGENhJ3wzqs5yI7zoi2X4ZrU4H6n6bHZ088Hm5rRf3RIsDFaEvjeXUk3-mhuWThA2sLgmDDL6c7KVNZ84E2KQXab_8X8U5pRzEXEfazGX4QAX_c3AAPHNSxU9ueq7SL21Siwd-d1_xuob-qbdk0DWXh3_Ank-ET6GEjdkAsQqxnUUqq8auXvMX05AAA4QQRDiJObUCO_2dyJ.c9r",
-        ),
-        (
-            "e9c3f9a8-1a5c-4f7f-8f0d-2f8f3f9f7a11",
-            "a",
-            "5vXaRN-wyJeMm6Th6L6lK3Y=.c9r",
-        ),
-        (
-            "e9c3f9a8-1a5c-4f7f-8f0d-2f8f3f9f7a11",
-            "xxxxxxxxxxxxxxxxxxxxxxxxxxxxxxxxxxxxxxxxxxxxxxxxxxxxxxxxxxxxxxxxxxxxxxxxxxxxxxxxxxxxxxxxxxxxxxxxxxxxxxxxxxxxxxxxxxxxxxxxxxxxxxxxxxxxxxxxxxxxxxxxxxx",
-            "SVsqSHAsivp1M0_SppsB7IYyFe75beALdooU_DtZ592Cvrytrd1g_v7qpp7KigTobekLPGj0pgSvart3VVx-K10WJ9pF1Uqce0Bom9_GtG19Xs1WdDYP17H-fQkDkBykrMhFe-GYpQbz_OvrfHWC6OUYCzCQNTVE1gHUCulADC8aNW5-JII6xDNy2seV_7g5pym25G3Aa6RRoNL_HsEqQykIpQ==.c9r",
-        ),
-        (
-            "e9c3f9a8-1a5c-4f7f-8f0d-2f8f3f9f7a11",
-            "\u{3a9}\u{3a9}\u{3a9}\u{3a9}\u{3a9}\u{3a9}\u{3a9}\u{3a9}\u{3a9}\u{3a9}\u{3a9}\u{3a9}\u{3a9}\u{3a9}\u{3a9}\u{3a9}\u{3a9}\u{3a9}\u{3a9}\u{3a9}\u{3a9}\u{3a9}\u{3a9}\u{3a9}\u{3a9}\u{3a9}\u{3a9}\u{3a9}\u{3a9}\u{3a9}\u{3a9}\u{3a9}\u{3a9}\u{3a9}\u{3a9}\u{3a9}\u{3a9}\u{3a9}\u{3a9}\u{3a9}\u{3a9}\u{3a9}\u{3a9}\u{3a9}\u{3a9}\u{3a9}\u{3a9}\u{3a9}\u{3a9}\u{3a9}\u{3a9}\u{3a9}\u{3a9}\u{3a9}\u{3a9}\u{3a9}\u{3a9}\u{3a9}\u{3a9}\u{3a9}\u{3a9}\u{3a9}\u{3a9}\u{3a9}\u{3a9}\u{3a9}\u{3a9}\u{3a9}\u{3a9}\u{3a9}\u{3a9}\u{3a9}\u{3a9}\u{3a9}\u{3a9}\u{3a9}\u{3a9}\u{3a9}\u{3a9}\u{3a9}",
-            "_Ygs8FrJJjf6-4lYQI2qu70K8LEbTZGPnirnXaUvcUGrpz2t31xNrjVWUgCWCY0V7_FpMObSZZ_kFpim5MvkjmvWmMEh4bAtPy2dEVjJGZmCDJeEFXJLjKAUffEVmGABajRM_fY7j-_vdmHrYCINRvO-Avi_cg31ri3Ro7KBbYJGmbUk2lNBYs8oWkguQGsfoNrj0sHVOSjWLXcnXAUOgI_hOU8530q4fwn71aBoezo=.c9r",
-        ),
-        (
-            "\u{fc}-ident",
-            "hello.txt",
-            "8FhbqssNhrpyfHk9G4pmv4LJzU6gUdpdYQ==.c9r",
-        ),
-        (
-            "\u{fc}-ident",
-            "\u{65e5}\u{672c}\u{8a9e}",
-            "KWCdDeq5GMfJ_WUR7lty5E1NkNwepWT71g==.c9r",
-        ),
-        (
-            "\u{fc}-ident",
-            "yyyyyyyyyyyyyyyyyyyyyyyyyyyyyyyyyyyyyyyyyyyyyyyyyyyyyyyyyyyyyyyyyyyyyyyyyyyyyyyyyyyyyyyyyyyyyyyyyyyyyyyyyyyyyyyyyyyyyyyyyyyyyyyyyyyyyyyyyyyyyyyyyyyyyyyyyyyyyyyyyyyyyyyyyyyyyyyyyyyyyyyyyyyyyyyyyyyyyyyyyyyyyyyyyyyyyyyyyyyyyyyyyyyyyyyyyyyyyyyyyyyyyyyyyyyyyyyyyyyyyyyyyyyyyyyyyyyyyyyyyyyyyyyyyyyyyyyyyyyy",
-            "4OtYwky9mGQhQZnJ66B2ok88S-v80iJf94zbuYxJzSqv3YGpfxMPodrb-8TgETGL7ggGuFFXan6cM-SAAKpGz9-OhMP0i7BeiVaipPCoEa4Z5f3z4IdOsU5cYeUvIrXaziOV6rm3m_DMRg1mYzbyV5wCVKz_5XuzoUOAtS9qwJRoWNTvy7z-URycyYdIiXst-FfJrmojrtiu6j4yxOe1IO2N1fizNDExSj72VrHCuk4aY5rhyfAyoagfsiW4nDyjAnKsd9LmtCCikERzs6nmtprEdbkFMZZOJTu14CXUQiknCCjioNV06evf1VQL4yRGyNgXuRkYpXo9rSphCHmEb7mH5TwKZZT71R1D-so-0hEm9wAp6jNj4cRfN_0Lj-PyB5Ycwzy9MJeJHnG8GnMphCZlCun-9D4veb07Pw==.c9r",
-        ),
-        ("\u{fc}-ident", "a b.c", "fhenY-nuYLT3yTEoK6aqLpEi921E.c9r"),
-    ] {
-        let name = clear_name(rt.alloc(), name.as_bytes())?;
-        let sealed = seal_name(rt.alloc(), &keys(), parent.as_bytes(), &name)?;
-        assert!(rt; sealed.as_bytes() == text.as_bytes(), "sealed: {text}");
-        let opened = open_name(rt.alloc(), &keys(), parent.as_bytes(), text.as_bytes())?;
-        let opened = opened.ok_or("a sealed name")?;
-        assert_eq!(rt; opened.as_str(), name.as_str(), "opened: {text}");
+    let mut count = 0u32;
+    for row in vectors::NAMES.lines() {
+        check_row(&rt, rt.alloc(), row)?;
+        count = count.wrapping_add(1);
     }
+    assert_eq!(rt; count, 27);
     Ok(())
 }
 

@@ -1,5 +1,4 @@
 pub mod Xors
-pub mod Differences
 pub mod Doubling
 pub mod Chains
 pub mod Counters

@@ -1,4 +1,4 @@
-ghost use Rattle.std.specs.Prelude.{◌≡◌, ◌↔◌, ◌<◌, length, IsTrue};
+ghost use Rattle.std.specs.Prelude.{◌≡◌, ◌<◌, length};
 ghost use Rattle.aes_block.specs.Bytes.{xor_bytes};
 ghost use Rattle.siv_mode.specs.Cmac.{doubled, padded};
 
@@ -13,17 +13,6 @@ pub(crate) fn xor_onto(target: &mut [u8], bytes: &[u8])
     for i in 0..target.len() {
         target[i] ^= bytes[i];
     }
-}
-
-// Whether two blocks are the same. All bytes are read, so that the time taken doesn't tell where the first that differ are.
-pub(crate) fn is_same(a: &[u8; 16], b: &[u8; 16]) -> bool
-    ensures { IsTrue result ↔ (a.now ≡ b.now) }
-{
-    let mut differences = 0;
-    for i in 0..16 {
-        differences |= a[i] ^ b[i];
-    }
-    differences == 0
 }
 
 // A block doubled (SP 800-38B, 6.1).

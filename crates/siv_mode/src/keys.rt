@@ -19,7 +19,7 @@ impl Model for VaultKeys {
 }
 
 impl VaultKeys {
-    /// The encryption key and the MAC key.
+    /// The encryption key and the MAC key, of 32 bytes each.
     pub fn new(enc: &[u8; 32], mac: &[u8; 32]) -> VaultKeys
         ensures enc { result.enc ≡ enc.now }
         ensures mac { result.mac ≡ mac.now }

@@ -9,6 +9,8 @@ mod mac;
 mod siv;
 #[cfg(test)]
 mod tests;
+#[cfg(test)]
+mod vectors;
 
 pub use keys::VaultKeys;
 pub use mac::cmac;

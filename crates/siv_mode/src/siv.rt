@@ -1,13 +1,13 @@
-ghost use Rattle.std.specs.Prelude.{◌≡◌, ◌↔◌, ◌+◌, ◌≤◌, ℕ, List, length, take, replicate, Option, Some, None, IsOk, OnOk, OnErr};
+ghost use Rattle.std.specs.Prelude.{◌≡◌, ◌↔◌, ◌+◌, ℕ, List, length, replicate, Option, Some, None, IsOk, OnOk, OnErr};
 ghost use Rattle.aes_block.specs.Aes.{aes};
-ghost use Rattle.aes_block.specs.Bytes.{AreBytes, MakesBlocks};
-ghost use Rattle.siv_mode.specs.Siv.{s2v as s2v_of, siv_sealed, siv_text, siv_opened, ad_of, mixed};
+ghost use Rattle.aes_block.specs.Bytes.{AreBytes};
+ghost use Rattle.siv_mode.specs.Siv.{s2v as s2v_of, siv_sealed, siv_opened, ad_of, mixed};
 
-use crate::blocks::{double, is_same, pad, xor_onto};
+use crate::blocks::{double, pad, xor_onto};
 use crate::counter::apply_counters;
 use crate::keys::VaultKeys;
 use crate::mac::{RunningMac, cmac};
-use aes_block::BlockKey;
+use aes_block::{BlockKey, blocks_equal};
 use thiserror::Error;
 
 /// A sealed text whose tag isn't that of its text: it was changed, or sealed under another key or associated string.
@@ -15,7 +15,7 @@ use thiserror::Error;
 #[error("the tag differs")]
 pub struct BadTag;
 
-/// The block that S2V makes of an associated string, if there is one, and a text, as in RFC 5297, section 2.4.
+/// The block of 16 bytes that S2V makes of an associated string, if there is one, and a text, as in RFC 5297, section 2.4.
 pub fn s2v<K: BlockKey>(key: &K, ad: Option<&[u8]>, text: &[u8]) -> [u8; 16]
     ensures { result ≡ s2v_of (K.cipher key.now) (ad_of ad.entry) text.now }
 {
@@ -75,18 +75,12 @@ pub fn open<K: BlockKey>(
     out: &mut [u8],
 ) -> Result<(), BadTag>
     requires { length sealed.now ≡ length out.old + 16 }
-    ensures accepted { IsOk result
-        ↔ (s2v_of (K.cipher mac.now) (ad_of ad.entry) (siv_text (K.cipher ctr.now) sealed.now)
-        ≡ take 16 sealed.now) }
-    ensures text { OnOk result (out.new ≡ siv_text (K.cipher ctr.now) sealed.now) }
-    ensures refused { OnErr result (out.new ≡ replicate (length out.old) 0) }
-
-    // The same as one function of the sealed text.
     ensures opened { OnOk result
         (siv_opened (K.cipher mac.now) (K.cipher ctr.now) (ad_of ad.entry) sealed.now
         ≡ Some out.new) }
     ensures closed { OnErr result
         (siv_opened (K.cipher mac.now) (K.cipher ctr.now) (ad_of ad.entry) sealed.now ≡ None) }
+    ensures refused { OnErr result (out.new ≡ replicate (length out.old) 0) }
 
     // It is accepted exactly where it is what sealing a text gives.
     ensures exact { OnOk result
@@ -102,7 +96,7 @@ pub fn open<K: BlockKey>(
     tag.copy_from_slice(front);
     out.copy_from_slice(back);
     apply_counters(ctr, tag, out);
-    if is_same(&s2v(mac, ad, out), &tag) {
+    if blocks_equal(&s2v(mac, ad, out), &tag) {
         Ok(())
     } else {
         out.fill(0);
@@ -110,18 +104,8 @@ pub fn open<K: BlockKey>(
     }
 }
 
-/// Opening what was sealed gives the text, and a sealed text is accepted exactly where it is what sealing its text gives.
-pub fn sealing_and_opening_agree()
-    ensures opens { (mac ctr : List ℕ → List ℕ) (ad : Option (List ℕ)) (text : List ℕ)
-        → MakesBlocks mac → MakesBlocks ctr → AreBytes text
-        → siv_opened mac ctr ad (siv_sealed mac ctr ad text) ≡ Some text }
-    ensures exact { (mac ctr : List ℕ → List ℕ) (ad : Option (List ℕ)) (sealed text : List ℕ)
-        → MakesBlocks mac → MakesBlocks ctr → AreBytes sealed → 16 ≤ length sealed
-        → (siv_opened mac ctr ad sealed ≡ Some text) ↔ (sealed ≡ siv_sealed mac ctr ad text) }
-{}
-
-/// What sealing and opening under a vault's keys come to: a sealed text has 16 bytes more than its text, sealing bytes gives
-/// bytes, and opening accepts exactly what sealing gives. It does nothing.
+/// What sealing and opening (RFC 5297, sections 2.6 and 2.7) under a vault's keys come to: a sealed text has 16 bytes more than
+/// its text, sealing bytes gives bytes, and opening accepts exactly what sealing gives. It does nothing.
 pub fn opening_is_exact(keys: &VaultKeys)
     ensures long { (ad : Option (List ℕ)) (text : List ℕ)
         → length (siv_sealed (aes keys.now.mac) (aes keys.now.enc) ad text) ≡ length text + 16 }
