@@ -1,5 +1,5 @@
 -- Legal histories: which entries a store may answer, in order, from given rows on.
-use Rattle.std.specs.Prelude.{◌≡◌, ◌⊎◌, ℕ, suc, ◌≤◌, ◌^◌, ◌-◌, min, List, [], ◌∷◌, Bool, true, ◌==◌, filter, map, Option, Some, None, IsNone, MatchOption, IsSomeAnd, slice_get, ⊤, ◌≢◌, if◌then◌else◌}
+use Rattle.std.specs.Prelude.{◌≡◌, ◌⊎◌, ℕ, suc, ◌≤◌, ◌^◌, ◌-◌, min, List, [], ◌∷◌, Bool, true, ◌==◌, filter, map, Option, Some, None, IsNone, IsSome, MatchOption, IsSomeAnd, slice_get, ⊤, ◌≢◌, if◌then◌else◌}
 use Rattle.std.specs.List.{AllByRecursion}
 use Rattle.outside.specs.Calls.{Rose}
 use Rattle.tree_model.specs.declared.refusal.Refusal.TheVariants as refusals
@@ -47,6 +47,11 @@ MayCommit (list n after most) = ⊥
 MayCommit (stat_of n) = ⊥
 MayCommit request = ⊤
 
+-- the requests for which an identifier may be drawn: the making of a directory
+abbrev pub MayDraw : PlainRequest → Type 0
+MayDraw (create n name is_dir mode) = is_dir ≡ true
+MayDraw request = ⊥
+
 -- the answer that an entry has
 abbrev pub answer_of : Entry → Answer
 answer_of entry = record { reply = entry.asked.reply; bytes = entry.asked.bytes }
@@ -65,6 +70,7 @@ IsAnswered rows entry =
 pub record IsAllowed (rows : Rows) (stopped : Option ℕ) (entry : Entry) : Type 0 where
   pub answer : MatchOption stopped (IsAnswered rows entry) (λ f. answer_of entry ≡ refuses (refusals.Stopped (min f (2 ^ 64 - 1))))
   pub flag : entry.commit_failed ≡ true → (answer_of entry ≡ refuses refusals.DeviceFault) × MayCommit entry.asked.request
+  pub drawn : IsSome entry.drawn → MayDraw entry.asked.request
   pub folder : entry.folder_before ≤ entry.folder_after
   pub entropy : entry.entropy_before ≤ entry.entropy_after
 

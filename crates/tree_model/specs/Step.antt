@@ -1,7 +1,7 @@
 -- What a tree of rows answers to a request, one at a time.
 use Rattle.std.specs.Prelude.{ℕ, ◌/◌, ◌%◌, List, [], ◌∷◌, length, Bool, ◌||◌, not, Option, Some, None, Result, Ok, Err, ◌==◌, if◌then◌else◌}
 use Rattle.std.specs.Option.{option_map_or}
-use Rattle.std.specs.Str.{bytes_eq}
+use Rattle.std.specs.Str.{bytes_eq, is_utf8}
 use Rattle.tree_model.specs.declared.refusal.Refusal.{Refusal}
 use Rattle.tree_model.specs.declared.refusal.Refusal.TheVariants as refusals
 use Rattle.tree_model.specs.declared.stat.Qid.{Qid}
@@ -88,9 +88,13 @@ bytes_answer (Some bytes) = record { reply = count (length bytes); bytes = bytes
 
 -- ---- the step
 
+-- what keeps a node from being walked from, before a name's form NFC is needed
+abbrev pub walk_refusal : Kind → List ℕ → Option Refusal
+walk_refusal kind name = if not (is_dir kind) then Some refusals.NotADirectory else if is_utf8 name then None else Some refusals.BadName
+
 -- the refusals that come before the work on a request begins: before a name's form NFC or the folder's bytes are needed
 abbrev pub early : Row → PlainRequest → Option Refusal
-early row (walk n (name ∷ names)) = if is_dir row.kind then None else Some refusals.NotADirectory
+early row (walk n (name ∷ names)) = walk_refusal row.kind name
 early row (open_node n mode) = open_refusal row.kind mode
 early row (read n at most) = read_refusal row.kind row.content
 early row request = None

@@ -1,15 +1,17 @@
 -- What the rows of a loaded tree answer.
-use Rattle.std.proofs.Common.{◌≡◌, ◌≢◌, ℕ, suc, ◌≤◌, ◌<◌, Bool, true, false, cond, not, List, [], ◌∷◌, length, map, Option, Some, None, IfSome, IfNone, IsSomeAnd, ok_or, Result, Ok, Err, refl, sym, ap, subst, ◌∙◌, arith, inl, inr}
+use Rattle.std.proofs.Common.{rules, ◌≡◌, ◌≢◌, ℕ, suc, ◌≤◌, ◌<◌, Bool, true, false, cond, not, List, [], ◌∷◌, length, map, Option, Some, None, IfSome, IfNone, IsSomeAnd, ok_or, Result, Ok, Err, refl, sym, ap, subst, ◌∙◌, arith, inl, inr}
 use Rattle.std.specs.FinMap as finmap
 use Rattle.std.specs.Option.{option_map_or}
-use Rattle.std.specs.Str.{bytes_eq}
+use Rattle.std.specs.Str.{bytes_eq, is_utf8}
 use Rattle.std.proofs.lemmas.Bool.{ne_eqb, cases_lt}
 use Rattle.std.proofs.lemmas.Option.{same_Some}
+use Rattle.std.proofs.lemmas.Str.{IsUtf8-from_ascii, is_utf8-from_IsUtf8}
+use Rattle.std.proofs.lemmas.Slice.Eq.{bytes_eq-Decides}
 use Rattle.siv_mode.specs.Keys.{KeyPair}
 use Rattle.tree_model.specs.declared.refusal.Refusal.{Refusal}
 use Rattle.tree_model.specs.declared.refusal.Refusal.TheVariants as refusals
 use Rattle.tree_model.specs.declared.stat.Qid.{Qid}
-use Rattle.tree_model.specs.Names.{NameFault, not_utf8, empty, dots, forbidden, too_long, clear_name}
+use Rattle.tree_model.specs.Names.{NameFault, not_utf8, empty, dots, forbidden, too_long, nfc_of, checked_name, clear_name}
 use Rattle.tree_model.specs.Rows.{dir, Row, Rows, is_dir, row_of, child_of, qid_of}
 use Rattle.tree_model.specs.Asked.{PlainRequest, look, walk, open_node, PlainReply, qid, walked, refused}
 use Rattle.tree_model.specs.Step.{Answer, says, refuses, found, found_by_name, walked_by, walk_on, walk_from, walk_answer, open_refusal, step, early, answer_at, node_of}
@@ -141,6 +143,30 @@ way_more tree n m name names qids end next way keys now files listed row is =
     ∙ ap (λ (w : List Qid × Option Refusal). (qid_of to.0 ∷ w.0, w.1)) (way keys now files listed to.0 to.1)
     ∙ ap (λ (q : Qid). (q ∷ qids, end)) (qid_row tree keys now files listed m to.0 to.1)
 
+not_text : (name : List ℕ) → is_utf8 name ≡ false → clear_name name ≡ Err not_utf8
+unfolding clear_name
+not_text name bad = ap (λ (b : Bool). cond b (checked_name (nfc_of name)) (Err not_utf8)) bad
+
+not_dots : (name : List ℕ) → is_utf8 name ≡ false → (b : Bool) → bytes_eq name dots_name ≡ b → b ≡ false
+not_dots name bad false is = refl
+not_dots name bad true is =
+    let dots : name ≡ dots_name = (bytes_eq-Decides name dots_name).0 is in
+    let good : is_utf8 dots_name ≡ true = is_utf8-from_IsUtf8 dots_name (IsUtf8-from_ascii dots_name (search rules)) in
+    absurd (cc (bad, dots, good))
+
+-- from the root, a first name that isn't UTF-8 is refused before the work, as it would be in it
+walk_root : (tree : LoadedTree) (keys : KeyPair) (now : ℕ) (files : Files) (name : List ℕ) (names : List (List ℕ)) (row : Row)
+    → row_of (rows_of keys now tree.foreign files) 0 ≡ Some row → (b : Bool) → is_utf8 name ≡ b
+    → option_map_or refuses (cond b None (Some refusals.BadName)) (walk_answer (walk_from (rows_of keys now tree.foreign files) row (name ∷ names)))
+    ≡ walk_answer (walk_from (rows_of keys now tree.foreign files) row (name ∷ names))
+unfolding walk_from
+walk_root tree keys now files name names row is true text = refl
+walk_root tree keys now files name names row is false bad =
+    let rows : Rows = rows_of keys now tree.foreign files in
+    let other : bytes_eq name dots_name ≡ false = not_dots name bad (bytes_eq name dots_name) refl in
+    sym (ap (λ (w : Result Row Refusal). walk_answer (walk_on (λ row. walk_from rows row names) w))
+    (by_name tree keys now files name row is other ∙ ap (found_by_name rows 0) (not_text name bad)))
+
 step_walk : (tree : LoadedTree) (keys : KeyPair) (now : ℕ) (files : Files) (listed : tree.files ≡ map (loaded_file keys) (finmap.entries files)) (n : ℕ) (names : List (List ℕ)) (row : Row)
     → row_of (rows_of keys now tree.foreign files) n ≡ Some row
     → step (rows_of keys now tree.foreign files) (walk n names) ≡ walk_answer (walk_from (rows_of keys now tree.foreign files) row names)
@@ -149,7 +175,9 @@ step_walk tree keys now files listed n [] row is = step_at (rows_of keys now tre
 step_walk tree keys now files listed n (name ∷ names) row is =
     let rows : Rows = rows_of keys now tree.foreign files in
     step_at rows (walk n (name ∷ names)) row is ∙ elim (row_cases tree keys now files listed n row is) [
-      | inl root ↦ ap (λ (r : Row). option_map_or refuses (early r (walk n (name ∷ names))) (answer_at rows row (walk n (name ∷ names)))) root.1
+      | inl root ↦
+          ap (λ (r : Row). option_map_or refuses (early r (walk n (name ∷ names))) (answer_at rows row (walk n (name ∷ names)))) root.1
+          ∙ walk_root tree keys now files name names row (ap (row_of rows) (sym root.0) ∙ is) (is_utf8 name) refl
       | inr file ↦
           ap (λ (r : Row). option_map_or refuses (early r (walk n (name ∷ names))) (answer_at rows row (walk n (name ∷ names)))) file.is
           ∙ sym (ap (λ (r : Row). walk_answer (walk_from rows r (name ∷ names))) file.is)

@@ -1,6 +1,7 @@
 -- What a store stands for, when it is opened and after an answer.
-use Rattle.std.proofs.Common.{◌≡◌, ℕ, ◌+◌, ◌-◌, ◌^◌, ◌≤◌, min, false, eqb, List, [], ◌∷◌, ◌++◌, length, Option, Some, None, refl, sym, subst, ◌∙◌, arith, inl, inr, length-append, append_assoc}
+use Rattle.std.proofs.Common.{◌≡◌, ℕ, ◌+◌, ◌-◌, ◌^◌, ◌≤◌, min, false, eqb, List, [], ◌∷◌, ◌++◌, length, Option, Some, None, IsSome, refl, sym, subst, ◌∙◌, arith, inl, inr, length-append, append_assoc}
 use Rattle.std.specs.List.{AllByRecursion}
+use Rattle.std.proofs.lemmas.Bool.{false≢true}
 use Rattle.std.proofs.lemmas.List.{map-append}
 use Rattle.std.proofs.lemmas.List.Elements.{filter-append}
 use Rattle.siv_mode.specs.Keys.{KeyPair}
@@ -117,17 +118,18 @@ is_answered rows caller request moment reply buffer f f' e e' may = elim may [
 ]
 
 tree_more : (keys : KeyPair) (tree : LoadedTree) (opened_at : ℕ) (disk : Disk) (rows : Rows) (history : List Entry) (entry : Entry) → TreeOf keys tree opened_at disk rows history
-    → AllByRecursion IsRunning history → entry.commit_failed ≡ false → ((is : IsLoaded keys disk tree) → IsAnswered (rows_of keys opened_at tree.foreign is.files) entry)
+    → AllByRecursion IsRunning history → entry.commit_failed ≡ false → entry.drawn ≡ None → ((is : IsLoaded keys disk tree) → IsAnswered (rows_of keys opened_at tree.foreign is.files) entry)
     → entry.folder_before ≤ entry.folder_after → entry.entropy_before ≤ entry.entropy_after
     → AllByRecursion (λ e. e.folder_after ≤ entry.folder_before) history → AllByRecursion (λ e. e.entropy_after ≤ entry.entropy_before) (entries_of entry.caller history)
     → TreeOf keys tree opened_at disk rows (history ++ entry ∷ [])
-tree_more keys tree opened_at disk rows history entry is running goes_on answered later_folder later_entropy folder entropy = record {
+tree_more keys tree opened_at disk rows history entry is running goes_on undrawn answered later_folder later_entropy folder entropy = record {
   loaded = is.loaded;
   current = rows_after_more rows history entry ∙ is.current;
   legal = IsLegal-more rows history entry is.legal running goes_on
       (record {
         answer = subst (λ (r : Rows). IsAnswered r entry) (sym is.current) (answered is.loaded);
         flag = λ failed. absurd (cc (failed, goes_on));
+        drawn = λ some. absurd (false≢true (subst (λ (o : Option (List ℕ)). IsSome o) undrawn some));
         folder = later_folder;
         entropy = later_entropy;
       }) folder entropy;
@@ -158,7 +160,7 @@ adds_entry disk_of faults_of old new request moment reply buffer e e' disk later
             (λ d. (is : IsLoaded old.keys d old.loaded) (at : ℕ) → MayAnswer (rows_of old.keys at old.loaded.foreign is.files) request (faults_of old.folder) (faults_of new.folder) (answer_with request reply buffer))
             (λ d. HasTree new d rows (history ++ entry ∷ [])) stands.tree answer
             (λ d has may. tree_of old new d rows (history ++ entry ∷ []) keys loaded opened_at
-            (tree_more old.keys old.loaded old.opened_at d rows history entry (record { loaded = has.loaded; current = has.current; legal = has.legal }) stands.running refl
+            (tree_more old.keys old.loaded old.opened_at d rows history entry (record { loaded = has.loaded; current = has.current; legal = has.legal }) stands.running refl refl
             (λ is. is_answered (rows_of old.keys old.opened_at old.loaded.foreign is.files) caller request moment reply buffer (faults_of old.folder) (faults_of new.folder) e e' (may is old.opened_at))
             later later_entropy stands.folder fits)));
         folder = all_more (λ x. x.folder_after ≤ faults_of new.folder) history entry
@@ -170,16 +172,17 @@ adds_entry disk_of faults_of old new request moment reply buffer e e' disk later
 
 -- ---- a store that one caller asks
 
-pub answered_more : {D E : Type 0} (disk_of : D → Option Disk) (faults_of : D → ℕ) (entropy_of : E → ℕ) (start now next : Alone D E) (before : List Asked) (asked : Asked)
-    → HasAnswered disk_of faults_of entropy_of start now before → disk_of next.store.folder ≡ disk_of now.store.folder
-    → faults_of now.store.folder ≤ faults_of next.store.folder → entropy_of now.entropy ≤ entropy_of next.entropy
-    → AddsEntry disk_of faults_of now.store next.store asked (entropy_of now.entropy) (entropy_of next.entropy) → HasAnswered disk_of faults_of entropy_of start next (before ++ asked ∷ [])
-answered_more disk_of faults_of entropy_of start now next before asked has disk folder entropy adds =
+pub answered_more : {D E : Type 0} (disk_of : D → Option Disk) (faults_of : D → ℕ) (entropy_of : E → ℕ) (drawn_of : E → Option (List ℕ)) (start now next : Alone D E) (before : List Asked) (asked : Asked)
+    → HasAnswered disk_of faults_of entropy_of drawn_of start now before → disk_of next.store.folder ≡ disk_of now.store.folder
+    → faults_of now.store.folder ≤ faults_of next.store.folder → entropy_of now.entropy ≤ entropy_of next.entropy → drawn_of next.entropy ≡ drawn_of now.entropy
+    → AddsEntry disk_of faults_of now.store next.store asked (entropy_of now.entropy) (entropy_of next.entropy) → HasAnswered disk_of faults_of entropy_of drawn_of start next (before ++ asked ∷ [])
+answered_more disk_of faults_of entropy_of drawn_of start now next before asked has disk folder entropy drawn adds =
     let start_folder : faults_of start.store.folder ≤ faults_of now.store.folder = has.folder in
     let start_entropy : entropy_of start.entropy ≤ entropy_of now.entropy = has.entropy in record {
       disk = disk ∙ has.disk;
       folder = omega arith;
       entropy = omega arith;
+      drawn = drawn ∙ has.drawn;
       added = λ rows history stands fits.
           let more = has.added rows history stands fits in
           let entries : List Entry = more.0 in

@@ -16,11 +16,12 @@ pub record AreAdded (caller : ℕ) (origin : Origin) (folder_faults entropy_faul
   pub up_to : IsUpTo folder_faults entropy_faults entries
 
 -- what was asked since the start: whatever history the store stood for then, it stands for that history with these entries. Its folder's
--- disk is as it was, and no count of faults fell
-pub record HasAnswered {D E : Type 0} (disk_of : D → Option Disk) (faults_of : D → ℕ) (entropy_faults_of : E → ℕ) (start now : Alone D E) (asked : List Asked) : Type 0 where
+-- disk is as it was, no random byte was drawn, and no count of faults fell
+pub record HasAnswered {D E : Type 0} (disk_of : D → Option Disk) (faults_of : D → ℕ) (entropy_faults_of : E → ℕ) (drawn_of : E → Option (List ℕ)) (start now : Alone D E) (asked : List Asked) : Type 0 where
   pub disk : disk_of (folder_of now.store) ≡ disk_of (folder_of start.store)
   pub folder : faults_of (folder_of start.store) ≤ faults_of (folder_of now.store)
   pub entropy : entropy_faults_of start.entropy ≤ entropy_faults_of now.entropy
+  pub drawn : drawn_of now.entropy ≡ drawn_of start.entropy
   pub added : (rows : Rows) (history : List Entry) → IsStoreOf disk_of faults_of start.store rows history →
       FitsCaller 0 history (entropy_faults_of start.entropy) →
       (entries : List Entry)

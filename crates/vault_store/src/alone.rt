@@ -17,7 +17,7 @@ impl<D: Folder, E: Entropy> Alone<D, E> {
     pub fn new(store: Store<D>, entropy: E) -> Alone<D, E>
         ensures store { result.store ≡ store }
         ensures entropy { result.entropy ≡ entropy }
-        ensures start { HasAnswered D.disk D.faults E.faults result result [] }
+        ensures start { HasAnswered D.disk D.faults E.faults E.drawn result result [] }
     {
         Alone { store, entropy }
     }
@@ -26,7 +26,7 @@ impl<D: Folder, E: Entropy> Alone<D, E> {
 impl<D: Folder, E: Entropy> TreeObject for Alone<D, E> {
     ghost use Rattle.vault_store.specs.Served.{HasAnswered};
 
-    ghost stands = { λ now start asked. HasAnswered D.disk D.faults E.faults start now asked };
+    ghost stands = { λ now start asked. HasAnswered D.disk D.faults E.faults E.drawn start now asked };
 
     fn ask(&mut self, request: &Request<'_>, now: u32, buffer: &mut [u8]) -> Reply {
         self.store.serve(request, now, &mut self.entropy, buffer)

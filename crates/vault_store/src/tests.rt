@@ -12,13 +12,7 @@ use outside_mem::{MemFolder, SeedEntropy};
 use siv_mode::VaultKeys;
 use std::alloc::{AllocError, Global};
 use std::test::Fail;
-use tree_model::{Names, Qid, Refusal, Reply, Request, TreeObject};
-
-const ROOT: Qid = Qid {
-    kind: Qid::DIRECTORY,
-    version: 0,
-    path: 0,
-};
+use tree_model::{Names, Refusal, Reply, Request, TreeObject};
 
 /// A vault that isn't open yet.
 #[derive(Drop)]
@@ -29,14 +23,6 @@ struct Vault {
 }
 
 type Opened = Alone<MemFolder, SeedEntropy>;
-
-fn file_qid(number: u64) -> Qid {
-    Qid {
-        kind: Qid::FILE,
-        version: 0,
-        path: number,
-    }
-}
 
 /// As many sevens as a chunk holds.
 fn full(alloc: Global) -> Result<Vec<u8>, AllocError> {
@@ -218,15 +204,40 @@ fn slices_of_a_file_are_read(rt: HostRuntime) -> Result<(), Fail> {
 #[test]
 fn a_full_chunk_ends_its_file(rt: HostRuntime) -> Result<(), Fail> {
     let mut tree = short_and_full(rt.alloc())?;
-    for (node, at, text) in [
-        (2, 32766, "[7, 7]"),
-        (2, 32767, "[7]"),
-        (2, 32768, "[]"),
-        (0, 0, "is a directory"),
-        (3, 0, "removed"),
-    ] {
+    for (node, at, text) in [(2, 32766, "[7, 7]"), (2, 32767, "[7]"), (2, 32768, "[]")] {
         let said = read(rt.alloc(), &mut tree, node, at, 2)?;
         assert_eq!(rt; said.as_str(), text, "{node} {at}");
+    }
+    Ok(())
+}
+
+#[test]
+fn a_content_is_96_bytes_longer_sealed(rt: HostRuntime) -> Result<(), Fail> {
+    let mut vault = new_vault(rt.alloc())?;
+    let clear = full(rt.alloc())?;
+    assert_eq!(rt; clear.len(), 32768);
+    for (length, sealed_length) in [(0, 96), (1, 97), (32768, 32864)] {
+        let file = sealed(
+            rt.alloc(),
+            &mut vault,
+            clear.get(..length).ok_or("a content")?,
+        )?;
+        assert_eq!(rt; file.len(), sealed_length, "{length}");
+    }
+    Ok(())
+}
+
+#[test]
+fn only_a_file_is_read(rt: HostRuntime) -> Result<(), Fail> {
+    let mut tree = short_and_full(rt.alloc())?;
+    for (node, text) in [
+        (0, "is a directory"),
+        (2, "[7, 7]"),
+        (3, "removed"),
+        (u64::MAX, "removed"),
+    ] {
+        let said = read(rt.alloc(), &mut tree, node, 0, 2)?;
+        assert_eq!(rt; said.as_str(), text, "{node}");
     }
     Ok(())
 }
@@ -348,20 +359,22 @@ fn nodes_are_looked_at_and_opened(rt: HostRuntime) -> Result<(), Fail> {
     let mut vault = new_vault(rt.alloc())?;
     put_clear(rt.alloc(), &mut vault, "a", b"hello")?;
     let mut tree = open(rt.alloc(), vault)?;
-    for (node, qid) in [(0, Some(ROOT)), (1, Some(file_qid(1))), (2, None)] {
+    for (node, text) in [(0, "80/0"), (1, "0/1"), (2, "removed")] {
         let reply = tree.ask(&Request::Look { node }, 1001, &mut []);
-        assert!(rt; qid_of(&reply) == qid, "{node}");
+        let said = qid_text(rt.alloc(), &reply)?;
+        assert_eq!(rt; said.as_str(), text, "{node}");
     }
-    for (node, mode, qid) in [
-        (0, 0, Some(ROOT)),
-        (0, 1, None),
-        (0, 3, None),
-        (1, 0, Some(file_qid(1))),
-        (1, 2, Some(file_qid(1))),
-        (2, 0, None),
+    for (node, mode, text) in [
+        (0, 0, "80/0"),
+        (0, 1, "is a directory"),
+        (0, 3, "is a directory"),
+        (1, 0, "0/1"),
+        (1, 2, "0/1"),
+        (2, 0, "removed"),
     ] {
         let reply = opened(&mut tree, node, mode);
-        assert!(rt; qid_of(&reply) == qid, "{node} {mode}");
+        let said = qid_text(rt.alloc(), &reply)?;
+        assert_eq!(rt; said.as_str(), text, "{node} {mode}");
     }
     Ok(())
 }
@@ -371,11 +384,14 @@ fn opened(tree: &mut Opened, node: u64, mode: u8) -> Reply {
     tree.ask(&Request::OpenNode { node, mode }, 1001, &mut [])
 }
 
-fn qid_of(reply: &Reply) -> Option<Qid> {
-    match reply {
-        Reply::Qid(qid) => Some(*qid),
-        _ => None,
-    }
+/// What a reply says of one node: its kind and number, or the refusal.
+fn qid_text(alloc: Global, reply: &Reply) -> Result<String, Fail> {
+    let text = match reply {
+        Reply::Qid(qid) => format!(in alloc; "{:x}/{}", qid.kind, qid.path)?,
+        Reply::Refused(refusal) => format!(in alloc; "{}", text_of(refusal))?,
+        _ => format!(in alloc; "another reply")?,
+    };
+    Ok(text)
 }
 
 #[test]
