@@ -154,36 +154,90 @@ fn a_file_is_read_in_any_pieces(rt: HostRuntime) {
     }
 }
 
+const VERSION_SAID: &[u8] = b"\x13\0\0\0\x65\xff\xff\0\x20\0\0\x06\09P2000";
+
 #[test]
 fn the_end_tells_what_came_last(rt: HostRuntime) {
-    let rows: [(&'static [u8], SessionEnd); 5] = [
+    let rows: [(&'static [u8], SessionEnd); 6] = [
         (b"", SessionEnd::Done),
         (b"\x13\0", SessionEnd::Cut { had: 2, wanted: 4 }),
         (b"\x13\0\0\0\x64", SessionEnd::Cut { had: 5, wanted: 19 }),
         (b"\x06\0\0\0\x64\x01", SessionEnd::BadFrame(6)),
+        (
+            b"\x18\0\x01\0\x64\x01\0",
+            SessionEnd::Cut {
+                had: 7,
+                wanted: 65560,
+            },
+        ),
         (b"\x19\0\x01\0\x64\x01\0", SessionEnd::BadFrame(65561)),
     ];
     for (input, end) in rows {
         let mut client = connect(rt.alloc(), input);
         assert_eq!(rt; serve_client(rt.alloc(), &mut client), end, "{input:?}");
+        assert_eq!(rt; client.taken.len(), 0, "{input:?}");
+    }
+}
+
+/// A version with a size of 8,192 bytes comes first.
+#[test]
+fn a_size_that_was_agreed_is_the_largest(rt: HostRuntime) {
+    let rows: [(&'static [u8], SessionEnd); 4] = [
+        (
+            b"\x13\0\0\0\x64\xff\xff\0\x20\0\0\x06\09P2000",
+            SessionEnd::Done,
+        ),
+        (
+            b"\x13\0\0\0\x64\xff\xff\0\x20\0\0\x06\09P2000\0\x20\0",
+            SessionEnd::Cut { had: 3, wanted: 4 },
+        ),
+        (
+            b"\x13\0\0\0\x64\xff\xff\0\x20\0\0\x06\09P2000\0\x20\0\0\x68\x01",
+            SessionEnd::Cut {
+                had: 6,
+                wanted: 8192,
+            },
+        ),
+        (
+            b"\x13\0\0\0\x64\xff\xff\0\x20\0\0\x06\09P2000\x01\x20\0\0\x68\x01\0",
+            SessionEnd::BadFrame(8193),
+        ),
+    ];
+    for (input, end) in rows {
+        let mut client = connect(rt.alloc(), input);
+        assert_eq!(rt; serve_client(rt.alloc(), &mut client), end, "{input:?}");
+        assert_eq!(rt; client.taken.as_slice(), VERSION_SAID, "{input:?}");
     }
 }
 
 #[test]
 fn a_fault_ends_the_session(rt: HostRuntime) {
-    let mut unread = connect(rt.alloc(), INPUT);
-    unread.reads = 2;
-    assert_eq!(rt;
-        serve_client(rt.alloc(), &mut unread),
-        SessionEnd::ReadFault
-    );
-    assert_eq!(rt; unread.taken.as_slice(), &OUTPUT[..19]);
-    let mut unwritten = connect(rt.alloc(), INPUT);
-    unwritten.step = 10;
-    unwritten.writes = 3;
-    assert_eq!(rt;
-        serve_client(rt.alloc(), &mut unwritten),
-        SessionEnd::WriteFault
-    );
-    assert_eq!(rt; unwritten.taken.as_slice(), &OUTPUT[..29]);
+    // The most bytes of a call, the calls before the fault, the end, and how many bytes were taken.
+    let rows = [
+        // A read before the first message, within its size, before the second, and behind its size.
+        (65536, 0, u32::MAX, SessionEnd::ReadFault, 0),
+        (3, 1, u32::MAX, SessionEnd::ReadFault, 0),
+        (65536, 2, u32::MAX, SessionEnd::ReadFault, 19),
+        (65536, 3, u32::MAX, SessionEnd::ReadFault, 19),
+        // A write before the first answer, within it, and within the second.
+        (10, u32::MAX, 0, SessionEnd::WriteFault, 0),
+        (10, u32::MAX, 1, SessionEnd::WriteFault, 10),
+        (10, u32::MAX, 3, SessionEnd::WriteFault, 29),
+    ];
+    for (step, reads, writes, end, count) in rows {
+        let mut client = connect(rt.alloc(), INPUT);
+        client.step = step;
+        client.reads = reads;
+        client.writes = writes;
+        assert_eq!(rt;
+            serve_client(rt.alloc(), &mut client),
+            end,
+            "{reads} {writes}"
+        );
+        assert_eq!(rt;
+            Some(client.taken.as_slice()),
+            OUTPUT.get(..count),
+            "{reads} {writes}"
+        );
+    }
 }

@@ -128,7 +128,7 @@ pub(crate) enum Entry {
     File(FileName, HostFile),
     /// An entry that isn't the vault's.
     Foreign,
-    /// The copy of the root's identifier, or an entry that is gone.
+    /// The copy of the root's identifier.
     Ignored,
 }
 
@@ -151,8 +151,8 @@ pub(crate) fn entry_of<R: Reads>(
     };
     match from.kind(&path)? {
         Some(Kind::File(size)) => Ok(host_file(alloc, keys, name, size)?),
-        Some(Kind::Dir) => Ok(Entry::Foreign),
-        None => Ok(Entry::Ignored),
+        // A folder, or what is neither a file nor a folder, as a link of the host's.
+        Some(Kind::Dir) | None => Ok(Entry::Foreign),
     }
 }
 
