@@ -6,3 +6,4 @@ pub mod Shares
 pub mod Written
 pub mod Outcomes
 pub mod Reasons
+pub mod Soundness

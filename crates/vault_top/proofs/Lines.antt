@@ -1,10 +1,11 @@
 -- The first line of bytes that are read one by one.
-use Rattle.std.proofs.Common.{◌≡◌, ℕ, suc, not, ◌==◌, ◌+◌, ◌<◌, false, eqb, List, [], ◌∷◌, ◌++◌, length, take, set, Option, Some, None, sym, ap, subst, ◌∙◌, append_assoc, arith}
+use Rattle.std.proofs.Common.{◌≡◌, ℕ, suc, not, ◌==◌, ◌+◌, ◌<◌, false, eqb, List, [], ◌∷◌, ◌++◌, length, take, set, Option, Some, None, sym, ap, subst, ◌∙◌, append_assoc, length-append, length-take, ◌≤◌, inl, inr, arith}
 use Rattle.std.specs.List.{prefix_len}
-use Rattle.std.proofs.lemmas.List.{take_more_set}
+use Rattle.std.proofs.lemmas.List.{append-nil, take_more_set}
 use Rattle.outside.specs.Calls.{Changes}
-use Rattle.vault_top.specs.Secret.{line_of}
-use Rattle.vault_top.specs.Reading.{HasNext}
+use Rattle.vault_top.specs.Secret.{line_of, TakesAtMost}
+use Rattle.vault_top.specs.Reading.{HasLine, HasNext}
+use Rattle.vault_top.proofs.Shares.{changes_as, changes_to}
 
 abbrev Contents : Type 0
 Contents = Option (List ℕ)
@@ -40,3 +41,37 @@ pub front_put : (a b c : Contents) (count byte : ℕ) (line : List ℕ) → coun
     → Changes b c (HasNext (Some byte)) → Changes a c (HasFront (take (count + 1) (set line count byte)))
 front_put a b c count byte line room other h k =
     subst (λ (front : List ℕ). Changes a c (HasFront front)) (sym (take_more_set line count byte room)) (front_more a b c (take count line) byte other h k)
+
+-- ---- how much was taken where no line was read
+
+-- the front, and a byte that had no room behind it
+pub begun_more : (a b c : Contents) (count byte : ℕ) (line : List ℕ) → count ≤ length line → Changes a b (HasFront (take count line)) → Changes b c (HasNext (Some byte))
+    → Changes a c (TakesAtMost (length line + 1))
+begun_more None None None count byte line few h k = tt
+begun_more None None (Some n) count byte line few h k = absurd k
+begun_more None (Some m) c count byte line few h k = absurd h
+begun_more (Some o) None c count byte line few h k = absurd h
+begun_more (Some o) (Some m) None count byte line few h k = absurd k
+begun_more (Some o) (Some m) (Some n) count byte line few h k =
+    let front = take count line in (
+      front ++ byte ∷ [],
+      h.0 ∙ ap (λ (w : List ℕ). front ++ w) k ∙ sym (append_assoc front (byte ∷ []) n),
+      omega (arith, few, length-append front (byte ∷ []), length-take count line),
+    )
+
+-- the front alone
+pub begun_same : (a b c : Contents) (count : ℕ) (line : List ℕ) → count ≤ length line → Changes a b (HasFront (take count line)) → c ≡ b
+    → Changes a c (TakesAtMost (length line + 1))
+begun_same a b c count line few h e =
+    changes_to (TakesAtMost (length line + 1)) a b c e
+    (changes_as (HasFront (take count line)) (TakesAtMost (length line + 1)) a b (λ old new front. (take count line, front.0, omega (arith, few, length-take count line))) h)
+
+-- a line that was read
+taken_line : (room : ℕ) (line bytes left : List ℕ) → length line ≤ room → HasLine line bytes left → TakesAtMost (room + 1) bytes left
+taken_line room line bytes left few (is, inl after) =
+    (line_of bytes ++ 10 ∷ [], after ∙ sym (append_assoc (line_of bytes) (10 ∷ []) left), omega (arith, few, ap length is, length-append (line_of bytes) (10 ∷ [])))
+taken_line room line bytes left few (is, inr after) =
+    (line_of bytes, after.0 ∙ sym (append-nil (line_of bytes)) ∙ ap (λ (w : List ℕ). line_of bytes ++ w) (sym after.1), omega (arith, few, ap length is))
+
+pub begun_line : (a b : Contents) (room : ℕ) (line : List ℕ) → length line ≤ room → Changes a b (HasLine line) → Changes a b (TakesAtMost (room + 1))
+begun_line a b room line few h = changes_as (HasLine line) (TakesAtMost (room + 1)) a b (λ old new. taken_line room line old new few) h

@@ -6,16 +6,16 @@ use Rattle.session_server.specs.declared.ending.SessionEnd.{SessionEnd}
 use Rattle.vault_store.specs.Store.{folder_of}
 use Rattle.vault_store.specs.declared.store.Store.{Store}
 use Rattle.vault_top.specs.Report.{line, sessions_line}
-use Rattle.vault_top.specs.Ending.{Ending, served, listener_fault, closing_fault, serving, report_of, status_of, cut_status_of, IsReported}
+use Rattle.vault_top.specs.Ending.{Ending, bad_words, bad_secret, secret_fault, no_root, folder_fault, no_memory, served, listener_fault, closing_fault, no_memory_to_report, serving, report_of, status_of, cut_status_of, IsReported}
 use Rattle.vault_top.specs.Writing.{AreCounts, TakesPart, IsWritten}
 use Rattle.vault_top.specs.Serving.{Share, HasServedVault, HasOutcome, FailedIn, AreCounted, MayEnd, EndsServing}
-use Rattle.vault_top.specs.declared.report.Counts.{Counts}
+use Rattle.vault_top.specs.declared.report.SessionCounts.{SessionCounts}
 use Rattle.vault_top.specs.declared.serving.Outcome.{Outcome}
 use Rattle.vault_top.specs.declared.serving.Outcome.TheVariants.{Served, ListenerFault, FolderFault}
 use Rattle.vault_top.proofs.Shares.{gave_as}
 use Rattle.vault_top.proofs.Written.{written_then, written_not, written_as}
 
-pub counts_of : (ends : List SessionEnd) (outcome : Outcome) (counts : Counts) → outcome ≡ Served counts → AreCounted ends outcome → AreCounts counts ends
+pub counts_of : (ends : List SessionEnd) (outcome : Outcome) (counts : SessionCounts) → outcome ≡ Served counts → AreCounted ends outcome → AreCounts counts ends
 counts_of ends outcome counts e h = subst (λ o. AreCounted ends o) e h
 
 pub may_end : (ends : List SessionEnd) (outcome other : Outcome) (ending : Ending) → outcome ≡ other → MayEnd ends other ending → MayEnd ends outcome ending
@@ -26,10 +26,10 @@ counted_in F G ends (Served counts) h = h
 counted_in F G ends ListenerFault h = tt
 counted_in F G ends FolderFault h = tt
 
-vault_as : {C D E : Type 0} (share : Share C) (F G : Type 0) (disk_of : D → Option Disk) (faults_of : D → ℕ) (entropy_faults_of : E → ℕ) (store : Store D) (entropy : E) (kept : D) (entropy' : E)
-    (ends : List SessionEnd) → (F → G) → HasServedVault share F disk_of faults_of entropy_faults_of store entropy kept entropy' ends
-    → HasServedVault share G disk_of faults_of entropy_faults_of store entropy kept entropy' ends
-vault_as share F G disk_of faults_of entropy_faults_of store entropy kept entropy' ends only h =
+vault_as : {C D E : Type 0} (share : Share C) (F G : Type 0) (disk_of : D → Option Disk) (faults_of : D → ℕ) (entropy_faults_of : E → ℕ) (drawn_of : E → Option (List ℕ)) (store : Store D) (entropy : E) (kept : D) (entropy' : E)
+    (ends : List SessionEnd) → (F → G) → HasServedVault share F disk_of faults_of entropy_faults_of drawn_of store entropy kept entropy' ends
+    → HasServedVault share G disk_of faults_of entropy_faults_of drawn_of store entropy kept entropy' ends
+vault_as share F G disk_of faults_of entropy_faults_of drawn_of store entropy kept entropy' ends only h =
     record {
       links = h.links;
       asked = h.asked;
@@ -48,20 +48,20 @@ vault_as share F G disk_of faults_of entropy_faults_of store entropy kept entrop
     }
 
 -- an ending that an outcome comes to has its reason
-pub ends_serving : {C D E : Type 0} (share : Share C) (disk_of : D → Option Disk) (faults_of : D → ℕ) (entropy_faults_of : E → ℕ) (store : Store D) (entropy : E) (kept : D) (entropy' : E)
+pub ends_serving : {C D E : Type 0} (share : Share C) (disk_of : D → Option Disk) (faults_of : D → ℕ) (entropy_faults_of : E → ℕ) (drawn_of : E → Option (List ℕ)) (store : Store D) (entropy : E) (kept : D) (entropy' : E)
     (ends : List SessionEnd) (outcome : Outcome) (ending : Ending)
-    → HasOutcome (Rose share.faults share.faults_after) (Rose (faults_of (folder_of store)) (faults_of kept)) ends outcome
-    → HasServedVault share (FailedIn (Rose share.faults share.faults_after) outcome) disk_of faults_of entropy_faults_of store entropy kept entropy' ends
-    → MayEnd ends outcome ending → EndsServing share disk_of faults_of entropy_faults_of store entropy kept entropy' ending
-ends_serving share disk_of faults_of entropy_faults_of store entropy kept entropy' ends (Served counts) ending cause h (inl e) =
-    subst (λ x. EndsServing share disk_of faults_of entropy_faults_of store entropy kept entropy' x) (sym e) h
-ends_serving share disk_of faults_of entropy_faults_of store entropy kept entropy' ends (Served counts) ending cause h (inr e) =
-    subst (λ x. EndsServing share disk_of faults_of entropy_faults_of store entropy kept entropy' x) (sym e)
-    (vault_as share ⊥ (Rose share.faults share.faults_after) disk_of faults_of entropy_faults_of store entropy kept entropy' ends (λ no. absurd no) h)
-ends_serving share disk_of faults_of entropy_faults_of store entropy kept entropy' ends ListenerFault ending cause h e =
-    subst (λ x. EndsServing share disk_of faults_of entropy_faults_of store entropy kept entropy' x) (sym e) (h, cause)
-ends_serving share disk_of faults_of entropy_faults_of store entropy kept entropy' ends FolderFault ending cause h e =
-    subst (λ x. EndsServing share disk_of faults_of entropy_faults_of store entropy kept entropy' x) (sym e) (h, cause)
+    → (is : HasServedVault share (FailedIn (Rose share.faults share.faults_after) outcome) disk_of faults_of entropy_faults_of drawn_of store entropy kept entropy' ends)
+    → HasOutcome (Rose share.faults share.faults_after) (Rose (faults_of (folder_of is.now.store)) (faults_of kept)) ends outcome
+    → MayEnd ends outcome ending → EndsServing share disk_of faults_of entropy_faults_of drawn_of store entropy kept entropy' ending
+ends_serving share disk_of faults_of entropy_faults_of drawn_of store entropy kept entropy' ends (Served counts) ending h cause (inl e) =
+    subst (λ x. EndsServing share disk_of faults_of entropy_faults_of drawn_of store entropy kept entropy' x) (sym e) h
+ends_serving share disk_of faults_of entropy_faults_of drawn_of store entropy kept entropy' ends (Served counts) ending h cause (inr e) =
+    subst (λ x. EndsServing share disk_of faults_of entropy_faults_of drawn_of store entropy kept entropy' x) (sym e)
+    (vault_as share ⊥ (Rose share.faults share.faults_after) disk_of faults_of entropy_faults_of drawn_of store entropy kept entropy' ends (λ no. absurd no) h)
+ends_serving share disk_of faults_of entropy_faults_of drawn_of store entropy kept entropy' ends ListenerFault ending h cause e =
+    subst (λ x. EndsServing share disk_of faults_of entropy_faults_of drawn_of store entropy kept entropy' x) (sym e) (h, cause)
+ends_serving share disk_of faults_of entropy_faults_of drawn_of store entropy kept entropy' ends FolderFault ending h cause e =
+    subst (λ x. EndsServing share disk_of faults_of entropy_faults_of drawn_of store entropy kept entropy' x) (sym e) (h, cause)
 
 -- where `serving` wasn't taken whole, the ending is that of the last line that isn't written
 pub unwritten : (ends : List SessionEnd) (outcome : Outcome) → (ending : Ending) × MayEnd ends outcome ending × (cut_status_of ending ≡ 4) × (rest : List ℕ) × (report_of ending ≡ serving ++ rest)
@@ -115,10 +115,33 @@ reports_err faults_of taken_of ends outcome before after out status same same_st
     (reports_first ends outcome (faults_of before) (faults_of after) (taken_of before) (taken_of after) status failed same_status part)
 
 -- the folder's disk is as it was
-pub disk_kept : {C D E : Type 0} (share : Share C) (F : Type 0) (disk_of : D → Option Disk) (faults_of : D → ℕ) (entropy_faults_of : E → ℕ) (store : Store D) (entropy : E) (kept : D) (entropy' : E)
-    (ends : List SessionEnd) → HasServedVault share F disk_of faults_of entropy_faults_of store entropy kept entropy' ends → disk_of kept ≡ disk_of (folder_of store)
-disk_kept share F disk_of faults_of entropy_faults_of store entropy kept entropy' ends h =
+pub disk_kept : {C D E : Type 0} (share : Share C) (F : Type 0) (disk_of : D → Option Disk) (faults_of : D → ℕ) (entropy_faults_of : E → ℕ) (drawn_of : E → Option (List ℕ)) (store : Store D) (entropy : E) (kept : D) (entropy' : E)
+    (ends : List SessionEnd) → HasServedVault share F disk_of faults_of entropy_faults_of drawn_of store entropy kept entropy' ends → disk_of kept ≡ disk_of (folder_of store)
+disk_kept share F disk_of faults_of entropy_faults_of drawn_of store entropy kept entropy' ends h =
     h.disk ∙ h.answered.disk ∙ ap (λ s. disk_of (folder_of s)) h.store_is
+
+-- no random byte was drawn
+undrawn_in : {C D E : Type 0} (share : Share C) (F : Type 0) (disk_of : D → Option Disk) (faults_of : D → ℕ) (entropy_faults_of : E → ℕ) (drawn_of : E → Option (List ℕ)) (store : Store D) (entropy : E) (kept : D) (entropy' : E)
+    (ends : List SessionEnd) → HasServedVault share F disk_of faults_of entropy_faults_of drawn_of store entropy kept entropy' ends → drawn_of entropy' ≡ drawn_of entropy
+undrawn_in share F disk_of faults_of entropy_faults_of drawn_of store entropy kept entropy' ends h =
+    sym (ap drawn_of h.left) ∙ h.answered.drawn ∙ ap drawn_of h.entropy_is
+
+pub undrawn : {C D E : Type 0} (share : Share C) (disk_of : D → Option Disk) (faults_of : D → ℕ) (entropy_faults_of : E → ℕ) (drawn_of : E → Option (List ℕ)) (store : Store D) (entropy : E) (kept : D) (entropy' : E)
+    (ending : Ending) → EndsServing share disk_of faults_of entropy_faults_of drawn_of store entropy kept entropy' ending → drawn_of entropy' ≡ drawn_of entropy
+undrawn share disk_of faults_of entropy_faults_of drawn_of store entropy kept entropy' (served ends) h =
+    undrawn_in share ⊥ disk_of faults_of entropy_faults_of drawn_of store entropy kept entropy' ends h
+undrawn share disk_of faults_of entropy_faults_of drawn_of store entropy kept entropy' (listener_fault ends) h =
+    undrawn_in share (Rose share.faults share.faults_after) disk_of faults_of entropy_faults_of drawn_of store entropy kept entropy' ends h.0
+undrawn share disk_of faults_of entropy_faults_of drawn_of store entropy kept entropy' (closing_fault ends) h =
+    undrawn_in share (Rose share.faults share.faults_after) disk_of faults_of entropy_faults_of drawn_of store entropy kept entropy' ends h.0
+undrawn share disk_of faults_of entropy_faults_of drawn_of store entropy kept entropy' (no_memory_to_report ends) h =
+    undrawn_in share (Rose share.faults share.faults_after) disk_of faults_of entropy_faults_of drawn_of store entropy kept entropy' ends h
+undrawn share disk_of faults_of entropy_faults_of drawn_of store entropy kept entropy' bad_words h = absurd h
+undrawn share disk_of faults_of entropy_faults_of drawn_of store entropy kept entropy' bad_secret h = absurd h
+undrawn share disk_of faults_of entropy_faults_of drawn_of store entropy kept entropy' secret_fault h = absurd h
+undrawn share disk_of faults_of entropy_faults_of drawn_of store entropy kept entropy' no_root h = absurd h
+undrawn share disk_of faults_of entropy_faults_of drawn_of store entropy kept entropy' folder_fault h = absurd h
+undrawn share disk_of faults_of entropy_faults_of drawn_of store entropy kept entropy' no_memory h = absurd h
 
 -- a list and its first item
 pub first_item : {X : Type 0} (xs others : List X) (x : X) → 1 ≤ length xs → x ≡ get_or xs 0 x → others ≡ drop 1 xs → xs ≡ x ∷ others

@@ -1,12 +1,11 @@
 -- A worker's share: no link, or one.
-use Rattle.std.proofs.Common.{◌≡◌, ℕ, ◌≤◌, List, [], ◌∷◌, ◌++◌, length, Option, Some, None, refl, sym, ap, subst, ◌∙◌, ◌⊎◌, inl, inr, arith}
+use Rattle.std.proofs.Common.{◌≡◌, ℕ, ◌≤◌, List, [], ◌∷◌, ◌++◌, length, Option, Some, None, refl, sym, subst, ◌∙◌, ◌⊎◌, inl, inr, arith}
 use Rattle.std.specs.List.{AllByRecursion}
 use Rattle.std.proofs.lemmas.List.{append-nil}
-use Rattle.outside.specs.Calls.{Rose, Told, Changes}
+use Rattle.outside.specs.Calls.{Told, Changes}
 use Rattle.outside.specs.Disk.{Disk}
 use Rattle.tree_model.specs.Asked.{Asked}
 use Rattle.session_server.specs.declared.ending.SessionEnd.{SessionEnd}
-use Rattle.session_server.proofs.Links.{rose_later}
 use Rattle.vault_store.specs.Store.{folder_of}
 use Rattle.vault_store.specs.Served.{HasAnswered}
 use Rattle.vault_store.specs.declared.store.Store.{Store}
@@ -120,16 +119,16 @@ failed_as F F' ListenerFault link h = link h
 failed_as F F' FolderFault link h = link h
 
 -- what a store has answered since a time when it had answered nothing
-abbrev Answers : {D E : Type 0} → (D → Option Disk) → (D → ℕ) → (E → ℕ) → Alone D E → Stands (Alone D E)
-Answers disk_of faults_of entropy_faults_of now start asked = HasAnswered disk_of faults_of entropy_faults_of start now asked
+abbrev pub Answers : {D E : Type 0} → (D → Option Disk) → (D → ℕ) → (E → ℕ) → (E → Option (List ℕ)) → Alone D E → Stands (Alone D E)
+Answers disk_of faults_of entropy_faults_of drawn_of now start asked = HasAnswered disk_of faults_of entropy_faults_of drawn_of start now asked
 
-pub vault_served : {C D E : Type 0} (share : Share C) (F F' : Type 0) (disk_of : D → Option Disk) (faults_of : D → ℕ) (entropy_faults_of : E → ℕ)
+abbrev pub vault_served : {C D E : Type 0} (share : Share C) (F F' : Type 0) (disk_of : D → Option Disk) (faults_of : D → ℕ) (entropy_faults_of : E → ℕ) (drawn_of : E → Option (List ℕ))
     (store : Store D) (entropy : E) (start now : Alone D E) (kept : D) (ends : List SessionEnd) → (F → F') → start.store ≡ store → start.entropy ≡ entropy
-    → HasServed share F (Answers disk_of faults_of entropy_faults_of start) (Answers disk_of faults_of entropy_faults_of now) ends
-    → HasAnswered disk_of faults_of entropy_faults_of start start []
+    → HasServed share F (Answers disk_of faults_of entropy_faults_of drawn_of start) (Answers disk_of faults_of entropy_faults_of drawn_of now) ends
+    → HasAnswered disk_of faults_of entropy_faults_of drawn_of start start []
     → disk_of kept ≡ disk_of (folder_of now.store) → faults_of (folder_of now.store) ≤ faults_of kept
-    → HasServedVault share F' disk_of faults_of entropy_faults_of store entropy kept now.entropy ends
-vault_served share F F' disk_of faults_of entropy_faults_of store entropy start now kept ends only store_is entropy_is served none disk folder = record {
+    → HasServedVault share F' disk_of faults_of entropy_faults_of drawn_of store entropy kept now.entropy ends
+vault_served share F F' disk_of faults_of entropy_faults_of drawn_of store entropy start now kept ends only store_is entropy_is served none disk folder = record {
   links = served.links;
   asked = served.asked;
   gave = gave_as 1 F F' share.listener served.links only served.gave;
@@ -145,11 +144,3 @@ vault_served share F F' disk_of faults_of entropy_faults_of store entropy start 
   folder = folder;
   left = refl;
 }
-
--- the folder's count rose since the store was given over
-pub rose_since : {D E : Type 0} (disk_of : D → Option Disk) (faults_of : D → ℕ) (entropy_faults_of : E → ℕ) (store : Store D) (start now : Alone D E) (asked : List Asked) (count : ℕ)
-    → start.store ≡ store → HasAnswered disk_of faults_of entropy_faults_of start now asked → Rose (faults_of (folder_of now.store)) count
-    → Rose (faults_of (folder_of store)) count
-rose_since disk_of faults_of entropy_faults_of store start now asked count same answered h =
-    let before : faults_of (folder_of start.store) ≡ faults_of (folder_of store) = ap (λ s. faults_of (folder_of s)) same in
-    rose_later _ _ _ (omega (arith, answered.folder)) h

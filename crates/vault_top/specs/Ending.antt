@@ -1,14 +1,15 @@
 -- How the program ends: what each ending's cause is, its report and its status.
-use Rattle.std.specs.Prelude.{◌≡◌, ◌⊎◌, ℕ, ◌<◌, List, ◌++◌, length, map, codes, Option, None, IsSome, IsSomeAnd}
+use Rattle.std.specs.Prelude.{◌≡◌, ◌⊎◌, ℕ, ◌<◌, ◌≤◌, List, ◌++◌, length, map, codes, Option, Some, None}
+use Rattle.siv_mode.specs.Keys.{KeyPair}
 use Rattle.outside.specs.Calls.{Rose, Told, Changes}
 use Rattle.outside.specs.Disk.{Disk, IsFolder}
 use Rattle.tree_model.specs.Asked.{Asked}
 use Rattle.session_server.specs.declared.ending.SessionEnd.{SessionEnd}
 use Rattle.vault_layout.specs.Clear.{root_folder}
 use Rattle.vault_top.specs.Words.{AreWords}
-use Rattle.vault_top.specs.Secret.{line_of, raw_keys, IsAfterLine}
+use Rattle.vault_top.specs.Secret.{line_of, raw_keys, IsAfterLine, IsBegun}
 use Rattle.vault_top.specs.Report.{line, sessions_line}
-use Rattle.vault_top.specs.Served.{LinkView, ServedLink, TalkedOnEach, ListenerSpan, GaveBack, Counts, IsHistory}
+use Rattle.vault_top.specs.Served.{LinkView, ServedLink, TalkedOnEach, ListenerSpan, GaveBack, FaultCounts, until, IsHistory}
 
 -- the endings; those of a vault that was served say how its sessions ended
 pub data Ending : Type 0 where
@@ -36,23 +37,27 @@ pub record Span (C : Type 0) : Type 0 where
   pub listener : ListenerSpan C
   pub listener_faults : ℕ
   pub listener_faults_after : ℕ
-  pub counts : Counts
+  pub counts : FaultCounts
 
--- the secret's line has keys, and only that line was taken
-pub record IsUnlocked {C : Type 0} (span : Span C) : Type 0 where
+-- the words are the job's, the secret's line has these keys, and that line alone was taken
+pub record IsUnlocked {C : Type 0} (span : Span C) (keys : KeyPair) : Type 0 where
   pub words : AreWords span.words
-  pub keys : Told span.secret (λ bytes. IsSome (raw_keys (line_of bytes)))
+  pub spelled : Told span.secret (λ bytes. raw_keys (line_of bytes) ≡ Some keys)
   pub line : Changes span.secret span.secret_after IsAfterLine
 
 -- The vault was served: there are the links that came and were given back, a talk on each of them, and one legal history of the tree that the
--- disk stands for under the secret's keys, which is what was asked in these talks, in order.
+-- disk stands for under the secret's keys, which is what was asked in these talks, in order. `folder_faults` is the count of the folder's faults
+-- after the last request, before the vault was closed.
 pub record IsServed {C : Type 0} (view : LinkView C) (span : Span C) (listener_failed : Type 0) (ends : List SessionEnd) : Type 0 where
-  pub unlocked : IsUnlocked span
+  pub keys : KeyPair
+  pub unlocked : IsUnlocked span keys
   pub links : List (ServedLink C)
   pub asked : List Asked
   pub gave : GaveBack 1 listener_failed span.listener links
   pub talked : TalkedOnEach view links asked
-  pub history : Told span.secret (λ bytes. IsSomeAnd (raw_keys (line_of bytes)) (λ keys. Told span.disk (λ disk. IsHistory keys disk span.second span.counts asked)))
+  pub folder_faults : ℕ
+  pub between : (span.counts.folder ≤ folder_faults) × (folder_faults ≤ span.counts.folder_after)
+  pub history : Told span.disk (λ disk. IsHistory keys disk span.second (until span.counts folder_faults) asked)
   pub ended : map (λ link. link.end) links ≡ ends
 
 -- no link was taken
@@ -61,20 +66,22 @@ IsUntaken span = (span.to_come_after ≡ span.to_come) × (span.given_after ≡ 
 
 -- why an ending comes
 abbrev pub HasReason : {C : Type 0} → LinkView C → Span C → Ending → Type 0
-HasReason view span bad_words = (AreWords span.words → ⊥) × IsUntaken span.listener
-HasReason view span bad_secret = AreWords span.words × Told span.secret (λ bytes. raw_keys (line_of bytes) ≡ None) × IsUntaken span.listener
-HasReason view span secret_fault = AreWords span.words × Rose span.secret_faults span.secret_faults_after × IsUntaken span.listener
+HasReason view span bad_words = (AreWords span.words → ⊥) × (span.secret_after ≡ span.secret) × IsUntaken span.listener
+HasReason view span bad_secret =
+    AreWords span.words × Told span.secret (λ bytes. raw_keys (line_of bytes) ≡ None)
+    × Changes span.secret span.secret_after IsBegun × IsUntaken span.listener
+HasReason view span secret_fault =
+    AreWords span.words × Rose span.secret_faults span.secret_faults_after
+    × Changes span.secret span.secret_after IsBegun × IsUntaken span.listener
 HasReason view span no_root =
-    IsUnlocked span
-    × Told span.secret (λ bytes. IsSomeAnd (raw_keys (line_of bytes)) (λ keys. Told span.disk (λ disk. ¬ (IsFolder disk (root_folder keys)))))
-    × IsUntaken span.listener
-HasReason view span folder_fault = IsUnlocked span × Rose span.counts.folder span.counts.folder_after × IsUntaken span.listener
-HasReason view span no_memory = IsUnlocked span × IsUntaken span.listener
+    (keys : KeyPair) × IsUnlocked span keys × Told span.disk (λ disk. ¬ (IsFolder disk (root_folder keys))) × IsUntaken span.listener
+HasReason view span folder_fault = (keys : KeyPair) × IsUnlocked span keys × Rose span.counts.folder span.counts.folder_after × IsUntaken span.listener
+HasReason view span no_memory = (keys : KeyPair) × IsUnlocked span keys × IsUntaken span.listener
 HasReason view span (served ends) = IsServed view span ⊥ ends
 HasReason view span (listener_fault ends) =
     IsServed view span (Rose span.listener_faults span.listener_faults_after) ends × Rose span.listener_faults span.listener_faults_after
 HasReason view span (closing_fault ends) =
-    IsServed view span (Rose span.listener_faults span.listener_faults_after) ends × Rose span.counts.folder span.counts.folder_after
+    (is : IsServed view span (Rose span.listener_faults span.listener_faults_after) ends) × Rose is.folder_faults span.counts.folder_after
 HasReason view span (no_memory_to_report ends) = IsServed view span (Rose span.listener_faults span.listener_faults_after) ends
 
 -- ---- reports and statuses

@@ -9,7 +9,7 @@ use Rattle.vault_store.specs.declared.store.Store.{Store}
 use Rattle.vault_store.specs.declared.opening.OpenErr.{OpenErr}
 use Rattle.vault_store.specs.declared.opening.OpenErr.TheVariants as open_errs
 use Rattle.vault_top.specs.Words.{AreWords}
-use Rattle.vault_top.specs.Secret.{line_of, raw_keys, IsAfterLine}
+use Rattle.vault_top.specs.Secret.{line_of, raw_keys, IsAfterLine, IsBegun}
 use Rattle.vault_top.specs.Ending.{Ending, bad_words, bad_secret, secret_fault, no_root, folder_fault, no_memory}
 use Rattle.vault_top.specs.declared.secret.SecretErr.{SecretErr}
 use Rattle.vault_top.specs.declared.secret.SecretErr.TheVariants as secret_errs
@@ -52,9 +52,11 @@ pub record IsUnlocking (inputs : Inputs) (keys : KeyPair) : Type 0 where
 
 -- why a refusal comes
 abbrev pub IsRefused : Inputs → Refusal → Type 0
-IsRefused inputs Words = AreWords inputs.words → ⊥
-IsRefused inputs Secret = AreWords inputs.words × Told inputs.secret (λ bytes. raw_keys (line_of bytes) ≡ None)
-IsRefused inputs SecretFault = AreWords inputs.words × Rose inputs.secret_faults inputs.secret_faults_after
+IsRefused inputs Words = (AreWords inputs.words → ⊥) × (inputs.secret_after ≡ inputs.secret)
+IsRefused inputs Secret =
+    AreWords inputs.words × Told inputs.secret (λ bytes. raw_keys (line_of bytes) ≡ None) × Changes inputs.secret inputs.secret_after IsBegun
+IsRefused inputs SecretFault =
+    AreWords inputs.words × Rose inputs.secret_faults inputs.secret_faults_after × Changes inputs.secret inputs.secret_after IsBegun
 IsRefused inputs NoRoot = (keys : KeyPair) × IsUnlocking inputs keys × Told inputs.disk (λ disk. ¬ (IsFolder disk (root_folder keys)))
 IsRefused inputs FolderFault = (keys : KeyPair) × IsUnlocking inputs keys × Rose inputs.folder_faults inputs.folder_faults_after
 IsRefused inputs Memory = (keys : KeyPair) × IsUnlocking inputs keys

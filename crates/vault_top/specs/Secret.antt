@@ -1,5 +1,5 @@
 -- The secret: a line of 128 hexadecimal digits, the encryption key and then the MAC key.
-use Rattle.std.specs.Prelude.{◌≡◌, ◌⊎◌, ℕ, List, [], ◌∷◌, ◌++◌, length, take, drop, Option, None, ◌==◌, if◌then◌else◌}
+use Rattle.std.specs.Prelude.{◌≡◌, ◌⊎◌, ℕ, ◌≤◌, List, [], ◌∷◌, ◌++◌, length, take, drop, Option, None, ◌==◌, if◌then◌else◌}
 use Rattle.std.specs.Option.{option_map}
 use Rattle.std.specs.Result.{result_ok}
 use Rattle.std.specs.List.{before_first}
@@ -17,6 +17,14 @@ pair_of keys = record { enc = take 32 keys; mac = drop 32 keys }
 -- the keys of a line, and None where it isn't 128 hexadecimal digits
 unfoldable pub raw_keys : List ℕ → Option KeyPair
 raw_keys line = if length line == 128 then option_map pair_of (result_ok (decode_of line)) else None
+
+-- at most n bytes were taken from the front
+abbrev pub TakesAtMost : ℕ → List ℕ → List ℕ → Type 0
+TakesAtMost n bytes left = (taken : List ℕ) × (bytes ≡ taken ++ left) × (length taken ≤ n)
+
+-- what is taken of a secret without keys: no more than the digits of two keys and one byte
+abbrev pub IsBegun : List ℕ → List ℕ → Type 0
+IsBegun bytes left = TakesAtMost 129 bytes left
 
 -- what is left after a line whose keys are good: its LF was taken, if there is one, and nothing after it
 abbrev pub IsAfterLine : List ℕ → List ℕ → Type 0

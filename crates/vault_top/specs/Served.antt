@@ -58,15 +58,24 @@ pub record GaveBack {C : Type 0} (share : ℕ) (failed : Type 0) (span : Listene
   pub given : Changes span.given span.given_after (λ old new. new ≡ old ++ map (λ link. link.given) links)
 
 -- counts of faults of the folder and of the caller's random source, before and after
-pub record Counts : Type 0 where
+pub record FaultCounts : Type 0 where
   pub folder : ℕ
   pub folder_after : ℕ
   pub entropy : ℕ
   pub entropy_after : ℕ
 
+-- the same counts, where the folder's is this one after
+abbrev pub until : FaultCounts → ℕ → FaultCounts
+until counts folder_after = record {
+  folder = counts.folder;
+  folder_after = folder_after;
+  entropy = counts.entropy;
+  entropy_after = counts.entropy_after;
+}
+
 -- A legal history of the rows that the disk stands for, within these counts of faults, in which this was asked by the one caller. Where the
 -- clock tells its second, it is that of unlocking and of each request.
-pub record IsHistory (keys : KeyPair) (disk : Disk) (second : Option ℕ) (counts : Counts) (asked : List Asked) : Type 0 where
+pub record IsHistory (keys : KeyPair) (disk : Disk) (second : Option ℕ) (counts : FaultCounts) (asked : List Asked) : Type 0 where
   pub unlocked : ℕ
   pub origin : Origin
   pub entries : List Entry

@@ -41,7 +41,7 @@ pub record HasServed {C X : Type 0} (share : Share C) (failed : Type 0) (stands 
   pub ended : map (λ link. link.end) links ≡ ends
 
 -- a share was served over an open vault with a random source, and the vault was closed then
-pub record HasServedVault {C D E : Type 0} (share : Share C) (failed : Type 0) (disk_of : D → Option Disk) (faults_of : D → ℕ) (entropy_faults_of : E → ℕ)
+pub record HasServedVault {C D E : Type 0} (share : Share C) (failed : Type 0) (disk_of : D → Option Disk) (faults_of : D → ℕ) (entropy_faults_of : E → ℕ) (drawn_of : E → Option (List ℕ))
     (store : Store D) (entropy : E) (kept : D) (entropy' : E) (ends : List SessionEnd) : Type 0 where
   pub links : List (ServedLink C)
   pub asked : List Asked
@@ -53,7 +53,7 @@ pub record HasServedVault {C D E : Type 0} (share : Share C) (failed : Type 0) (
   pub now : Alone D E
   pub store_is : start.store ≡ store
   pub entropy_is : start.entropy ≡ entropy
-  pub answered : HasAnswered disk_of faults_of entropy_faults_of start now asked
+  pub answered : HasAnswered disk_of faults_of entropy_faults_of drawn_of start now asked
   pub disk : disk_of kept ≡ disk_of (folder_of now.store)
   pub folder : faults_of (folder_of now.store) ≤ faults_of kept
   pub left : now.entropy ≡ entropy'
@@ -81,14 +81,14 @@ MayEnd ends outcomes.ListenerFault ending = ending ≡ listener_fault ends
 MayEnd ends outcomes.FolderFault ending = ending ≡ closing_fault ends
 
 -- why an ending of a vault that was served comes
-abbrev pub EndsServing : {C D E : Type 0} → Share C → (D → Option Disk) → (D → ℕ) → (E → ℕ) → Store D → E → D → E → Ending → Type 0
-EndsServing share disk_of faults_of entropy_faults_of store entropy kept entropy' (served ends) =
-    HasServedVault share ⊥ disk_of faults_of entropy_faults_of store entropy kept entropy' ends
-EndsServing share disk_of faults_of entropy_faults_of store entropy kept entropy' (listener_fault ends) =
-    HasServedVault share (Rose share.faults share.faults_after) disk_of faults_of entropy_faults_of store entropy kept entropy' ends × Rose share.faults share.faults_after
-EndsServing share disk_of faults_of entropy_faults_of store entropy kept entropy' (closing_fault ends) =
-    HasServedVault share (Rose share.faults share.faults_after) disk_of faults_of entropy_faults_of store entropy kept entropy' ends
-    × Rose (faults_of (folder_of store)) (faults_of kept)
-EndsServing share disk_of faults_of entropy_faults_of store entropy kept entropy' (no_memory_to_report ends) =
-    HasServedVault share (Rose share.faults share.faults_after) disk_of faults_of entropy_faults_of store entropy kept entropy' ends
-EndsServing share disk_of faults_of entropy_faults_of store entropy kept entropy' ending = ⊥
+abbrev pub EndsServing : {C D E : Type 0} → Share C → (D → Option Disk) → (D → ℕ) → (E → ℕ) → (E → Option (List ℕ)) → Store D → E → D → E → Ending → Type 0
+EndsServing share disk_of faults_of entropy_faults_of drawn_of store entropy kept entropy' (served ends) =
+    HasServedVault share ⊥ disk_of faults_of entropy_faults_of drawn_of store entropy kept entropy' ends
+EndsServing share disk_of faults_of entropy_faults_of drawn_of store entropy kept entropy' (listener_fault ends) =
+    HasServedVault share (Rose share.faults share.faults_after) disk_of faults_of entropy_faults_of drawn_of store entropy kept entropy' ends × Rose share.faults share.faults_after
+EndsServing share disk_of faults_of entropy_faults_of drawn_of store entropy kept entropy' (closing_fault ends) =
+    (is : HasServedVault share (Rose share.faults share.faults_after) disk_of faults_of entropy_faults_of drawn_of store entropy kept entropy' ends)
+    × Rose (faults_of (folder_of is.now.store)) (faults_of kept)
+EndsServing share disk_of faults_of entropy_faults_of drawn_of store entropy kept entropy' (no_memory_to_report ends) =
+    HasServedVault share (Rose share.faults share.faults_after) disk_of faults_of entropy_faults_of drawn_of store entropy kept entropy' ends
+EndsServing share disk_of faults_of entropy_faults_of drawn_of store entropy kept entropy' ending = ⊥

@@ -1,5 +1,5 @@
 -- What the program is given that is sound: good words, a secret with keys, and a disk with the root's folder, all told; and that nothing failed.
-use Rattle.std.specs.Prelude.{◌≡◌, ℕ, List, Option, Some, IsSomeAnd, ⊤}
+use Rattle.std.specs.Prelude.{IsSomeAnd, ⊤}
 use Rattle.outside.specs.Calls.{Rose}
 use Rattle.outside.specs.Disk.{IsFolder}
 use Rattle.vault_layout.specs.Clear.{root_folder}

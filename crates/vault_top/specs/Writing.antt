@@ -3,7 +3,7 @@ use Rattle.std.specs.Prelude.{◌≡◌, ◌⊎◌, ℕ, ◌<◌, List, ◌++◌
 use Rattle.outside.specs.Calls.{Changes}
 use Rattle.session_server.specs.declared.ending.SessionEnd.{SessionEnd}
 use Rattle.vault_top.specs.Report.{is_done, is_cut, is_bad, is_read_fault, is_write_fault, is_memory, is_limit, count_of}
-use Rattle.vault_top.specs.declared.report.Counts.{Counts}
+use Rattle.vault_top.specs.declared.report.SessionCounts.{SessionCounts}
 
 -- a part from a text's front was taken, and not all of it
 abbrev pub TakesPart : List ℕ → List ℕ → List ℕ → Type 0
@@ -15,7 +15,7 @@ IsWritten failed taken taken' text whole cut status =
     ((status ≡ whole) × Changes taken taken' (λ old new. new ≡ old ++ text)) ⊎ (failed × (status ≡ cut) × Changes taken taken' (TakesPart text))
 
 -- how many sessions there were, and how many of them ended in each way
-pub record AreCounts (counts : Counts) (ends : List SessionEnd) : Type 0 where
+pub record AreCounts (counts : SessionCounts) (ends : List SessionEnd) : Type 0 where
   pub sessions : counts.sessions ≡ length ends
   pub done : counts.done ≡ count_of is_done ends
   pub cut : counts.cut ≡ count_of is_cut ends

@@ -11,7 +11,7 @@ use outside::{Clock, Folder, Source};
 use std::alloc::Global;
 use vault_store::{Refused, Store};
 
-/// The length of a sealed name, in characters, from which on it is shortened.
+/// The length of the longest sealed name, in characters, that isn't shortened.
 const SHORTENING_THRESHOLD: u32 = 220;
 
 /// Reads the words and the secret, and opens the vault in a folder.

@@ -35,18 +35,24 @@ pub struct Ended<D> {
 /// Runs the program: reads the words after its name and the secret, opens the vault in `folder`, serves one link of the first worker, and
 /// writes the report to `out`. Of a secret with good keys its line alone is taken. The folder is given back, and nothing in it is changed.
 ///
-/// | status | line | comes |
+/// | status | report | comes |
 /// |---|---|---|
-/// | 0 | `serving`, then `sessions N done a cut b bad c read d write e memory f limit g` | the vault was served, and every line taken |
+/// | 0 | `serving`, then `sessions N done a cut b bad c read d write e memory f limit g` | the vault was served |
 /// | 1 | `bad words` | exactly where the words aren't `serve DIR --listen - --sessions 1 --at-once 1 --raw-key` |
 /// | 2 | `bad secret` | the secret's line isn't 128 hexadecimal digits |
 /// | 3 | `vault refused: no root` | the root's folder is absent |
-/// | 4 | `device fault: secret` or `device fault: folder`; no line after the sink failed | the count of faults of the secret, the folder or the sink rose |
-/// | 5 | `out of memory` | memory ran out |
+/// | 4 | `device fault: secret` | the secret's count of faults rose |
+/// | 4 | `device fault: folder` | the folder's count of faults rose before the vault was open |
+/// | 4 | `serving`, then `device fault: folder` | the folder's count of faults rose as the vault was closed |
+/// | 5 | `out of memory` | memory ran out before the vault was open |
+/// | 5 | `serving`, then `out of memory` | the vault was served, and memory for the last line ran out |
 /// | 7 | `serving`, then `listener fault` | the listener's count of faults rose |
 ///
-/// `gate` is passed by no session yet.
-pub fn run<D: Folder, N: Listener, E: Entropy, S: Source, O: Sink, K: Clock, G: Gate>(
+/// Where the sink failed, it took a part of the report; the status is then 4 in place of 0 and 7, and else the same.
+///
+/// `rt` starts no thread yet, and `gate` is passed by no session.
+pub fn run<R, D: Folder, N: Listener, E: Entropy, S: Source, O: Sink, K: Clock, G: Gate>(
+    rt: &R,
     alloc: Global,
     words: &[String],
     folder: D,
@@ -61,6 +67,7 @@ pub fn run<D: Folder, N: Listener, E: Entropy, S: Source, O: Sink, K: Clock, G: 
     ensures ending { (ending : Ending) × (kept : D) × (before : Worker N E) × (after : Worker N E) × (others : List (Worker N E))
         × (result.folder ≡ Some kept) × (D.disk kept ≡ D.disk folder)
         × (workers.old.items ≡ before ∷ others) × (workers.new.items ≡ after ∷ others)
+        × (E.drawn after.entropy ≡ E.drawn before.entropy)
         × HasReason
         (record { left = N.Conn.left; taken = N.Conn.taken; read_faults = N.Conn.read_faults; write_faults = N.Conn.write_faults })
         (record {
@@ -89,6 +96,7 @@ pub fn run<D: Folder, N: Listener, E: Entropy, S: Source, O: Sink, K: Clock, G: 
         ending
         × IsReported (Rose (O.faults out.old) (O.faults out.new)) (O.taken out.old) (O.taken out.new) ending result.status }
 {
+    let _ = rt;
     let _ = gate;
     match open_vault(alloc, words, folder, secret, clock) {
         Ok(store) => serve_vault(alloc, store, workers, out, clock),
@@ -125,7 +133,7 @@ fn serve_vault<D: Folder, N: Listener, E: Entropy, O: Sink, K: Clock>(
           faults_after = N.faults after.listener;
           second = K.second clock.now;
         })
-        D.disk D.faults E.faults store before.entropy kept after.entropy ending
+        D.disk D.faults E.faults E.drawn store before.entropy kept after.entropy ending
         × IsReported (Rose (O.faults out.old) (O.faults out.new)) (O.taken out.old) (O.taken out.new) ending result.status }
 {
     let serving = announce(out);

@@ -38,7 +38,7 @@ pub(crate) fn report<O: Sink>(out: &mut O, text: &[u8], whole: u8, cut: u8) -> u
 
 /// How many sessions there were, and how many of them ended in each way.
 #[derive(Clone, Copy, Debug, Default, PartialEq, Eq)]
-pub(crate) struct Counts {
+pub(crate) struct SessionCounts {
     sessions: u32,
     done: u32,
     cut: u32,
@@ -49,16 +49,16 @@ pub(crate) struct Counts {
     limit: u32,
 }
 
-impl Counts {
+impl SessionCounts {
     ghost use Rattle.std.specs.Prelude.{◌≡◌, List, IfOk, string_bytes, option_to_list};
     ghost use Rattle.vault_top.specs.Report.{sessions_line};
     ghost use Rattle.vault_top.specs.Writing.{AreCounts};
 
     /// The counts of one session, or of none.
-    pub(crate) fn of(end: Option<SessionEnd>) -> Counts
+    pub(crate) fn of(end: Option<SessionEnd>) -> SessionCounts
         ensures { AreCounts result (option_to_list end) }
     {
-        let mut counts = Counts::default();
+        let mut counts = SessionCounts::default();
         let Some(end) = end else {
             return counts;
         };

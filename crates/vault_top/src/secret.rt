@@ -1,6 +1,6 @@
-ghost use Rattle.std.specs.Prelude.{◌≡◌, ◌<◌, ◌≤◌, length, take, drop, Some, None, IfOk, OnOk, OnErr, IsErr, IsErrOf};
+ghost use Rattle.std.specs.Prelude.{◌≡◌, ◌+◌, ◌<◌, ◌≤◌, length, take, drop, Some, None, IfOk, OnOk, OnErr, IsErr, IsErrOf};
 ghost use Rattle.outside.specs.Calls.{HasCause, Told, Changes};
-ghost use Rattle.vault_top.specs.Secret.{line_of, raw_keys, IsAfterLine};
+ghost use Rattle.vault_top.specs.Secret.{line_of, raw_keys, IsAfterLine, IsBegun, TakesAtMost};
 ghost use Rattle.vault_top.specs.Reading.{HasLine, HasNext};
 
 use outside::{Failed, Source};
@@ -40,6 +40,7 @@ pub(crate) fn read_keys<S: Source>(secret: &mut S) -> Result<VaultKeys, SecretEr
     ensures keys { IfOk result (λ keys. Told (S.left secret.old) (λ bytes. raw_keys (line_of bytes) ≡ Some keys)) }
     ensures left { OnOk result (Changes (S.left secret.old) (S.left secret.new) IsAfterLine) }
     ensures bad { IsErrOf result SecretErr.Bad → Told (S.left secret.old) (λ bytes. raw_keys (line_of bytes) ≡ None) }
+    ensures begun { OnErr result (Changes (S.left secret.old) (S.left secret.new) IsBegun) }
     ensures cause { HasCause (S.faults secret.old) (S.faults secret.new) (IsErrOf result SecretErr.Device) }
 {
     let mut line = [0u8; DIGITS];
@@ -59,6 +60,7 @@ fn read_line<S: Source>(secret: &mut S, line: &mut [u8]) -> Result<usize, Secret
     ensures count { IfOk result (λ count. count ≤ length line.old) }
     ensures line { IfOk result (λ count. Changes (S.left secret.old) (S.left secret.new) (HasLine (take count line.new))) }
     ensures long { IsErrOf result SecretErr.Bad → Told (S.left secret.old) (λ bytes. length line.old < length (line_of bytes)) }
+    ensures begun { OnErr result (Changes (S.left secret.old) (S.left secret.new) (TakesAtMost (length line.old + 1))) }
     ensures cause { HasCause (S.faults secret.old) (S.faults secret.new) (IsErrOf result SecretErr.Device) }
 {
     let mut count = 0;

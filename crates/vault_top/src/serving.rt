@@ -6,7 +6,7 @@ ghost use Rattle.vault_store.specs.Store.{folder_of};
 ghost use Rattle.vault_top.specs.Serving.{ends_of, HasServed, HasServedVault, FailedIn, HasOutcome};
 
 use crate::program::Worker;
-use crate::report::Counts;
+use crate::report::SessionCounts;
 use outside::{Clock, Entropy, Failed, Folder, Listener};
 use session_server::{SessionEnd, serve_session};
 use std::alloc::Global;
@@ -16,7 +16,7 @@ use vault_store::{Alone, Store};
 /// What serving came to.
 #[derive(Clone, Copy, Debug, PartialEq, Eq)]
 pub(crate) enum Outcome {
-    Served(Counts),
+    Served(SessionCounts),
     /// The listener failed.
     ListenerFault,
     /// The vault's folder failed as it was closed.
@@ -73,8 +73,7 @@ pub(crate) fn serve_worker<D: Folder, N: Listener, E: Entropy, K: Clock>(
     clock: &K,
 ) -> HandedBack<D, N, E>
     ensures { (ends : List SessionEnd)
-        × HasOutcome (Rose (N.faults worker.listener) (N.faults result.worker.listener)) (Rose (D.faults (folder_of store)) (D.faults result.folder)) ends result.outcome
-        × HasServedVault
+        × (is : HasServedVault
         (record {
           view = record { left = N.Conn.left; taken = N.Conn.taken; read_faults = N.Conn.read_faults; write_faults = N.Conn.write_faults };
           listener = record {
@@ -88,7 +87,8 @@ pub(crate) fn serve_worker<D: Folder, N: Listener, E: Entropy, K: Clock>(
           second = K.second clock.now;
         })
         (FailedIn (Rose (N.faults worker.listener) (N.faults result.worker.listener)) result.outcome)
-        D.disk D.faults E.faults store worker.entropy result.folder result.worker.entropy ends }
+        D.disk D.faults E.faults E.drawn store worker.entropy result.folder result.worker.entropy ends)
+        × HasOutcome (Rose (N.faults worker.listener) (N.faults result.worker.listener)) (Rose (D.faults (folder_of is.now.store)) (D.faults result.folder)) ends result.outcome }
 {
     let Worker {
         mut listener,
@@ -112,6 +112,6 @@ fn outcome_of(served: Result<Option<SessionEnd>, Failed>, closed: Result<(), Fai
     match (served, closed) {
         (_, Err(_)) => Outcome::FolderFault,
         (Err(_), Ok(())) => Outcome::ListenerFault,
-        (Ok(end), Ok(())) => Outcome::Served(Counts::of(end)),
+        (Ok(end), Ok(())) => Outcome::Served(SessionCounts::of(end)),
     }
 }

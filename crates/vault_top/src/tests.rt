@@ -32,6 +32,14 @@ const OUTPUT: &[u8] = b"\x13\0\0\0\x65\xff\xff\x18\0\x01\0\x06\09P2000\
     \x10\0\0\0\x75\x01\0\x05\0\0\0hello\
     \x07\0\0\0\x79\x01\0";
 
+// The same, where the folder failed as the file was read.
+const FAULTY_OUTPUT: &[u8] = b"\x13\0\0\0\x65\xff\xff\x18\0\x01\0\x06\09P2000\
+    \x14\0\0\0\x69\x01\0\x80\0\0\0\0\0\0\0\0\0\0\0\0\
+    \x16\0\0\0\x6f\x01\0\x01\0\0\0\0\0\0\x01\0\0\0\0\0\0\0\
+    \x18\0\0\0\x71\x01\0\0\0\0\0\0\x01\0\0\0\0\0\0\0\0\0\x01\0\
+    \x15\0\0\0\x6b\x01\0\x0c\0device fault\
+    \x07\0\0\0\x79\x01\0";
+
 const ONE_DONE: &str = "serving\n\
     sessions 1 done 1 cut 0 bad 0 read 0 write 0 memory 0 limit 0\n";
 
@@ -70,12 +78,29 @@ fn calls(alloc: Global, call: u64) -> Result<Vec<u64>, AllocError> {
     [call].to_vec(alloc)
 }
 
-/// A listener to which one client comes, who sends these bytes.
-fn listener(alloc: Global, input: &[u8]) -> Result<MemListener, Fail> {
-    let link = MemLink::new(alloc, source(alloc, input)?, MemSink::new(alloc))?;
+/// A listener to which one client comes, over these streams.
+fn listener_over(alloc: Global, reads: MemSource, writes: MemSink) -> Result<MemListener, Fail> {
+    let link = MemLink::new(alloc, reads, writes)?;
     let mut links = Vec::new(alloc);
     links.push(link).map_err(AllocError::from)?;
     Ok(MemListener::new(alloc, links))
+}
+
+/// A listener to which one client comes, who sends these bytes.
+fn listener(alloc: Global, input: &[u8]) -> Result<MemListener, Fail> {
+    listener_over(alloc, source(alloc, input)?, MemSink::new(alloc))
+}
+
+/// A listener whose one link fails when it is first read, or else when it is first written.
+fn failing_link(alloc: Global, reading: bool) -> Result<MemListener, Fail> {
+    let reads = source(alloc, INPUT)?;
+    let writes = MemSink::new(alloc);
+    let first = calls(alloc, 0)?;
+    if reading {
+        listener_over(alloc, reads.failing_at(first), writes)
+    } else {
+        listener_over(alloc, reads, writes.failing_at(first))
+    }
 }
 
 fn bare_vault(alloc: Global, keys: &VaultKeys) -> Result<MemFolder, Fail> {
@@ -116,6 +141,14 @@ fn vault(alloc: Global) -> Result<MemFolder, Fail> {
     Ok(folder)
 }
 
+/// The same, where the folder fails when the file's header is read.
+fn faulty_vault(alloc: Global) -> Result<MemFolder, Fail> {
+    let folder = vault(alloc)?;
+    // Opening asks for the root's kind, its list and the kind of its one entry.
+    let header = folder.call_count().saturating_add(3);
+    Ok(folder.failing_at(calls(alloc, header)?))
+}
+
 fn given(alloc: Global) -> Result<Inputs, Fail> {
     Ok(Inputs {
         words: WORDS,
@@ -143,6 +176,7 @@ fn run_over(alloc: Global, given: Inputs) -> Result<Left, Fail> {
     workers.push(worker).map_err(AllocError::from)?;
     let clock = SetClock::new(1000);
     let ended = run(
+        &(),
         alloc,
         &words,
         folder,
@@ -288,6 +322,47 @@ fn a_session_is_counted_by_its_end(rt: HostRuntime) -> Result<(), Fail> {
     let report = "serving\nsessions 0 done 0 cut 0 bad 0 read 0 write 0 memory 0 limit 0\n";
     assert_eq!(rt; left.status, 0);
     assert_eq!(rt; left.out.taken(), report.as_bytes());
+    Ok(())
+}
+
+#[test]
+fn a_link_that_fails_is_counted(rt: HostRuntime) -> Result<(), Fail> {
+    for (reading, counts) in [(true, "read 1 write 0"), (false, "read 0 write 1")] {
+        let mut given = given(rt.alloc())?;
+        given.listener = failing_link(rt.alloc(), reading)?;
+        let left = run_over(rt.alloc(), given)?;
+        let report = format!(in rt.alloc();
+            "serving\nsessions 1 done 0 cut 0 bad 0 {counts} memory 0 limit 0\n"
+        )?;
+        assert_eq!(rt; left.status, 0, "{counts}");
+        assert_eq!(rt; left.out.taken(), report.as_bytes(), "{counts}");
+    }
+    Ok(())
+}
+
+#[test]
+fn a_folder_that_fails_at_a_read_ends_no_session(rt: HostRuntime) -> Result<(), Fail> {
+    let mut given = given(rt.alloc())?;
+    given.folder = faulty_vault(rt.alloc())?;
+    let left = run_over(rt.alloc(), given)?;
+    assert_eq!(rt; left.status, 0);
+    assert_eq!(rt; left.out.taken(), ONE_DONE.as_bytes());
+    let link = left.link.ok_or("the link")?;
+    assert_eq!(rt; link.sink().taken(), FAULTY_OUTPUT);
+    Ok(())
+}
+
+#[test]
+fn a_failed_report_hides_a_failed_listener(rt: HostRuntime) -> Result<(), Fail> {
+    for (call, report) in [(0, ""), (1, "serving\n")] {
+        let mut given = given(rt.alloc())?;
+        let listener = listener(rt.alloc(), INPUT)?;
+        given.listener = listener.failing_at(calls(rt.alloc(), 0)?);
+        given.out = MemSink::new(rt.alloc()).failing_at(calls(rt.alloc(), call)?);
+        let left = run_over(rt.alloc(), given)?;
+        assert_eq!(rt; left.status, 4, "{call}");
+        assert_eq!(rt; left.out.taken(), report.as_bytes(), "{call}");
+    }
     Ok(())
 }
 

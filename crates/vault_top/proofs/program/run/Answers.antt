@@ -3,8 +3,8 @@ use Rattle.vault_top.specs.Words.{words_of}
 use Rattle.vault_top.specs.Ending.{Span}
 use Rattle.vault_top.specs.Served.{LinkView}
 use Rattle.vault_top.specs.Refusing.{ending_of}
-use Rattle.vault_top.proofs.Outcomes.{a_first}
-use Rattle.vault_top.proofs.Reasons.{reason_served, reason_refused}
+use Rattle.vault_top.proofs.Outcomes.{a_first, undrawn}
+use Rattle.vault_top.proofs.Reasons.{share_of, reason_served, reason_refused}
 use Rattle.vault_top.proofs.program.run.Goals as goal
 
 pub returns-in-Ok : goal.returns-in-Ok
@@ -46,7 +46,8 @@ returns-in-Ok g c =
         e.6 ∙ unlocked.opened.disk,
         e.7,
         e.8,
-        reason_served view span e.0 g.D.Reads.disk g.D.Reads.faults g.E.Entropy.faults c.args.folder c.in-Ok.store e.2.entropy e.1 e.3.entropy
+        undrawn (share_of view span) g.D.Reads.disk g.D.Reads.faults g.E.Entropy.faults g.E.Entropy.drawn c.in-Ok.store e.2.entropy e.1 e.3.entropy e.0 e.9,
+        reason_served view span e.0 g.D.Reads.disk g.D.Reads.faults g.E.Entropy.faults g.E.Entropy.drawn c.args.folder c.in-Ok.store e.2.entropy e.1 e.3.entropy
             (g.D.Reads.faults c.args.folder) (g.D.Reads.faults c.args.folder)
             (record { disk = refl; folder = refl; folder_after = refl; entropy = refl; entropy_after = refl }) unlocked e.9,
         e.10,
@@ -92,6 +93,7 @@ returns-in-Err g c =
         c.in-Err.ensures.disk,
         first.2,
         first.2,
+        refl,
         reason_refused view span c.in-Err.field-0.cause (refl, refl) c.in-Err.ensures.refused,
         c.refuse.ensures,
       );

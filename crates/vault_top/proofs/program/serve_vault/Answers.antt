@@ -8,7 +8,7 @@ returns g c =
     let e = c.serve_worker-served.ensures in
     let outcome = c.serve_worker-served.result.outcome in
     let before = c.args.out.now in
-    let counted = counted_in _ _ e.0 outcome e.1 in
+    let counted = counted_in _ _ e.0 outcome e.2 in
     let few : 1 ≤ length c.args.workers.now.items = omega (arith, c.args.workers.now.ok.0, c.requires) in
     let reported : Reports e.0 outcome (g.O.Sink.faults before) (g.O.Sink.faults c.match-serving.out) (g.O.Sink.taken before) (g.O.Sink.taken c.match-serving.out) c.match-serving.status =
     elim c.match-serving.branch [
@@ -27,9 +27,9 @@ returns g c =
       c.serve_worker-served.result.worker,
       c.remove-worker.new.self.items,
       refl,
-      disk_kept _ _ g.D.Reads.disk g.D.Reads.faults g.E.Entropy.faults c.args.store _ _ _ e.0 e.2,
+      disk_kept _ _ g.D.Reads.disk g.D.Reads.faults g.E.Entropy.faults g.E.Entropy.drawn c.args.store _ _ _ e.0 e.1,
       first_item c.args.workers.now.items c.remove-worker.new.self.items c.remove-worker.result few c.remove-worker.ensures.value c.remove-worker.ensures.items,
       c.put_back.ensures,
-      ends_serving _ g.D.Reads.disk g.D.Reads.faults g.E.Entropy.faults c.args.store _ _ _ e.0 outcome reported.0 e.1 e.2 reported.1,
+      ends_serving _ g.D.Reads.disk g.D.Reads.faults g.E.Entropy.faults g.E.Entropy.drawn c.args.store _ _ _ e.0 outcome reported.0 e.1 e.2 reported.1,
       reported.2,
     )
