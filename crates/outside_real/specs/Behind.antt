@@ -6,8 +6,8 @@ use Rattle.outside_real.specs.declared.stream.StdSource.{StdSource}
 use Rattle.outside_real.specs.declared.link.HostLink.{HostLink}
 use Rattle.outside_real.specs.declared.link.HostListen.{HostListen}
 
--- the open random device
-abbrev pub device_of : {R F D : Type 0} → OsEntropy R F D → F
+-- the random device, once it is open
+abbrev pub device_of : {R F D : Type 0} → OsEntropy R F D → Option F
 device_of entropy = entropy.device
 
 -- the reader of standard input

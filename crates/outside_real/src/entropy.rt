@@ -1,4 +1,4 @@
-ghost use Rattle.std.specs.Prelude.{◌≡◌, IfOk, IsErr, None, OnOk};
+ghost use Rattle.std.specs.Prelude.{◌≡◌, IfSome, IsErr, None, Some, OnOk};
 ghost use Rattle.std.specs.Io.KnownBytes.{Consumes};
 ghost use Rattle.outside.specs.Calls.{HasCause};
 ghost use Rattle.outside_real.specs.Behind.{device_of};
@@ -10,20 +10,41 @@ use std::io;
 use std::io::Read;
 use std::rt::Files;
 
-/// The system's random bytes.
+/// The system's random bytes, from `/dev/urandom`, which is opened by the first draw.
 #[derive(Drop)]
 pub struct OsEntropy<R: Files> {
-    device: R::File,
+    rt: R,
+    device: Option<R::File>,
     faults: u64,
 }
 
 impl<R: Files> OsEntropy<R> {
-    /// Opens `/dev/urandom`, and fails where the host does.
-    pub fn open(rt: &R) -> io::Result<OsEntropy<R>>
-        ensures { IfOk result (λ entropy. ⟦<OsEntropy<R> as Entropy>⟧.faults entropy ≡ 0) }
+    /// The system's random bytes. Nothing is drawn yet.
+    pub fn new(rt: R) -> OsEntropy<R>
+    where
+        R: Drop,
+        ensures { ⟦<OsEntropy<R> as Entropy>⟧.faults result ≡ 0 }
     {
-        let device = File::open(rt, "/dev/urandom")?;
-        Ok(OsEntropy { device, faults: 0 })
+        OsEntropy {
+            rt,
+            device: None,
+            faults: 0,
+        }
+    }
+
+    /// Fills a buffer from the device.
+    fn draw(&mut self, out: &mut [u8]) -> io::Result<()>
+        ensures device { OnOk result ((before : R.File) × (after : R.File) × IfSome self.old.device (λ device. device ≡ before)
+            × (self.new.device ≡ Some after) × Consumes (R.File.remaining before) (R.File.remaining after) out.new) }
+        ensures faults { self.new.faults ≡ self.old.faults }
+    {
+        let mut device = match self.device.take() {
+            Some(device) => device,
+            None => File::open(&self.rt, "/dev/urandom")?,
+        };
+        let answer = device.read_exact(out);
+        self.device = Some(device);
+        answer
     }
 }
 
@@ -35,10 +56,11 @@ impl<R: Files> Entropy for OsEntropy<R> {
     fn fill(&mut self, out: &mut [u8]) -> Result<(), Failed>
         ensures cause { HasCause (⟦<OsEntropy<R> as Entropy>⟧.faults self.old) (⟦<OsEntropy<R> as Entropy>⟧.faults self.new) (IsErr result) }
 
-        // All that is drawn comes from the device.
-        ensures device { OnOk result (Consumes (R.File.remaining (device_of self.old)) (R.File.remaining (device_of self.new)) out.new) }
+        // All that is drawn comes from the device, which stays open from the first draw on.
+        ensures device { OnOk result ((before : R.File) × (after : R.File) × IfSome (device_of self.old) (λ device. device ≡ before)
+            × (device_of self.new ≡ Some after) × Consumes (R.File.remaining before) (R.File.remaining after) out.new) }
     {
-        let answer = self.device.read_exact(out);
+        let answer = self.draw(out);
         counted(&mut self.faults, answer)
     }
 }
@@ -50,7 +72,7 @@ mod tests {
 
     #[test]
     fn two_draws_differ(rt: HostRuntime) -> Result<(), Fail> {
-        let mut entropy = OsEntropy::open(&rt)?;
+        let mut entropy = OsEntropy::new(&rt);
         let mut first = [0u8; 32];
         let mut second = [0u8; 32];
         entropy.fill(&mut first)?;

@@ -9,9 +9,9 @@ use vault_path::{Text, VaultPath};
 
 /// A folder on disk. It tells nothing of what it holds.
 ///
-/// What is neither a file nor a folder, as a device, and also a link, counts as absent: `kind` finds nothing there, `list`
-/// leaves it out, and a change there fails. The folder's own path may be a link. A name that isn't UTF-8 makes a listing
-/// fail. `put` writes in place, and asks for no flush to the disk.
+/// What is neither a file nor a folder, as a device, and also a link, is named by `list`, but `kind` finds nothing there, and
+/// a change there fails. The folder's own path may be a link; where it leads to no folder, `kind` fails. A name that isn't
+/// UTF-8 makes a listing fail. `put` writes in place, and asks for no flush to the disk.
 #[derive(Drop)]
 pub struct HostFolder<R> {
     host: Host<R>,
@@ -114,9 +114,26 @@ mod tests {
             assert_eq!(rt; folder.kind(&path_of(names)?), Ok(want), "{names:?}");
         }
         let names = folder.list(rt.alloc(), &path_of(&[b"d"])?)?;
-        assert_eq!(rt; names.len(), 1);
-        assert!(rt; names[0].as_bytes() == b"f".as_slice());
+        assert_eq!(rt; names.len(), 2);
+        for name in [b"f".as_slice(), b"link"] {
+            assert!(rt;
+                names.iter().any(|text| text.as_bytes() == name),
+                "{name:?}"
+            );
+        }
         fs::remove_dir_all(&rt, place)?;
+        Ok(())
+    }
+
+    #[test]
+    fn nothing_is_told_of_a_folder_that_is_missing(rt: HostRuntime) -> Result<(), Fail> {
+        let place = place(&rt, "missing")?;
+        let mut folder = HostFolder::new(&rt, rt.alloc(), place.as_str())?;
+        for names in [[].as_slice(), &[b"d".as_slice()]] {
+            let path = path_of(names)?;
+            assert_eq!(rt; folder.kind(&path), Err(FolderErr::Failed), "{names:?}");
+            assert!(rt; folder.list(rt.alloc(), &path).is_err(), "{names:?}");
+        }
         Ok(())
     }
 

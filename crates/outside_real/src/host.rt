@@ -122,14 +122,12 @@ fn push_name(alloc: Global, names: &mut Vec<Text>, name: &str) -> Result<(), All
     Ok(())
 }
 
-/// The names of the files and folders in a folder.
+/// The names of all that is in a folder.
 fn names_in<R: Files>(rt: &R, alloc: Global, text: &str) -> Result<Vec<Text>, FolderErr> {
     let mut names = Vec::new(alloc);
     for entry in fs::read_dir(&(rt, alloc), text).map_err(failed)? {
         let entry = entry.map_err(failed)?;
-        if let Found::Dir | Found::File(_) = found_at(rt, entry.path().as_str(), false)? {
-            push_name(alloc, &mut names, entry.file_name()).map_err(|_| FolderErr::Memory)?;
-        }
+        push_name(alloc, &mut names, entry.file_name()).map_err(|_| FolderErr::Memory)?;
     }
     Ok(names)
 }
@@ -154,10 +152,19 @@ impl<R: Files> Host<R> {
         found_at(&self.rt, self.paths.text(), path.is_empty())
     }
 
+    /// What is at a path. Nothing is known to be absent where the folder itself is missing.
     pub(crate) fn kind(&mut self, path: &VaultPath) -> Result<Option<Kind>, FolderErr>
         ensures { IsOkUnless result FolderErr.Failed }
     {
-        Ok(kind_of(self.find(path)?))
+        match self.find(path)? {
+            Found::Nothing if !self.is_there() => Err(FolderErr::Failed),
+            found => Ok(kind_of(found)),
+        }
+    }
+
+    /// Whether the folder itself is there.
+    fn is_there(&self) -> bool {
+        fs::metadata(&self.rt, self.paths.base()).is_ok_and(|metadata| metadata.is_dir())
     }
 
     pub(crate) fn list(&mut self, alloc: Global, path: &VaultPath) -> Result<Vec<Text>, FolderErr> {

@@ -16,6 +16,8 @@ mod folder;
 mod host;
 mod link;
 mod room;
+#[cfg(test)]
+mod script;
 mod stream;
 mod transfer;
 

@@ -39,6 +39,13 @@ impl PathRoom {
         compose(self.base.as_str(), &mut self.room, path);
     }
 
+    /// The folder's own path.
+    pub(crate) fn base(&self) -> &str
+        ensures { result.now ≡ string_bytes self.now.base }
+    {
+        self.base.as_str()
+    }
+
     /// The text that was composed last.
     pub(crate) fn text(&self) -> &str
         ensures { result.now ≡ string_bytes self.now.room }

@@ -93,6 +93,7 @@ impl Sink for NullSink {
 #[cfg(test)]
 mod tests {
     use super::*;
+    use crate::script::Script;
 
     #[test]
     fn input_gives_no_byte_into_no_room(rt: HostRuntime) {
@@ -101,9 +102,19 @@ mod tests {
     }
 
     #[test]
-    fn output_takes_an_empty_piece(rt: HostRuntime) {
-        let mut sink = StdSink::new(&rt);
-        assert_eq!(rt; sink.write(b""), Ok(0));
+    fn output_takes_some_of_a_piece_or_fails(rt: HostRuntime) {
+        let mut sink = StdSink::new(Script {
+            input: b"",
+            output_fails: false,
+        });
+        for (piece, count) in [(b"abc".as_slice(), 2), (b"a", 1), (b"", 0)] {
+            assert_eq!(rt; sink.write(piece), Ok(count), "{piece:?}");
+        }
+        let mut sink = StdSink::new(Script {
+            input: b"",
+            output_fails: true,
+        });
+        assert_eq!(rt; sink.write(b"abc"), Err(Failed));
     }
 
     #[test]
