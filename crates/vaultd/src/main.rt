@@ -1,118 +1,178 @@
 //! Serves the clear tree of a Cryptomator vault over 9P2000. README.md has its words.
 #![tactic(auto)]
 
+ghost use Rattle.std.specs.Prelude.{◌≡◌, ◌↔◌, ◌+◌, ◌<◌, length, drop, IfOk, IsTrue, Some, slice_get, string_bytes};
+ghost use Rattle.std.specs.declared.io.ErrorKind.TheVariants.{InvalidData};
+ghost use Rattle.std.specs.IoError.{error_kind};
+ghost use Rattle.vault_top.specs.Words.{words_of};
+ghost use Rattle.vault_top.specs.Ending.{report_of, status_of};
+ghost use Rattle.vaultd.specs.Starting.{IsStatus, ListensOnStreams, StandsAt, ending_of};
+
 use outside::{Gate, Sink, Stage};
 use outside_real::{HostClock, HostFolder, HostListen, NullSink, OsEntropy, StdSink, StdSource};
-use std::alloc::{AllocError, AllocFailed};
-use std::env;
-use std::io::ErrorKind;
+use std::alloc::AllocError;
+use std::io::{ErrorKind, Input};
 use std::process::ExitCode;
+use std::rt::{Clock, Files};
+use std::{env, io};
 use vault_top::{Worker, run};
 
-// Why the program can't begin.
-#[derive(Drop)]
+/// Why the program doesn't come to its job.
+#[derive(Clone, Copy, Debug, PartialEq, Eq)]
 enum StartErr {
-    // A word isn't UTF-8.
+    /// A word isn't UTF-8.
     Words,
-    // The system has no random bytes.
-    Random,
-    // Memory ran out.
+    /// Memory ran out.
     Memory,
 }
 
 impl StartErr {
-    fn status(&self) -> u8 {
+    fn status(self) -> u8
+        ensures { result ≡ status_of (ending_of self) }
+    {
         match self {
             StartErr::Words => 1,
-            StartErr::Random => 4,
             StartErr::Memory => 5,
         }
     }
 
-    fn line(&self) -> &'static [u8] {
+    /// Why the words couldn't be read.
+    fn of_words(error: &io::Error) -> StartErr
+        ensures words { (error_kind error.now ≡ InvalidData) ↔ (result ≡ StartErr.Words) }
+    {
+        if error.kind() == ErrorKind::InvalidData {
+            StartErr::Words
+        } else {
+            StartErr::Memory
+        }
+    }
+
+    fn line(self) -> &'static str
+        ensures { result.now ≡ report_of (ending_of self) }
+    {
         match self {
-            StartErr::Words => b"bad words\n",
-            StartErr::Random => b"device fault: random\n",
-            StartErr::Memory => b"out of memory\n",
+            StartErr::Words => "bad words\n",
+            StartErr::Memory => "out of memory\n",
         }
     }
 }
 
 impl From<AllocError> for StartErr {
+    ghost use Rattle.std.specs.Prelude.{◌≡◌};
+    ghost use Rattle.vaultd.specs.declared.StartErr.TheVariants.{Memory};
+
+    ghost from_gives = { λ _ cause. cause ≡ Memory };
+
     fn from(_: AllocError) -> StartErr {
         StartErr::Memory
     }
 }
 
-impl<T: Drop> From<AllocFailed<T>> for StartErr {
-    fn from(_: AllocFailed<T>) -> StartErr {
-        StartErr::Memory
-    }
-}
-
-// Nobody waits at this gate.
+/// Nobody waits at this gate.
 struct OpenGate;
 
 impl Gate for OpenGate {
     fn pass(&self, _stage: Stage) {}
 }
 
-// The words after the program's name.
-fn words_of(rt: HostRuntime) -> Result<Vec<String>, StartErr> {
-    let mut words = match env::args(&rt) {
-        Ok(words) => words,
-        Err(error) if error.kind() == ErrorKind::InvalidData => return Err(StartErr::Words),
-        Err(_) => return Err(StartErr::Memory),
-    };
-    words.next();
-    Ok(words.collect(rt.alloc())?)
+fn is_word(word: &String, text: &str) -> bool
+    ensures { IsTrue result ↔ (string_bytes word.now ≡ text.now) }
+{
+    word.as_str() == text
+}
+
+// Whether the word at this place is this text.
+fn is_word_at(words: &[String], place: usize, text: &str) -> bool
+    requires { place < length words.now }
+    ensures { IsTrue result ↔ (slice_get (words_of words.now) place ≡ Some text.now) }
+{
+    is_word(&words[place], text)
+}
+
+// Whether the word at this place is `--listen`, and the one behind it `-`.
+fn stands_at(words: &[String], place: usize) -> bool
+    requires { place + 1 < length words.now }
+    ensures { IsTrue result ↔ StandsAt (words_of words.now) place }
+{
+    is_word_at(words, place, "--listen") && is_word_at(words, place + 1, "-")
 }
 
 // Whether the standard streams are the client's, so that no report may be written there.
-fn is_on_streams(words: &[String]) -> bool {
-    words.windows(2).any(|pair| pair[0].as_str() == "--listen" && pair[1].as_str() == "-")
+fn listens_on_streams(words: &[String]) -> bool
+    ensures { IsTrue result ↔ ListensOnStreams (words_of words.now) }
+{
+    for value in 1..words.len() {
+        if stands_at(words, value - 1) {
+            return true;
+        }
+    }
+    false
 }
 
-// Makes the objects of the outside and runs the job.
-fn serve<O: Sink>(rt: HostRuntime, words: &[String], out: &mut O) -> Result<u8, StartErr> {
+/// Makes the objects of the outside and runs the job that these words are.
+fn serve<R: Clock + Files + Input + Print + AllocGlobal, O: Sink>(
+    rt: &R,
+    words: &[String],
+    out: &mut O,
+) -> Result<u8, AllocError>
+    ensures { IfOk result (IsStatus (words_of words.now)) }
+{
     let directory = words.get(1).map_or("", |word| word.as_str());
     let folder = HostFolder::new(rt, rt.alloc(), directory)?;
-    let Ok(entropy) = OsEntropy::open(&rt) else {
-        return Err(StartErr::Random);
-    };
-    let listener = HostListen::new(rt);
     let mut workers = Vec::new(rt.alloc());
-    workers.push(Worker { listener, entropy })?;
-    let mut secret = StdSource::new(&rt);
-    let clock = HostClock::new(rt);
+    workers.push(Worker {
+        listener: HostListen::new(rt),
+        entropy: OsEntropy::new(rt),
+    })?;
     let ended = run(
+        rt,
         rt.alloc(),
         words,
         folder,
         &mut workers,
-        &mut secret,
+        &mut StdSource::new(rt),
         out,
-        &clock,
+        &HostClock::new(rt),
         &OpenGate,
     );
     Ok(ended.status)
 }
 
-fn start(rt: HostRuntime) -> Result<u8, StartErr> {
-    let words = words_of(rt)?;
-    if is_on_streams(&words) {
-        serve(rt, &words, &mut NullSink)
+// The words behind the first, which is the program's name.
+fn behind_name(args: &[String]) -> &[String]
+    ensures { result.now ≡ drop 1 args.now }
+{
+    &args[args.len().min(1)..]
+}
+
+/// Runs the job that the words behind the program's name are.
+fn start<R: Clock + Files + Input + Print + AllocGlobal>(
+    rt: &R,
+    args: &[String],
+) -> Result<u8, AllocError>
+    ensures { IfOk result (IsStatus (words_of (drop 1 args.now))) }
+{
+    let words = behind_name(args);
+    if listens_on_streams(words) {
+        serve(rt, words, &mut NullSink)
     } else {
-        serve(rt, &words, &mut StdSink::new(rt))
+        serve(rt, words, &mut StdSink::new(rt))
     }
 }
 
 fn main(rt: HostRuntime) -> ExitCode {
-    match start(rt) {
+    let started = match env::args(&rt) {
+        Ok(args) => args
+            .collect::<Vec<_>>(rt.alloc())
+            .and_then(|args| start(&rt, &args))
+            .map_err(StartErr::from),
+        Err(error) => Err(StartErr::of_words(&error)),
+    };
+    match started {
         Ok(status) => ExitCode::from(status),
         Err(cause) => {
             // What can't be printed is lost: the status says it as well.
-            let _ = StdSink::new(rt).write(cause.line());
+            let _ = print!(rt; "{}", cause.line());
             ExitCode::from(cause.status())
         }
     }
