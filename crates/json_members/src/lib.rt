@@ -77,7 +77,8 @@ impl Object {
         self.value.get(name)?.as_str()
     }
 
-    /// The integer from 0 to 2^64 - 1 of the member of this name, if it is one, however it is written (8, 8.0, 80e-1).
+    /// The integer from 0 to 2^64 - 1 of the member of this name, if it is one, however it is written (8, 8.0, 80e-1). A number with a
+    /// fraction or an exponent is rounded to the nearest binary64 first (RFC 8259, section 6).
     pub fn integer(&self, name: &str) -> Option<u64>
         ensures { result ≡ integer_at name.now self.now }
     {

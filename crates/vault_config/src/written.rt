@@ -17,8 +17,8 @@ use siv_mode::VaultKeys;
 use std::alloc::{AllocError, Global};
 use uuid::{Builder, Uuid};
 
-/// Writes a configuration under HS256: `threshold` is the length of a sealed name, in characters, from which on it is
-/// shortened, and `jti` is written as a version 4 UUID of its 16 bytes (RFC 9562, section 5.4).
+/// Writes a configuration under HS256: `threshold` is the longest sealed name, in characters, that isn't shortened, 1 to 250,
+/// and `jti` is written as a version 4 UUID of its 16 bytes (RFC 9562, section 5.4).
 pub fn write(
     alloc: Global,
     keys: &VaultKeys,
