@@ -1,5 +1,9 @@
 -- What the calls of the outside say of contents that are told, and when they may fail.
-use Rattle.std.specs.Prelude.{◌≡◌, ◌⊎◌, ℕ, ◌<◌, ◌≤◌, ◌-◌, ◌^◌, Option, Some, None, IfSome, ⊤}
+use Rattle.std.specs.Prelude.{◌≡◌, ◌⊎◌, ℕ, ◌+◌, ◌<◌, ◌≤◌, ◌-◌, ◌^◌, ◌==◌, if◌then◌else◌, List, ◌++◌, drop, Option, Some, None, IfSome, ⊤}
+
+-- a count one higher, which stands still at its end
+abbrev pub risen : ℕ → ℕ
+risen n = if n == 2 ^ 64 - 1 then n else n + 1
 
 -- a count of faults rose, or stands at its end, where it can't
 abbrev pub Rose : ℕ → ℕ → Type 0
@@ -14,7 +18,8 @@ pub record HasCause (before now : ℕ) (failed : Type 0) : Type 0 where
 abbrev pub Told : {X : Type 0} → Option X → (X → Type 0) → Type 0
 Told contents P = IfSome contents P
 
--- P of the contents before and after, where they are told; an object that tells goes on telling, and another doesn't begin
+-- P of the contents before and after, where they are told; an object that tells goes on telling, and another doesn't begin,
+-- so that what is told after a call can be required by the next one
 abbrev pub Changes : {X : Type 0} → Option X → Option X → (X → X → Type 0) → Type 0
 Changes None None P = ⊤
 Changes None (Some new) P = ⊥
@@ -25,3 +30,15 @@ Changes (Some old) (Some new) P = P old new
 abbrev pub IsUnfit : {X : Type 0} → Option X → ℕ → ℕ → (X → Type 0) → Type 0
 IsUnfit None before now Fits = Rose before now
 IsUnfit (Some contents) before now Fits = ¬ (Fits contents)
+
+-- a list grew by these at its end, where it is told
+abbrev pub Extends : {X : Type 0} → Option (List X) → Option (List X) → List X → Type 0
+Extends old new more = Changes old new (λ before after. after ≡ before ++ more)
+
+-- these were taken from a list's front, where it is told
+abbrev pub TakesFront : {X : Type 0} → Option (List X) → Option (List X) → List X → Type 0
+TakesFront old new front = Changes old new (λ before after. before ≡ front ++ after)
+
+-- a buffer is as it was from an index on
+abbrev pub KeepsFrom : {X : Type 0} → ℕ → List X → List X → Type 0
+KeepsFrom index old new = drop index new ≡ drop index old

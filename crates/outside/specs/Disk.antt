@@ -1,5 +1,5 @@
 -- A disk: what a folder of the host holds, by path.
-use Rattle.std.specs.Prelude.{◌≡◌, ℕ, ◌-◌, ◌⊎◌, ◌↔◌, ◌≢◌, List, [], ◌∷◌, ◌++◌, length, take, Option, Some, IsSome, IsNone, Contains}
+use Rattle.std.specs.Prelude.{◌≡◌, ℕ, ◌-◌, ◌⊎◌, ◌↔◌, List, [], ◌∷◌, ◌++◌, length, take, Option, Some, IsSome, IsNone, Contains}
 use Rattle.std.specs.List.{IsDistinct}
 use Rattle.std.specs.Option.{option_map}
 use Rattle.std.specs.Ordering.{nat_cmp}
@@ -67,7 +67,3 @@ pub record CanMakeDir (disk : Disk) (path : Path) : Type 0 where
 pub record CanPut (disk : Disk) (path : Path) : Type 0 where
   pub inside : IsFolder disk (parent path)
   pub free : IsNone (node_at disk path) ⊎ IsFile disk path
-
--- everything but what is at the path stays
-abbrev pub SameBut : Path → Disk → Disk → Type 0
-SameBut path old new = (other : Path) → other ≢ path → node_at new other ≡ node_at old other

@@ -1,2 +1,5 @@
 pub mod Disk
 pub mod Calls
+pub mod Changes
+pub mod Images
+pub mod Views

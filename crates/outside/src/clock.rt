@@ -1,9 +1,9 @@
 ghost use Rattle.std.specs.Prelude.{◌≡◌, ℕ, Option};
 ghost use Rattle.outside.specs.Calls.{Told};
 
-/// A clock.
+/// A clock. One that goes tells nothing.
 pub trait Clock {
-    /// The second that each call gives, where it tells.
+    /// The second that every call gives, where it tells.
     ghost second: { Self → Option ℕ };
 
     /// The seconds since 1970-01-01.

@@ -1,5 +1,5 @@
-ghost use Rattle.std.specs.Prelude.{◌≡◌, ◌≤◌, ◌<◌, ◌++◌, [], ◌∷◌, ℕ, List, Option, Ok, length, take, drop, IfOk, OnErr, OnOk, IsErr, Some, None, MatchOption};
-ghost use Rattle.outside.specs.Calls.{HasCause, Told, Changes};
+ghost use Rattle.std.specs.Prelude.{◌≡◌, ◌≤◌, ◌<◌, [], ◌∷◌, ℕ, List, Option, Ok, length, take, IfOk, OnErr, OnOk, IsErr, Some, None, MatchOption};
+ghost use Rattle.outside.specs.Calls.{HasCause, Told, Changes, Extends, TakesFront, KeepsFrom};
 
 use crate::stream::Failed;
 
@@ -21,8 +21,8 @@ pub trait Link {
     /// end. The rest of `out` is as it was. A call that failed took nothing.
     fn read(&mut self, out: &mut [u8]) -> Result<usize, Failed>
         ensures count { IfOk result (λ n. n ≤ length out.old) }
-        ensures rest { IfOk result (λ n. drop n out.new ≡ drop n out.old) }
-        ensures bytes { IfOk result (λ n. Changes (left self.old) (left self.new) (λ old new. old ≡ take n out.new ++ new)) }
+        ensures rest { IfOk result (λ n. KeepsFrom n out.old out.new) }
+        ensures bytes { IfOk result (λ n. TakesFront (left self.old) (left self.new) (take n out.new)) }
         ensures end { result ≡ Ok 0 → 0 < length out.old → Told (left self.old) (λ bytes. bytes ≡ []) }
         ensures failed { OnErr result (left self.new ≡ left self.old) }
         ensures cause { HasCause (read_faults self.old) (read_faults self.new) (IsErr result) }
@@ -34,7 +34,7 @@ pub trait Link {
     fn write(&mut self, piece: &[u8]) -> Result<usize, Failed>
         ensures count { IfOk result (λ n. n ≤ length piece.now) }
         ensures some { IfOk result (λ n. 0 < length piece.now → 0 < n) }
-        ensures bytes { IfOk result (λ n. Changes (taken self.old) (taken self.new) (λ old new. new ≡ old ++ take n piece.now)) }
+        ensures bytes { IfOk result (λ n. Extends (taken self.old) (taken self.new) (take n piece.now)) }
         ensures failed { OnErr result (taken self.new ≡ taken self.old) }
         ensures cause { HasCause (write_faults self.old) (write_faults self.new) (IsErr result) }
         ensures left { left self.new ≡ left self.old }
@@ -56,14 +56,15 @@ pub trait Listener {
 
     /// The next link, or None where no more come. A call that failed took none.
     fn next(&mut self) -> Result<Option<Self::Conn>, Failed>
-        ensures link { IfOk result (λ link. Changes (to_come self.old) (to_come self.new) (λ old new. MatchOption link ((old ≡ []) × (new ≡ [])) (λ conn. old ≡ conn ∷ new))) }
+        ensures link { IfOk result (λ link. Changes (to_come self.old) (to_come self.new)
+            (λ old new. MatchOption link ((old ≡ []) × (new ≡ [])) (λ conn. old ≡ conn ∷ new))) }
         ensures failed { OnErr result (to_come self.new ≡ to_come self.old) }
         ensures given { given_back self.new ≡ given_back self.old }
         ensures cause { HasCause (faults self.old) (faults self.new) (IsErr result) };
 
     /// Gives back a link that `next` gave.
     fn back(&mut self, link: Self::Conn)
-        ensures given { Changes (given_back self.old) (given_back self.new) (λ old new. new ≡ old ++ link ∷ []) }
+        ensures given { Extends (given_back self.old) (given_back self.new) (link ∷ []) }
         ensures to_come { to_come self.new ≡ to_come self.old }
         ensures faults { faults self.new ≡ faults self.old };
 }

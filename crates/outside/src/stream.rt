@@ -1,5 +1,5 @@
-ghost use Rattle.std.specs.Prelude.{◌≡◌, ◌≤◌, ◌<◌, ◌++◌, [], ℕ, List, Option, Ok, length, take, drop, IfOk, OnErr, IsErr};
-ghost use Rattle.outside.specs.Calls.{HasCause, Told, Changes};
+ghost use Rattle.std.specs.Prelude.{◌≡◌, ◌≤◌, ◌<◌, [], ℕ, List, Option, Ok, length, take, IfOk, OnErr, IsErr};
+ghost use Rattle.outside.specs.Calls.{HasCause, Told, Extends, TakesFront, KeepsFrom};
 
 use thiserror::Error;
 
@@ -20,8 +20,8 @@ pub trait Source {
     /// end. The rest of `out` is as it was. A call that failed took nothing.
     fn read(&mut self, out: &mut [u8]) -> Result<usize, Failed>
         ensures count { IfOk result (λ n. n ≤ length out.old) }
-        ensures rest { IfOk result (λ n. drop n out.new ≡ drop n out.old) }
-        ensures bytes { IfOk result (λ n. Changes (left self.old) (left self.new) (λ old new. old ≡ take n out.new ++ new)) }
+        ensures rest { IfOk result (λ n. KeepsFrom n out.old out.new) }
+        ensures bytes { IfOk result (λ n. TakesFront (left self.old) (left self.new) (take n out.new)) }
         ensures end { result ≡ Ok 0 → 0 < length out.old → Told (left self.old) (λ bytes. bytes ≡ []) }
         ensures failed { OnErr result (left self.new ≡ left self.old) }
         ensures cause { HasCause (faults self.old) (faults self.new) (IsErr result) };
@@ -40,7 +40,7 @@ pub trait Sink {
     fn write(&mut self, piece: &[u8]) -> Result<usize, Failed>
         ensures count { IfOk result (λ n. n ≤ length piece.now) }
         ensures some { IfOk result (λ n. 0 < length piece.now → 0 < n) }
-        ensures bytes { IfOk result (λ n. Changes (taken self.old) (taken self.new) (λ old new. new ≡ old ++ take n piece.now)) }
+        ensures bytes { IfOk result (λ n. Extends (taken self.old) (taken self.new) (take n piece.now)) }
         ensures failed { OnErr result (taken self.new ≡ taken self.old) }
         ensures cause { HasCause (faults self.old) (faults self.new) (IsErr result) };
 }

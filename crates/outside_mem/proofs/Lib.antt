@@ -1,4 +1,6 @@
 pub mod Fronts
 pub mod Disks
 pub mod Names
+pub mod Moving
+pub mod Logs
 pub mod Drawn

@@ -14,10 +14,11 @@ use Rattle.std.proofs.lemmas.List.Folds.{list_any-append}
 use Rattle.std.proofs.lemmas.Map.Views.{list_any-from_Contains, Contains-from_any}
 use Rattle.std.specs.Cmp.Lexicographic.{nat_list_eq_equiv}
 use Rattle.std.proofs.lemmas.Map.Keys.{IsDistinct-from_sorted}
-use Rattle.outside.specs.Disk.{Path, path_cmp, node_at, IsListing}
+use Rattle.outside.specs.Disk.{Path, path_cmp, Node, node_at, IsListing}
 use Rattle.outside_mem.specs.Entries.{node_of, disk_of}
-use Rattle.outside_mem.specs.declared.folder.Held.{Held}
-use Rattle.outside_mem.proofs.Disks.{get_disk, path_decides}
+use Rattle.outside_mem.specs.declared.disk.Held.{Held}
+use Rattle.outside.proofs.Paths.{path_decides}
+use Rattle.outside_mem.proofs.Disks.{get_disk}
 
 -- the last part of a path in a folder
 abbrev pub name_below : Path → Path → Option (List ℕ)
@@ -129,12 +130,19 @@ some_mapped : (o : Option Held) → is_some (option_map node_of o) ≡ is_some o
 some_mapped None = refl
 some_mapped (Some h) = refl
 
+-- a path in the folder is there where its name is below it
+there : (es : List (Path × Held)) (folder : Path) (name : List ℕ) → is_some (node_at (disk_of es) (folder ++ name ∷ [])) ≡ list_any (bytes_eq name) (names_below folder (keys_of es))
+there es folder name = ap is_some (get_disk es (folder ++ name ∷ [])) ∙ some_mapped (lookup (is_at (path_cmp (folder ++ name ∷ []))) es) ∙ sym (listed es folder name)
+
 -- the names below a folder are its listing
 pub listing : (es : List (Path × Held)) (folder : Path) → IsStrictlySortedBy path_cmp (keys_of es) → IsListing (disk_of es) folder (names_below folder (keys_of es))
-listing es folder sorted = record { distinct = distinct folder (keys_of es) (IsDistinct-from_sorted path_cmp (keys_of es) sorted); exact = λ name. (λ c. there name ∙ list_any-from_Contains nat_list_eq_equiv name _ c, λ h. Contains-from_any (λ x y. (bytes_eq-Decides x y).0) name _ (sym (there name) ∙ h)) }
-  where
-    there : (name : List ℕ) → is_some (node_at (disk_of es) (folder ++ name ∷ [])) ≡ list_any (bytes_eq name) (names_below folder (keys_of es))
-    there name = ap is_some (get_disk es (folder ++ name ∷ [])) ∙ some_mapped (lookup (is_at (path_cmp (folder ++ name ∷ []))) es) ∙ sym (listed es folder name)
+listing es folder sorted = record {
+  distinct = distinct folder (keys_of es) (IsDistinct-from_sorted path_cmp (keys_of es) sorted);
+  exact = λ name. (
+    λ c. there es folder name ∙ list_any-from_Contains nat_list_eq_equiv name _ c,
+    λ h. Contains-from_any (λ x y. (bytes_eq-Decides x y).0) name _ (sym (there es folder name) ∙ h),
+  );
+}
 
 -- ---- a loop over the paths
 
@@ -157,3 +165,19 @@ all_named names folder left paths none e = append_nil names ∙ ap (λ t. names 
   where
     append_nil : (xs : List (List ℕ)) → xs ≡ xs ++ []
     append_nil xs = grind (arith, common_steps)
+
+-- ---- whether there is a name
+
+-- a folder below which no name is has nothing in it
+pub none_below : (es : List (Path × Held)) (folder : Path) → names_below folder (keys_of es) ≡ [] → (name : List ℕ) → node_at (disk_of es) (folder ++ name ∷ []) ≡ None
+none_below es folder none name = at (node_at (disk_of es) (folder ++ name ∷ [])) (there es folder name ∙ ap (list_any (bytes_eq name)) none)
+  where
+    at : (o : Option Node) → is_some o ≡ false → o ≡ None
+    at None e = refl
+    at (Some node) e = absurd (true≢false e)
+
+-- and one below which a name is has it in it
+pub some_below : (es : List (Path × Held)) (folder : Path) (name : List ℕ) (more : List (List ℕ)) → names_below folder (keys_of es) ≡ name ∷ more → ((name : List ℕ) → node_at (disk_of es) (folder ++ name ∷ []) ≡ None) → ⊥
+some_below es folder name more some none =
+    let found : list_any (bytes_eq name) (name ∷ more) ≡ true = ap (λ b. b || list_any (bytes_eq name) more) ((bytes_eq-Decides name name).1 refl) in
+    true≢false (sym (there es folder name ∙ ap (list_any (bytes_eq name)) some ∙ found) ∙ ap is_some (none name))

@@ -2,8 +2,8 @@
 use Rattle.std.specs.Prelude.{List, [], ◌∷◌}
 use Rattle.std.specs.FinMap as map
 use Rattle.outside.specs.Disk.{Disk, Path, Node, folder, file}
-use Rattle.outside_mem.specs.declared.folder.Held.{Held}
-use Rattle.outside_mem.specs.declared.folder.Held.TheVariants.{Folder, File}
+use Rattle.outside_mem.specs.declared.disk.Held.{Held}
+use Rattle.outside_mem.specs.declared.disk.Held.TheVariants.{Folder, File}
 
 abbrev pub node_of : Held → Node
 node_of Folder = folder

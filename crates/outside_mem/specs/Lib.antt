@@ -1,7 +1,8 @@
+pub mod Chain
 pub mod Plan
-pub mod Streams
 pub mod Held
 pub mod Entries
-pub mod Links
-pub mod Chain
+pub mod Kept
 pub mod Words
+pub mod Streams
+pub mod Links

@@ -1,70 +1,88 @@
-ghost use Rattle.std.specs.Prelude.{◌≡◌, ◌↔◌, ◌-◌, ◌≤◌, ℕ, List, Some, Err, length, take, drop, min, IfOk, IfErr, OnOk, OnErr, IsErr, IsErrOf, IsTrue, MatchOption};
-ghost use Rattle.std.specs.FinMap as map;
-ghost use Rattle.outside.specs.Disk.{Disk, kind_at, node_at, folder, file, IsFolder, IsFile, IsListing, CanMakeDir, CanPut, IsTree};
-ghost use Rattle.outside_mem.specs.Plan.{no_faults, risen, fails_next, after, failing_at, is_failed};
+ghost use Rattle.std.specs.Prelude.{◌≡◌, ◌↔◌, ◌⊎◌, true, ◌-◌, ◌≤◌, [], ◌∷◌, ℕ, List, Some, length, take, drop, min, IfOk, IfErr, OnOk, OnErr, IsErr, IsErrOf, IsTrue, Err};
+ghost use Rattle.outside.specs.Calls.{risen};
+ghost use Rattle.outside.specs.Disk.{kind_at, node_at, file, IsFolder, IsFile, IsListing, IsTree};
+ghost use Rattle.outside.specs.Changes.{MakeDir, Put, Write, SetLen, Move, RemoveFile, RemoveDir, CanDo, done};
+ghost use Rattle.outside.specs.Images.{Did, Broke, Synced, now, adds, disk_after, IsSound, HasDone, HasBroken};
+ghost use Rattle.outside_mem.specs.Plan.{no_faults, fails_next, breaks_next, after, failing_at, breaking_at, is_failed};
 ghost use Rattle.outside_mem.specs.Held.{bare};
-ghost use Rattle.outside_mem.specs.Entries.{node_of, disk_of};
+ghost use Rattle.outside_mem.specs.Kept.{change_of, halved, call_of, all_calls, disk_by, IsMadeOrNot};
 
+use crate::change::{MemCall, MemChange};
+use crate::disk::MemDisk;
 use crate::plan::FaultPlan;
 use crate::stream::copy_front;
 use outside::{Folder, FolderErr, Kind, Reads};
 use std::alloc::{AllocError, Global};
-use std::collections::BTreeMap;
 use std::marker::Model;
 use vault_path::{Text, VaultPath};
 
-// What stands at a path.
-#[derive(Drop)]
-enum Held {
-    Folder,
-    File(Vec<u8>),
-}
-
-/// A host folder in memory. Clauses see its disk and its counts.
+/// A host folder in memory, which keeps its calls. Clauses see its log and its counts.
 #[derive(Drop)]
 pub struct MemFolder {
     alloc: Global,
-    held: BTreeMap<VaultPath, Held>,
-    faults: FaultPlan,
+    // What made the disk that it began with out of the empty folder.
+    first: Vec<MemCall>,
+    // The calls since then.
+    calls: Vec<MemCall>,
+    disk: MemDisk,
+    changes: u64,
+    plan: FaultPlan,
 }
 
 impl Model for MemFolder {
-    ghost use Rattle.outside.specs.Disk.{IsTree};
-    ghost use Rattle.outside_mem.specs.Held.{Holding, coded_holding};
+    ghost use Rattle.std.specs.Prelude.{◌≡◌};
+    ghost use Rattle.outside.specs.Images.{IsSound};
+    ghost use Rattle.outside_mem.specs.Held.{Holding, coded_holding, bare};
 
     ghost Value = { Holding };
 
     ghost coded = { coded_holding };
 
-    ghost use Rattle.outside_mem.specs.Entries.{disk_of};
+    ghost use Rattle.outside_mem.specs.Kept.{all_calls, disk_by};
 
     ghost view = { λ a. record {
-      disk = disk_of a.held.entries;
-      plan = a.faults;
+      log = record {
+        start = disk_by bare a.first.items;
+        calls = all_calls (disk_by bare a.first.items) a.calls.items;
+      };
+      changes = a.changes;
+      plan = a.plan;
     } };
 
-    ghost invariant = { λ a. IsTree (disk_of a.held.entries) };
+    ghost invariant = { λ a.
+        (a.disk ≡ disk_by (disk_by bare a.first.items) a.calls.items)
+        × IsSound bare (all_calls bare a.first.items)
+        × IsSound (disk_by bare a.first.items) (all_calls (disk_by bare a.first.items) a.calls.items) };
 }
 
 impl MemFolder {
     /// The empty folder alone.
     pub fn new(alloc: Global) -> Result<MemFolder, AllocError>
-        ensures { IfOk result (λ made. made ≡ record { disk = bare; plan = no_faults }) }
+        ensures { IfOk result (λ made. made ≡ record { log = record { start = bare; calls = [] }; changes = 0; plan = no_faults }) }
     {
-        let mut held = BTreeMap::new(alloc);
-        held.insert(VaultPath::root(), Held::Folder)?;
         Ok(MemFolder {
             alloc,
-            held,
-            faults: FaultPlan::new(alloc),
+            first: Vec::new(alloc),
+            calls: Vec::new(alloc),
+            disk: MemDisk::bare(alloc)?,
+            changes: 0,
+            plan: FaultPlan::new(alloc),
         })
     }
 
-    /// The calls of these numbers, from 0, shall fail.
+    /// The calls of these numbers, from 0, shall fail before they do anything.
     pub fn failing_at(mut self, calls: Vec<u64>) -> MemFolder
         ensures { result ≡ record self { plan = failing_at self.plan calls.items } }
     {
-        self.faults.set_failing(calls);
+        self.plan.set_failing(calls);
+        self
+    }
+
+    /// The calls of these numbers, from 0, shall fail, a change after a part of it.
+    pub fn breaking_at(mut self, calls: Vec<u64>) -> MemFolder
+        ensures { result ≡ record self { plan = breaking_at self.plan calls.items } }
+    {
+        self.plan.set_breaking(calls);
         self
     }
 
@@ -72,137 +90,262 @@ impl MemFolder {
     pub fn call_count(&self) -> u64
         ensures { result ≡ self.now.plan.calls }
     {
-        self.faults.calls()
+        self.plan.calls()
     }
 
     /// How many of them failed.
     pub fn fault_count(&self) -> u64
         ensures { result ≡ self.now.plan.faults }
     {
-        self.faults.faults()
+        self.plan.faults()
     }
 
-    fn stands(&self, path: &VaultPath) -> Option<Kind>
-        ensures kind { result ≡ kind_at self.now.disk path.now }
-        ensures tree { IsTree self.now.disk }
+    /// How many of them were to change it.
+    pub fn change_count(&self) -> u64
+        ensures { result ≡ self.now.changes }
     {
-        match self.held.get(path) {
-            None => None,
-            Some(Held::Folder) => Some(Kind::Dir),
-            Some(Held::File(bytes)) => Some(Kind::File(bytes.len() as u64)),
+        self.changes
+    }
+
+    // What reads give.
+    fn disk(&self) -> &MemDisk
+        ensures disk { result.now ≡ now self.now.log }
+        ensures sound { IsSound self.now.log.start self.now.log.calls }
+    {
+        &self.disk
+    }
+
+    /// The calls that made the disk that it began with out of the empty folder.
+    pub(crate) fn first_calls(&self) -> &[MemCall]
+        ensures start { self.now.log.start ≡ disk_by bare result.now }
+        ensures sound { IsSound bare (all_calls bare result.now) }
+    {
+        &self.first
+    }
+
+    /// The calls since then.
+    pub(crate) fn kept_calls(&self) -> &[MemCall]
+        ensures calls { self.now.log.calls ≡ all_calls self.now.log.start result.now }
+        ensures sound { IsSound self.now.log.start self.now.log.calls }
+    {
+        &self.calls
+    }
+
+    /// The allocator.
+    pub(crate) fn alloc(&self) -> Global {
+        self.alloc
+    }
+
+    /// A folder that begins with what this one holds, and with no calls.
+    pub(crate) fn restarted(self) -> MemFolder
+        requires { self.log.start ≡ bare }
+        ensures { result ≡ record { log = record { start = now self.log; calls = [] }; changes = 0; plan = no_faults } }
+    {
+        MemFolder {
+            alloc: self.alloc,
+            first: self.calls,
+            calls: Vec::new(self.alloc),
+            disk: self.disk,
+            changes: 0,
+            plan: FaultPlan::new(self.alloc),
         }
     }
 
-    fn is_folder(&self, path: &VaultPath) -> bool
-        ensures { IsTrue result ↔ IsFolder self.now.disk path.now }
+    /// The folder after a change, where that can be made, and else as it is.
+    pub(crate) fn with_change(mut self, change: MemChange) -> Result<MemFolder, AllocError>
+        ensures start { IfOk result (λ folder. folder.log.start ≡ self.log.start) }
+        ensures made { IfOk result (λ folder. IsMadeOrNot (change_of change) (now self.log) (now folder.log)) }
     {
-        matches!(self.stands(path), Some(Kind::Dir))
-    }
-
-    fn is_file(&self, path: &VaultPath) -> bool
-        ensures { IsTrue result ↔ IsFile self.now.disk path.now }
-    {
-        self.bytes_at(path).is_some()
-    }
-
-    fn bytes_at(&self, path: &VaultPath) -> Option<&[u8]>
-        ensures { MatchOption result (¬ IsFile self.now.disk path.now) (λ bytes. node_at self.now.disk path.now ≡ Some (file bytes.now)) }
-    {
-        match self.held.get(path) {
-            None => None,
-            Some(Held::Folder) => None,
-            Some(Held::File(bytes)) => Some(bytes),
+        let fits = self.disk().can_do(&change);
+        if fits {
+            self.make(change)?;
         }
+        Ok(self)
     }
 
-    fn has_room_for_dir(&self, path: &VaultPath) -> bool
-        ensures { IsTrue result ↔ CanMakeDir self.now.disk path.now }
+    /// Makes a change. After refused memory all is as it was.
+    pub(crate) fn make(&mut self, change: MemChange) -> Result<(), AllocError>
+        requires { CanDo (change_of change) (now self.old.log) }
+        ensures ok { OnOk result (self.new ≡ record self.old { log = adds self.old.log (Did (change_of change)) }) }
+        ensures err { OnErr result (self.new ≡ self.old) }
     {
-        self.is_folder(&path.parent()) && !self.is_file(path)
+        let kept = change.copied(self.alloc)?;
+        self.keep(MemCall::Did(kept), &change)
     }
 
-    fn has_room_for_file(&self, path: &VaultPath) -> bool
-        ensures { IsTrue result ↔ CanPut self.now.disk path.now }
+    // Makes a part of a change, and keeps that it broke off. After refused memory all is as it was.
+    fn break_off(&mut self, change: MemChange) -> Result<(), AllocError>
+        requires { CanDo (change_of change) (now self.old.log) }
+        ensures ok { OnOk result (self.new ≡ record self.old {
+          log = adds self.old.log (Broke (change_of change) (done (halved (change_of change)) (now self.old.log)));
+        }) }
+        ensures err { OnErr result (self.new ≡ self.old) }
     {
-        self.is_folder(&path.parent()) && !self.is_folder(path)
+        let half = change.halved(self.alloc)?;
+        self.keep(MemCall::Broke(change), &half)
     }
 
-    /// Puts what is held at a path. Refused memory is a fault.
-    fn hold(&mut self, path: &VaultPath, held: Held) -> Result<(), FolderErr>
-        requires { IsTree (map.insert self.old.disk path.now (node_of held)) }
-        ensures ok { OnOk result (self.new ≡ record self.old { disk = map.insert self.old.disk path.now (node_of held) }) }
-        ensures err { OnErr result (self.new ≡ record self.old { plan = record self.old.plan { faults = risen self.old.plan.faults } }) }
-        ensures failed { IfErr result (λ error. error ≡ FolderErr.Failed) }
+    // Keeps a call that leaves this change.
+    fn keep(&mut self, call: MemCall, change: &MemChange) -> Result<(), AllocError>
+        requires can { CanDo (change_of change.now) (now self.old.log) }
+        requires sound { IsSound self.old.log.start (call_of (now self.old.log) call ∷ self.old.log.calls) }
+        requires leaves { now (adds self.old.log (call_of (now self.old.log) call)) ≡ done (change_of change.now) (now self.old.log) }
+        ensures ok { OnOk result (self.new ≡ record self.old { log = adds self.old.log (call_of (now self.old.log) call) }) }
+        ensures err { OnErr result (self.new ≡ self.old) }
     {
-        match self.held.insert(path.copied(), held) {
-            Ok(_) => Ok(()),
+        self.calls.push(call)?;
+        if let Err(error) = self.disk.apply(self.alloc, change) {
+            self.calls.pop();
+            return Err(error);
+        }
+        Ok(())
+    }
+
+    // Keeps a sync. After refused memory all is as it was.
+    fn keep_sync(&mut self) -> Result<(), AllocError>
+        ensures ok { OnOk result (self.new ≡ record self.old { log = adds self.old.log Synced }) }
+        ensures err { OnErr result (self.new ≡ self.old) }
+    {
+        self.calls.push(MemCall::Synced)?;
+        Ok(())
+    }
+
+    // A changing call. It fails where it is listed, and where memory is refused.
+    fn change(&mut self, change: MemChange) -> Result<(), FolderErr>
+        ensures done { OnOk result (HasDone (change_of change) self.old.log self.new.log) }
+        ensures unfit { IsErrOf result FolderErr.Unfit → ¬ CanDo (change_of change) (now self.old.log) }
+        ensures refused { IsErrOf result FolderErr.Unfit → self.new.log ≡ self.old.log }
+        ensures broken { OnErr result (HasBroken (change_of change) self.old.log self.new.log) }
+        ensures kept { OnErr result (IsTrue (breaks_next self.old.plan) ⊎ (self.new.log ≡ self.old.log)) }
+        ensures no_memory { IsErrOf result FolderErr.Memory → ⊥ }
+        ensures listed { IsTrue (fails_next self.old.plan) → IsErrOf result FolderErr.Failed }
+        ensures plan { self.new.plan ≡ after self.old.plan (is_failed result) }
+        ensures counted { self.new.changes ≡ risen self.old.changes }
+    {
+        let breaks = self.plan.next_breaks();
+        let fails = self.count_change();
+        if breaks {
+            self.break_where_fit(change);
+            return Err(FolderErr::Failed);
+        }
+        if fails {
+            return Err(FolderErr::Failed);
+        }
+        if !self.disk().can_do(&change) {
+            return Err(FolderErr::Unfit);
+        }
+        match self.make(change) {
+            Ok(()) => Ok(()),
             Err(_) => Err(self.fail()),
         }
     }
 
-    /// Counts a fault.
+    // Counts a changing call, and says whether it shall fail, which is counted too.
+    fn count_change(&mut self) -> bool
+        ensures fails { result ≡ fails_next self.old.plan }
+        ensures counted { self.new ≡ record self.old {
+          changes = risen self.old.changes;
+          plan = after self.old.plan result;
+        } }
+    {
+        self.changes = self.changes.saturating_add(1);
+        self.plan.next_fails()
+    }
+
+    // Breaks off a change, where it can be made and memory isn't refused.
+    fn break_where_fit(&mut self, change: MemChange)
+        ensures broken { HasBroken (change_of change) self.old.log self.new.log }
+        ensures counts { (self.new.changes ≡ self.old.changes) × (self.new.plan ≡ self.old.plan) }
+    {
+        if self.disk().can_do(&change) {
+            let _ = self.break_off(change);
+        }
+    }
+
+    // A changing call that memory was refused for.
+    fn refuse(&mut self) -> FolderErr
+        ensures counted { self.new ≡ record self.old {
+          changes = risen self.old.changes;
+          plan = after self.old.plan true;
+        } }
+        ensures failed { result ≡ FolderErr.Failed }
+    {
+        if self.count_change() {
+            return FolderErr::Failed;
+        }
+        self.fail()
+    }
+
+    // Counts a fault.
     fn fail(&mut self) -> FolderErr
         ensures counted { self.new ≡ record self.old { plan = record self.old.plan { faults = risen self.old.plan.faults } } }
         ensures failed { result ≡ FolderErr.Failed }
     {
-        self.faults.add_fault();
+        self.plan.add_fault();
         FolderErr::Failed
     }
 }
 
 impl Reads for MemFolder {
-    ghost disk = { λ s. Some s.disk };
+    ghost log = { λ s. Some s.log };
 
     ghost faults = { λ s. s.plan.faults };
 
+    ghost changes = { λ s. s.changes };
+
     /// Fails at a listed call alone.
     fn kind(&mut self, path: &VaultPath) -> Result<Option<Kind>, FolderErr>
-        ensures kind { IfOk result (λ kind. kind ≡ kind_at self.old.disk path.now) }
-        ensures tree { IsTree self.old.disk }
+        ensures kind { IfOk result (λ kind. kind ≡ kind_at (now self.old.log) path.now) }
+        ensures tree { IsTree (now self.old.log) }
         ensures error { IfErr result (λ error. error ≡ FolderErr.Failed) }
-        ensures disk { self.new.disk ≡ self.old.disk }
+        ensures log { self.new.log ≡ self.old.log }
+        ensures changes { self.new.changes ≡ self.old.changes }
         ensures listed { IsErr result ↔ IsTrue (fails_next self.old.plan) }
         ensures plan { self.new.plan ≡ after self.old.plan (is_failed result) }
     {
-        if self.faults.next_fails() {
+        if self.plan.next_fails() {
             return Err(FolderErr::Failed);
         }
-        Ok(self.stands(path))
+        Ok(self.disk().kind(path))
     }
 
     /// Fails at a listed call alone.
     fn list(&mut self, alloc: Global, path: &VaultPath) -> Result<Vec<Text>, FolderErr>
-        ensures names { IfOk result (λ names. IsFolder self.old.disk path.now × IsListing self.old.disk path.now names.items) }
-        ensures unfit { IsErrOf result FolderErr.Unfit → ¬ IsFolder self.old.disk path.now }
-        ensures disk { self.new.disk ≡ self.old.disk }
+        ensures names { IfOk result (λ names. IsFolder (now self.old.log) path.now × IsListing (now self.old.log) path.now names.items) }
+        ensures unfit { IsErrOf result FolderErr.Unfit → ¬ IsFolder (now self.old.log) path.now }
+        ensures log { self.new.log ≡ self.old.log }
+        ensures changes { self.new.changes ≡ self.old.changes }
         ensures listed { IsErrOf result FolderErr.Failed ↔ IsTrue (fails_next self.old.plan) }
         ensures plan { self.new.plan ≡ after self.old.plan (is_failed result) }
     {
-        if self.faults.next_fails() {
+        if self.plan.next_fails() {
             return Err(FolderErr::Failed);
         }
-        if !self.is_folder(path) {
+        if !self.disk().is_folder(path) {
             return Err(FolderErr::Unfit);
         }
-        names_in(alloc, &self.held, path).map_err(|_| FolderErr::Memory)
+        self.disk()
+            .names_in(alloc, path)
+            .map_err(|_| FolderErr::Memory)
     }
 
     /// Fails at a listed call alone.
     fn read(&mut self, path: &VaultPath, at: u64, out: &mut [u8]) -> Result<usize, FolderErr>
         ensures count { IfOk result (λ n. n ≤ length out.old) }
         ensures rest { IfOk result (λ n. drop n out.new ≡ drop n out.old) }
-        ensures bytes { IfOk result (λ n. (bytes : List ℕ) × (node_at self.old.disk path.now ≡ Some (file bytes))
+        ensures bytes { IfOk result (λ n. (bytes : List ℕ) × (node_at (now self.old.log) path.now ≡ Some (file bytes))
             × (n ≡ min (length out.old) (length bytes - at)) × (take n out.new ≡ take n (drop at bytes))) }
-        ensures unfit { IsErrOf result FolderErr.Unfit → ¬ IsFile self.old.disk path.now }
+        ensures unfit { IsErrOf result FolderErr.Unfit → ¬ IsFile (now self.old.log) path.now }
         ensures no_memory { IsErrOf result FolderErr.Memory → ⊥ }
-        ensures disk { self.new.disk ≡ self.old.disk }
+        ensures log { self.new.log ≡ self.old.log }
+        ensures changes { self.new.changes ≡ self.old.changes }
         ensures listed { IsErrOf result FolderErr.Failed ↔ IsTrue (fails_next self.old.plan) }
         ensures plan { self.new.plan ≡ after self.old.plan (is_failed result) }
     {
-        if self.faults.next_fails() {
+        if self.plan.next_fails() {
             return Err(FolderErr::Failed);
         }
-        match self.bytes_at(path) {
+        match self.disk().bytes_at(path) {
             Some(bytes) => Ok(copy_at(bytes, at, out)),
             None => Err(FolderErr::Unfit),
         }
@@ -210,41 +353,132 @@ impl Reads for MemFolder {
 }
 
 impl Folder for MemFolder {
-    /// Fails at a listed call, and where memory is refused, and changes nothing then.
+    /// Fails at a listed call, and where memory is refused. It changes nothing then but where it shall break off.
     fn make_dir(&mut self, path: &VaultPath) -> Result<(), FolderErr>
-        ensures made { OnOk result (CanMakeDir self.old.disk path.now × (self.new.disk ≡ map.insert self.old.disk path.now folder)) }
-        ensures unfit { IsErrOf result FolderErr.Unfit → ¬ CanMakeDir self.old.disk path.now }
-        ensures kept { OnErr result (self.new.disk ≡ self.old.disk) }
+        ensures done { OnOk result (HasDone (MakeDir path.now) self.old.log self.new.log) }
+        ensures unfit { IsErrOf result FolderErr.Unfit → ¬ CanDo (MakeDir path.now) (now self.old.log) }
+        ensures refused { IsErrOf result FolderErr.Unfit → self.new.log ≡ self.old.log }
+        ensures broken { OnErr result (HasBroken (MakeDir path.now) self.old.log self.new.log) }
+        ensures kept { OnErr result (IsTrue (breaks_next self.old.plan) ⊎ (self.new.log ≡ self.old.log)) }
         ensures no_memory { IsErrOf result FolderErr.Memory → ⊥ }
         ensures listed { IsTrue (fails_next self.old.plan) → IsErrOf result FolderErr.Failed }
         ensures plan { self.new.plan ≡ after self.old.plan (is_failed result) }
+        ensures counted { self.new.changes ≡ risen self.old.changes }
     {
-        if self.faults.next_fails() {
-            return Err(FolderErr::Failed);
-        }
-        if !self.has_room_for_dir(path) {
-            return Err(FolderErr::Unfit);
-        }
-        self.hold(path, Held::Folder)
+        self.change(MemChange::MakeDir(path.copied()))
     }
 
-    /// Fails at a listed call, and where memory is refused, and changes nothing then.
+    /// Fails at a listed call, and where memory is refused. It changes nothing then but where it shall break off.
     fn put(&mut self, path: &VaultPath, bytes: &[u8]) -> Result<(), FolderErr>
-        ensures put { OnOk result (CanPut self.old.disk path.now × (self.new.disk ≡ map.insert self.old.disk path.now (file bytes.now))) }
-        ensures unfit { IsErrOf result FolderErr.Unfit → ¬ CanPut self.old.disk path.now }
-        ensures kept { OnErr result (self.new.disk ≡ self.old.disk) }
+        ensures done { OnOk result (HasDone (Put path.now bytes.now) self.old.log self.new.log) }
+        ensures unfit { IsErrOf result FolderErr.Unfit → ¬ CanDo (Put path.now bytes.now) (now self.old.log) }
+        ensures refused { IsErrOf result FolderErr.Unfit → self.new.log ≡ self.old.log }
+        ensures broken { OnErr result (HasBroken (Put path.now bytes.now) self.old.log self.new.log) }
+        ensures kept { OnErr result (IsTrue (breaks_next self.old.plan) ⊎ (self.new.log ≡ self.old.log)) }
         ensures no_memory { IsErrOf result FolderErr.Memory → ⊥ }
         ensures listed { IsTrue (fails_next self.old.plan) → IsErrOf result FolderErr.Failed }
         ensures plan { self.new.plan ≡ after self.old.plan (is_failed result) }
+        ensures counted { self.new.changes ≡ risen self.old.changes }
     {
-        if self.faults.next_fails() {
+        match Vec::from_slice(self.alloc, bytes) {
+            Ok(bytes) => self.change(MemChange::Put(path.copied(), bytes)),
+            Err(_) => Err(self.refuse()),
+        }
+    }
+
+    /// Fails at a listed call, and where memory is refused. It changes nothing then but where it shall break off.
+    fn write(&mut self, path: &VaultPath, at: u64, bytes: &[u8]) -> Result<(), FolderErr>
+        ensures done { OnOk result (HasDone (Write path.now at bytes.now) self.old.log self.new.log) }
+        ensures unfit { IsErrOf result FolderErr.Unfit → ¬ CanDo (Write path.now at bytes.now) (now self.old.log) }
+        ensures refused { IsErrOf result FolderErr.Unfit → self.new.log ≡ self.old.log }
+        ensures broken { OnErr result (HasBroken (Write path.now at bytes.now) self.old.log self.new.log) }
+        ensures kept { OnErr result (IsTrue (breaks_next self.old.plan) ⊎ (self.new.log ≡ self.old.log)) }
+        ensures no_memory { IsErrOf result FolderErr.Memory → ⊥ }
+        ensures listed { IsTrue (fails_next self.old.plan) → IsErrOf result FolderErr.Failed }
+        ensures plan { self.new.plan ≡ after self.old.plan (is_failed result) }
+        ensures counted { self.new.changes ≡ risen self.old.changes }
+    {
+        match Vec::from_slice(self.alloc, bytes) {
+            Ok(bytes) => self.change(MemChange::Write(path.copied(), at, bytes)),
+            Err(_) => Err(self.refuse()),
+        }
+    }
+
+    /// Fails at a listed call, and where memory is refused. It changes nothing then but where it shall break off.
+    fn set_len(&mut self, path: &VaultPath, len: u64) -> Result<(), FolderErr>
+        ensures done { OnOk result (HasDone (SetLen path.now len) self.old.log self.new.log) }
+        ensures unfit { IsErrOf result FolderErr.Unfit → ¬ CanDo (SetLen path.now len) (now self.old.log) }
+        ensures refused { IsErrOf result FolderErr.Unfit → self.new.log ≡ self.old.log }
+        ensures broken { OnErr result (HasBroken (SetLen path.now len) self.old.log self.new.log) }
+        ensures kept { OnErr result (IsTrue (breaks_next self.old.plan) ⊎ (self.new.log ≡ self.old.log)) }
+        ensures no_memory { IsErrOf result FolderErr.Memory → ⊥ }
+        ensures listed { IsTrue (fails_next self.old.plan) → IsErrOf result FolderErr.Failed }
+        ensures plan { self.new.plan ≡ after self.old.plan (is_failed result) }
+        ensures counted { self.new.changes ≡ risen self.old.changes }
+    {
+        self.change(MemChange::SetLen(path.copied(), len))
+    }
+
+    /// Fails at a listed call, and where memory is refused. It changes nothing then but where it shall break off.
+    fn rename(&mut self, from: &VaultPath, to: &VaultPath) -> Result<(), FolderErr>
+        ensures done { OnOk result (HasDone (Move from.now to.now) self.old.log self.new.log) }
+        ensures unfit { IsErrOf result FolderErr.Unfit → ¬ CanDo (Move from.now to.now) (now self.old.log) }
+        ensures refused { IsErrOf result FolderErr.Unfit → self.new.log ≡ self.old.log }
+        ensures broken { OnErr result (HasBroken (Move from.now to.now) self.old.log self.new.log) }
+        ensures kept { OnErr result (IsTrue (breaks_next self.old.plan) ⊎ (self.new.log ≡ self.old.log)) }
+        ensures no_memory { IsErrOf result FolderErr.Memory → ⊥ }
+        ensures listed { IsTrue (fails_next self.old.plan) → IsErrOf result FolderErr.Failed }
+        ensures plan { self.new.plan ≡ after self.old.plan (is_failed result) }
+        ensures counted { self.new.changes ≡ risen self.old.changes }
+    {
+        self.change(MemChange::Move(from.copied(), to.copied()))
+    }
+
+    /// Fails at a listed call, and where memory is refused. It changes nothing then but where it shall break off.
+    fn remove_file(&mut self, path: &VaultPath) -> Result<(), FolderErr>
+        ensures done { OnOk result (HasDone (RemoveFile path.now) self.old.log self.new.log) }
+        ensures unfit { IsErrOf result FolderErr.Unfit → ¬ CanDo (RemoveFile path.now) (now self.old.log) }
+        ensures refused { IsErrOf result FolderErr.Unfit → self.new.log ≡ self.old.log }
+        ensures broken { OnErr result (HasBroken (RemoveFile path.now) self.old.log self.new.log) }
+        ensures kept { OnErr result (IsTrue (breaks_next self.old.plan) ⊎ (self.new.log ≡ self.old.log)) }
+        ensures no_memory { IsErrOf result FolderErr.Memory → ⊥ }
+        ensures listed { IsTrue (fails_next self.old.plan) → IsErrOf result FolderErr.Failed }
+        ensures plan { self.new.plan ≡ after self.old.plan (is_failed result) }
+        ensures counted { self.new.changes ≡ risen self.old.changes }
+    {
+        self.change(MemChange::RemoveFile(path.copied()))
+    }
+
+    /// Fails at a listed call, and where memory is refused. It changes nothing then but where it shall break off.
+    fn remove_dir(&mut self, path: &VaultPath) -> Result<(), FolderErr>
+        ensures done { OnOk result (HasDone (RemoveDir path.now) self.old.log self.new.log) }
+        ensures unfit { IsErrOf result FolderErr.Unfit → ¬ CanDo (RemoveDir path.now) (now self.old.log) }
+        ensures refused { IsErrOf result FolderErr.Unfit → self.new.log ≡ self.old.log }
+        ensures broken { OnErr result (HasBroken (RemoveDir path.now) self.old.log self.new.log) }
+        ensures kept { OnErr result (IsTrue (breaks_next self.old.plan) ⊎ (self.new.log ≡ self.old.log)) }
+        ensures no_memory { IsErrOf result FolderErr.Memory → ⊥ }
+        ensures listed { IsTrue (fails_next self.old.plan) → IsErrOf result FolderErr.Failed }
+        ensures plan { self.new.plan ≡ after self.old.plan (is_failed result) }
+        ensures counted { self.new.changes ≡ risen self.old.changes }
+    {
+        self.change(MemChange::RemoveDir(path.copied()))
+    }
+
+    /// Fails at a listed call, and where memory is refused, and does nothing then.
+    fn sync(&mut self) -> Result<(), FolderErr>
+        ensures synced { OnOk result (self.new.log ≡ adds self.old.log Synced) }
+        ensures failed { OnErr result (self.new.log ≡ self.old.log) }
+        ensures sound { IsSound self.old.log.start self.old.log.calls }
+        ensures error { IfErr result (λ error. error ≡ FolderErr.Failed) }
+        ensures listed { IsTrue (fails_next self.old.plan) → IsErr result }
+        ensures plan { self.new.plan ≡ after self.old.plan (is_failed result) }
+        ensures changes { self.new.changes ≡ self.old.changes }
+    {
+        if self.plan.next_fails() {
             return Err(FolderErr::Failed);
         }
-        if !self.has_room_for_file(path) {
-            return Err(FolderErr::Unfit);
-        }
-        match Vec::from_slice(self.alloc, bytes) {
-            Ok(bytes) => self.hold(path, Held::File(bytes)),
+        match self.keep_sync() {
+            Ok(()) => Ok(()),
             Err(_) => Err(self.fail()),
         }
     }
@@ -258,21 +492,4 @@ fn copy_at(bytes: &[u8], at: u64, out: &mut [u8]) -> usize
 {
     let start = bytes.len().min(at as usize);
     copy_front(&bytes[start..], usize::MAX, out)
-}
-
-/// The names in a folder.
-fn names_in(
-    alloc: Global,
-    held: &BTreeMap<VaultPath, Held>,
-    folder: &VaultPath,
-) -> Result<Vec<Text>, AllocError>
-    ensures { IfOk result (λ names. IsListing (disk_of held.now.entries) folder.now names.items) }
-{
-    let mut names = Vec::new(alloc);
-    for path in held.keys() {
-        if let Some(name) = path.name_in(folder) {
-            names.push(Text::from_vec(name.to_vec(alloc)?))?;
-        }
-    }
-    Ok(names)
 }

@@ -2,9 +2,13 @@
 //! calls and where memory is refused, and nowhere else.
 #![tactic(auto)]
 
+mod applying;
+mod change;
 mod clock;
+mod disk;
 mod entropy;
 mod folder;
+mod images;
 mod link;
 mod plan;
 mod stream;
@@ -14,6 +18,3 @@ pub use entropy::SeedEntropy;
 pub use folder::MemFolder;
 pub use link::{MemLink, MemListener};
 pub use stream::{MemSink, MemSource};
-
-#[cfg(test)]
-mod tests;

@@ -6,6 +6,7 @@ ghost use Rattle.std.specs.Ordering.{nat_cmp, as_partial_cmp};
 ghost use Rattle.std.specs.Str.{bytes_eq};
 ghost use Rattle.vault_path.specs.Parts.{is_part_byte, is_part, is_path};
 
+use crate::part::{Part, is_host_part};
 use crate::text::Text;
 use std::cmp::Ordering;
 use std::fmt;
@@ -15,105 +16,10 @@ use thiserror::Error;
 
 const MAX_PARTS: usize = 6;
 
-const MAX_PART_LEN: usize = 255;
-
 /// A part that isn't 1 to 255 of `A-Z a-z 0-9 - _ = .`, is `.` or `..`, or would be the seventh of its path.
 #[derive(Clone, Copy, Debug, PartialEq, Eq, Error)]
 #[error("a part of a host path is bad")]
 pub struct BadPart;
-
-/// Up to 255 bytes, kept in place.
-#[derive(Drop)]
-struct Part {
-    bytes: [u8; 255],
-    used: usize,
-}
-
-impl Model for Part {
-    ghost use Rattle.std.specs.Prelude.{ℕ, List, ◌≤◌, take};
-
-    ghost Value = { List ℕ };
-
-    ghost view = { λ a. take a.used a.bytes };
-
-    ghost invariant = { λ a. a.used ≤ 255 };
-}
-
-impl Part {
-    fn empty() -> Part
-        ensures { result ≡ [] }
-    {
-        Part {
-            bytes: [0; MAX_PART_LEN],
-            used: 0,
-        }
-    }
-
-    fn from_bytes(part: &[u8]) -> Part
-        requires { length part.now ≤ 255 }
-        ensures { result ≡ part.now }
-    {
-        let mut bytes = [0; MAX_PART_LEN];
-        bytes[..part.len()].copy_from_slice(part);
-        Part {
-            bytes,
-            used: part.len(),
-        }
-    }
-
-    fn as_bytes(&self) -> &[u8]
-        ensures { result.now ≡ self.now }
-    {
-        &self.bytes[..self.used]
-    }
-
-    fn copied(&self) -> Part
-        ensures { result ≡ self.now }
-    {
-        Part {
-            bytes: self.bytes,
-            used: self.used,
-        }
-    }
-}
-
-impl PartialEq for Part {
-    ghost eq = { bytes_eq };
-
-    ghost laws = { partial_equiv_from_equiv nat_list_eq_equiv };
-
-    fn eq(&self, other: &Part) -> bool {
-        self.as_bytes() == other.as_bytes()
-    }
-}
-
-impl Eq for Part {
-    ghost laws = { nat_list_eq_equiv };
-}
-
-impl Ord for Part {
-    ghost cmp = { slice_cmp nat_cmp };
-
-    ghost total = { nat_list_cmp_total };
-
-    ghost matches_partial_cmp = { λ _ _. refl };
-
-    ghost matches_eq = { texts_ties };
-
-    fn cmp(&self, other: &Part) -> Ordering {
-        self.as_bytes().cmp(&other.as_bytes())
-    }
-}
-
-impl PartialOrd for Part {
-    ghost partial_cmp = { as_partial_cmp (slice_cmp nat_cmp) };
-
-    ghost laws = { texts_po };
-
-    fn partial_cmp(&self, other: &Part) -> Option<Ordering> {
-        Some(self.cmp(other))
-    }
-}
 
 /// A host path inside the vault's folder: 0 to 6 parts, kept in place. Clauses see the list of its parts.
 #[derive(Drop)]
@@ -317,107 +223,5 @@ impl PartialOrd for VaultPath {
 
     fn partial_cmp(&self, other: &VaultPath) -> Option<Ordering> {
         Some(self.cmp(other))
-    }
-}
-
-fn is_host_byte(byte: u8) -> bool
-    ensures { result ≡ is_part_byte byte }
-{
-    matches!(byte, b'A'..=b'Z' | b'a'..=b'z' | b'0'..=b'9' | b'-' | b'_' | b'=' | b'.')
-}
-
-fn is_host_part(part: &[u8]) -> bool
-    ensures { result ≡ is_part part.now }
-{
-    has_fit_len(part) && has_host_bytes(part) && !is_dot(part) && !is_dots(part)
-}
-
-fn has_host_bytes(part: &[u8]) -> bool
-    ensures { result ≡ list_all is_part_byte part.now }
-{
-    part.iter().all(|byte| is_host_byte(*byte))
-}
-
-fn has_fit_len(part: &[u8]) -> bool
-    ensures { result ≡ (nat_le 1 (length part.now) && nat_le (length part.now) 255) }
-{
-    !part.is_empty() && part.len() <= MAX_PART_LEN
-}
-
-fn is_dot(part: &[u8]) -> bool
-    ensures { result ≡ bytes_eq part.now (46 ∷ []) }
-{
-    part == b".".as_slice()
-}
-
-fn is_dots(part: &[u8]) -> bool
-    ensures { result ≡ bytes_eq part.now (46 ∷ 46 ∷ []) }
-{
-    part == b"..".as_slice()
-}
-
-#[cfg(test)]
-mod tests {
-    use super::*;
-    use std::test::Fail;
-
-    const SHORT: [u8; 255] = [b'x'; 255];
-
-    const LONG: [u8; 256] = [b'x'; 256];
-
-    #[test]
-    fn parts_are_told_apart(rt: HostRuntime) -> Result<(), Fail> {
-        let rows: [(&[u8], bool); 16] = [
-            (b"a", true),
-            (b"d", true),
-            (b"AZaz09-_=.", true),
-            (b"...", true),
-            (b".a", true),
-            (&SHORT, true),
-            (&LONG, false),
-            (b"", false),
-            (b".", false),
-            (b"..", false),
-            (b"a/b", false),
-            (b"/", false),
-            (b"a b", false),
-            (b"\0", false),
-            (b"a\\b", false),
-            ("\u{e4}".as_bytes(), false),
-        ];
-        for (part, good) in rows {
-            assert_eq!(rt; VaultPath::root().join(part).is_ok(), good, "{part:?}");
-        }
-        Ok(())
-    }
-
-    #[test]
-    fn parts_stay_in_order(rt: HostRuntime) -> Result<(), Fail> {
-        let names: [&[u8]; 6] = [b"d", b"AB", b"CDE", b"x.c9r", b"contents", b"f"];
-        let mut path = VaultPath::root();
-        assert!(rt; path.is_empty());
-        for name in names {
-            path = path.join(name).ok().ok_or("a good part")?;
-        }
-        assert_eq!(rt; path.len(), 6);
-        assert!(rt; path.part(0) == b"d".as_slice());
-        assert!(rt; path.part(5) == b"f".as_slice());
-        assert!(rt; path.join(b"g").is_err(), "a seventh part");
-        let texts = [
-            Text::from_vec(b"d".to_vec(rt.alloc())?),
-            Text::from_vec(b"AB".to_vec(rt.alloc())?),
-        ];
-        let path = VaultPath::from_parts(&texts).ok().ok_or("two good parts")?;
-        assert_eq!(rt; path.len(), 2);
-        let above = path.parent();
-        assert!(rt; above < path);
-        assert!(rt; above == above.copied());
-        assert!(rt; path.name_in(&above) == Some(b"AB".as_slice()));
-        assert!(rt; path.name_in(&VaultPath::root()).is_none());
-        assert_eq!(rt; format!(in rt.alloc(); "{path:?}")?.as_str(), "/d/AB");
-        let bytes = Text::from_vec(b"d".to_vec(rt.alloc())?).into_vec();
-        assert!(rt; bytes.as_slice() == b"d".as_slice());
-        assert!(rt; path.part(1) == b"AB".as_slice());
-        Ok(())
     }
 }

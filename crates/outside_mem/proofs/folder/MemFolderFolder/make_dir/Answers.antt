@@ -1,6 +1,9 @@
-use Rattle.std.proofs.Common.{inl, refl}
-use Rattle.outside_mem.proofs.Disks.{tree_put}
+use Rattle.std.proofs.Common.{subst, OnErr}
+use Rattle.outside.specs.Disk.{Path}
+use Rattle.outside.specs.Changes.{MakeDir}
+use Rattle.outside.specs.Images.{HasBroken}
 use Rattle.outside_mem.proofs.folder.MemFolderFolder.make_dir.Goals as goal
 
-pub hold-requires : goal.hold-requires
-hold-requires c = tree_put _ _ _ c.self.invariant (c.if-not-has_room_for_dir.ensures.0 refl).inside (inl refl)
+pub returns-clause-broken : goal.returns-clause-broken
+returns-clause-broken c =
+    subst (λ (p : Path). OnErr c.change.result (HasBroken (MakeDir p) c.args.self.now.log c.change.new.self.log)) c.copied.ensures c.change.ensures.broken

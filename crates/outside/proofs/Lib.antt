@@ -1,0 +1,6 @@
+pub mod Paths
+pub mod Trees
+pub mod Moments
+pub mod Told
+pub mod Steady
+pub mod Lists

@@ -1,0 +1,10 @@
+use Rattle.std.proofs.Common.{subst, OnErr}
+use Rattle.outside.specs.Disk.{Path}
+use Rattle.outside.specs.Changes.{Move}
+use Rattle.outside.specs.Images.{HasBroken}
+use Rattle.outside_mem.proofs.folder.MemFolderFolder.rename.Goals as goal
+
+pub returns-clause-broken : goal.returns-clause-broken
+returns-clause-broken c =
+    subst (λ (p : Path). OnErr c.change.result (HasBroken (Move c.args.from.now p) c.args.self.now.log c.change.new.self.log)) c.copied-2.ensures
+    (subst (λ (p : Path). OnErr c.change.result (HasBroken (Move p c.copied-2.result) c.args.self.now.log c.change.new.self.log)) c.copied.ensures c.change.ensures.broken)
