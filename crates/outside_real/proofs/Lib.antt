@@ -1,3 +1,4 @@
 pub mod Ascii
 pub mod Filled
 pub mod HostPathLemmas
+pub mod Kept

@@ -1,3 +1,4 @@
 pub mod HostPath
 pub mod Behind
 pub mod Missing
+pub mod Same

@@ -40,14 +40,3 @@ impl<R: SystemClock> Clock for HostClock<R> {
         cut(self.since_1970().unwrap_or(0))
     }
 }
-
-#[cfg(test)]
-mod tests {
-    use super::*;
-
-    #[test]
-    fn clock_is_past_2024(rt: HostRuntime) {
-        let clock = HostClock::new(&rt);
-        assert!(rt; clock.now() > 1_704_067_200);
-    }
-}

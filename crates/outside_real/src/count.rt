@@ -1,5 +1,5 @@
 ghost use Rattle.std.specs.Prelude.{◌≡◌, ◌≤◌, IfOk, IsErr, IsErrOf, is_ok, Ok};
-ghost use Rattle.outside.specs.Calls.{HasCause, Rose};
+ghost use Rattle.outside.specs.Calls.{HasCause, Rose, risen};
 
 use outside::{Failed, FolderErr};
 use std::io;
@@ -10,6 +10,13 @@ fn raised(faults: u64) -> u64
     ensures rose { Rose faults result }
 {
     faults.saturating_add(1)
+}
+
+/// Counts one changing call more.
+pub(crate) fn count_change(changes: &mut u64)
+    ensures { changes.new ≡ risen changes.old }
+{
+    *changes = changes.saturating_add(1);
 }
 
 /// Passes the host's answer on, and counts a failure.

@@ -64,20 +64,3 @@ impl<R: Files> Entropy for OsEntropy<R> {
         counted(&mut self.faults, answer)
     }
 }
-
-#[cfg(test)]
-mod tests {
-    use super::*;
-    use std::test::Fail;
-
-    #[test]
-    fn two_draws_differ(rt: HostRuntime) -> Result<(), Fail> {
-        let mut entropy = OsEntropy::new(&rt);
-        let mut first = [0u8; 32];
-        let mut second = [0u8; 32];
-        entropy.fill(&mut first)?;
-        entropy.fill(&mut second)?;
-        assert_ne!(rt; first, second);
-        Ok(())
-    }
-}

@@ -1,40 +1,28 @@
-ghost use Rattle.std.specs.Prelude.{◌≡◌, ◌↔◌, ◌≤◌, ◌⊎◌, ◌==◌, [], ◌∷◌, ◌++◌, if◌then◌else◌, ℕ, string_bytes, OnOk, OnErr, length, drop, IfOk, IsTrue, IsOkUnless, IsErrOf};
-ghost use Rattle.std.specs.Fs.{IsDir, IsFile, file_type, metadata_len};
+ghost use Rattle.std.specs.Prelude.{◌≡◌, ◌↔◌, false, ◌≤◌, [], ◌∷◌, ◌++◌, string_bytes, OnOk, OnErr, length, drop, IfOk, IsErr, IsTrue, IsOkUnless, IsErrOf};
 ghost use Rattle.outside_real.specs.HostPath.{host_path};
-ghost use Rattle.outside_real.specs.Missing.{IsMissing};
+ghost use Rattle.outside_real.specs.Missing.{IsMisfit};
 
+use crate::found::{Found, found_at, is_missing, kind_of};
+use crate::opened::{cut, flush, make_dir, make_file, read_at, replace_bytes, write_at};
 use crate::room::PathRoom;
-use crate::transfer::read_full;
+use crate::touched::Touched;
 use outside::{FolderErr, Kind};
 use std::alloc::{AllocError, Global};
-use std::fs::{File, Metadata};
-use std::io::{ErrorKind, Seek, SeekFrom, Write};
+use std::io::ErrorKind;
 use std::rt::Files;
 use std::{fs, io};
 use vault_path::{Text, VaultPath};
-
-/// What the host has at a path.
-#[derive(Clone, Copy)]
-enum Found {
-    Nothing,
-    Dir,
-    File(u64),
-    /// A link, a device or the like.
-    Other,
-}
 
 /// A folder of the host.
 #[derive(Drop)]
 pub(crate) struct Host<R> {
     rt: R,
     paths: PathRoom,
-}
-
-/// Nothing can be at the path, since it, or a folder on the way to it, is missing.
-fn is_missing(error: &io::Error) -> bool
-    ensures { IsTrue result ↔ IsMissing error.now }
-{
-    matches!(error.kind(), ErrorKind::NotFound | ErrorKind::NotADirectory)
+    /// Where a rename leads.
+    target: PathRoom,
+    touched: Touched,
+    /// A flush has failed. The host may take the pages for written from then on, so no later sync can be trusted.
+    flush_failed: bool,
 }
 
 fn failed(_error: io::Error) -> FolderErr
@@ -43,75 +31,28 @@ fn failed(_error: io::Error) -> FolderErr
     FolderErr::Failed
 }
 
-/// Why a change at a path failed: a folder on the way to it is missing, or the host failed.
+/// The host finds that the path isn't what the call needs.
+fn is_unfit(error: &io::Error) -> bool
+    ensures { IsTrue result ↔ IsMisfit error.now }
+{
+    is_missing(error)
+        || matches!(
+            error.kind(),
+            ErrorKind::IsADirectory | ErrorKind::DirectoryNotEmpty
+        )
+}
+
+/// Why a change failed: the path isn't what it needs, or the host failed.
 fn change_error(error: io::Error) -> FolderErr
-    ensures unfit { IsMissing error → result ≡ FolderErr.Unfit }
-    ensures failed { ¬ IsMissing error → result ≡ FolderErr.Failed }
+    ensures unfit { IsMisfit error → result ≡ FolderErr.Unfit }
+    ensures failed { ¬ IsMisfit error → result ≡ FolderErr.Failed }
     ensures no_memory { result ≡ FolderErr.Memory → ⊥ }
 {
-    if is_missing(&error) {
+    if is_unfit(&error) {
         FolderErr::Unfit
     } else {
         FolderErr::Failed
     }
-}
-
-fn found_of(metadata: &Metadata) -> Found
-    ensures dir { (result ≡ Found.Dir) ↔ IsDir (file_type metadata.now) }
-    ensures file { IsFile (file_type metadata.now) → result ≡ Found.File (metadata_len metadata.now) }
-    ensures other { (result ≡ Found.Other) ↔ (¬ IsDir (file_type metadata.now) × ¬ IsFile (file_type metadata.now)) }
-{
-    if metadata.is_dir() {
-        Found::Dir
-    } else if metadata.is_file() {
-        Found::File(metadata.len())
-    } else {
-        Found::Other
-    }
-}
-
-fn kind_of(found: Found) -> Option<Kind>
-    ensures dir { found ≡ Found.Dir → result ≡ Some Kind.Dir }
-    ensures file { (length : ℕ) → found ≡ Found.File length → result ≡ Some (Kind.File length) }
-    ensures absent { (found ≡ Found.Nothing) ⊎ (found ≡ Found.Other) → result ≡ None }
-{
-    match found {
-        Found::Nothing | Found::Other => None,
-        Found::Dir => Some(Kind::Dir),
-        Found::File(length) => Some(Kind::File(length)),
-    }
-}
-
-/// What the host has at a path. A link at its end is followed only where it is that of the folder itself.
-fn found_at(rt: &impl Files, text: &str, is_top: bool) -> Result<Found, FolderErr>
-    ensures { IsOkUnless result FolderErr.Failed }
-{
-    let answer = if is_top {
-        fs::metadata(rt, text)
-    } else {
-        fs::symlink_metadata(rt, text)
-    };
-    match answer {
-        Ok(metadata) => Ok(found_of(&metadata)),
-        Err(e) if is_missing(&e) => Ok(Found::Nothing),
-        Err(_) => Err(FolderErr::Failed),
-    }
-}
-
-fn read_at<R: Files>(rt: &R, text: &str, at: u64, out: &mut [u8]) -> io::Result<usize>
-    ensures count { IfOk result (λ n. n ≤ length out.old) }
-    ensures rest { IfOk result (λ n. drop n out.new ≡ drop n out.old) }
-{
-    let mut file = File::open(rt, text)?;
-    file.seek(SeekFrom::Start(at))?;
-    read_full(&mut file, out)
-}
-
-fn write_at<R: Files>(rt: &R, text: &str, bytes: &[u8]) -> Result<(), FolderErr>
-    ensures { IsErrOf result FolderErr.Memory → ⊥ }
-{
-    let mut file = File::create(rt, text).map_err(change_error)?;
-    file.write_all(bytes).map_err(failed)
 }
 
 fn push_name(alloc: Global, names: &mut Vec<Text>, name: &str) -> Result<(), AllocError>
@@ -132,33 +73,64 @@ fn names_in<R: Files>(rt: &R, alloc: Global, text: &str) -> Result<Vec<Text>, Fo
     Ok(names)
 }
 
+/// Flushes what stands at a path. Where nothing does, that is so by what is flushed of the folder above.
+fn flush_path<R: Files>(rt: &R, paths: &mut PathRoom, path: &VaultPath) -> Result<(), FolderErr>
+    ensures no_memory { IsOkUnless result FolderErr.Failed }
+    ensures base { string_bytes paths.new.base ≡ string_bytes paths.old.base }
+{
+    paths.compose(path);
+    match found_at(rt, paths.text(), path.is_empty())? {
+        Found::Nothing | Found::Other => Ok(()),
+        seen => flush(rt, paths.text(), seen).map_err(failed),
+    }
+}
+
+fn flush_all<R: Files>(rt: &R, paths: &mut PathRoom, touched: &[VaultPath]) -> Result<(), FolderErr>
+    ensures { IsOkUnless result FolderErr.Failed }
+{
+    for path in touched {
+        flush_path(rt, paths, path)?;
+    }
+    Ok(())
+}
+
 impl<R: Files> Host<R> {
     pub(crate) fn new(rt: R, alloc: Global, path: &str) -> Result<Host<R>, AllocError>
     where
         R: Drop,
-        ensures { IfOk result (λ host. string_bytes host.paths.base ≡ (if length path.now == 0 then 46 ∷ [] else path.now)) }
+        ensures base { IfOk result (λ host. string_bytes host.paths.base ≡ path.now) }
+        ensures flushes { IfOk result (λ host. host.flush_failed ≡ false) }
     {
-        let folder = if path.is_empty() { "." } else { path };
-        let paths = PathRoom::new(alloc, folder)?;
-        Ok(Host { rt, paths })
+        let paths = PathRoom::new(alloc, path)?;
+        let target = PathRoom::new(alloc, path)?;
+        let touched = Touched::new(alloc)?;
+        Ok(Host {
+            rt,
+            paths,
+            target,
+            touched,
+            flush_failed: false,
+        })
     }
 
     /// What the host has at a path, whose text is composed.
     fn find(&mut self, path: &VaultPath) -> Result<Found, FolderErr>
         ensures failed { IsOkUnless result FolderErr.Failed }
         ensures text { string_bytes self.new.paths.room ≡ host_path (string_bytes self.old.paths.base) path.now }
+        ensures base { string_bytes self.new.paths.base ≡ string_bytes self.old.paths.base }
     {
         self.paths.compose(path);
         found_at(&self.rt, self.paths.text(), path.is_empty())
     }
 
-    /// What is at a path. Nothing is known to be absent where the folder itself is missing.
-    pub(crate) fn kind(&mut self, path: &VaultPath) -> Result<Option<Kind>, FolderErr>
-        ensures { IsOkUnless result FolderErr.Failed }
+    /// The same, where the folder itself is there: else nothing is known to be absent.
+    fn find_inside(&mut self, path: &VaultPath) -> Result<Found, FolderErr>
+        ensures failed { IsOkUnless result FolderErr.Failed }
+        ensures base { string_bytes self.new.paths.base ≡ string_bytes self.old.paths.base }
     {
         match self.find(path)? {
             Found::Nothing if !self.is_there() => Err(FolderErr::Failed),
-            found => Ok(kind_of(found)),
+            found => Ok(found),
         }
     }
 
@@ -167,10 +139,17 @@ impl<R: Files> Host<R> {
         fs::metadata(&self.rt, self.paths.base()).is_ok_and(|metadata| metadata.is_dir())
     }
 
+    pub(crate) fn kind(&mut self, path: &VaultPath) -> Result<Option<Kind>, FolderErr>
+        ensures failed { IsOkUnless result FolderErr.Failed }
+        ensures base { string_bytes self.new.paths.base ≡ string_bytes self.old.paths.base }
+    {
+        Ok(kind_of(self.find_inside(path)?))
+    }
+
     pub(crate) fn list(&mut self, alloc: Global, path: &VaultPath) -> Result<Vec<Text>, FolderErr> {
         match self.find(path)? {
-            Found::Dir => names_in(&self.rt, alloc, self.paths.text()),
-            Found::Nothing | Found::File(_) | Found::Other => Err(FolderErr::Unfit),
+            Found::Dir(_) => names_in(&self.rt, alloc, self.paths.text()),
+            Found::Nothing | Found::File(..) | Found::Other => Err(FolderErr::Unfit),
         }
     }
 
@@ -185,30 +164,135 @@ impl<R: Files> Host<R> {
         ensures no_memory { IsErrOf result FolderErr.Memory → ⊥ }
     {
         match self.find(path)? {
-            Found::File(length) if length <= at => Ok(0),
-            Found::File(_) => read_at(&self.rt, self.paths.text(), at, out).map_err(failed),
-            Found::Nothing | Found::Dir | Found::Other => Err(FolderErr::Unfit),
+            Found::File(_, length) if length <= at => Ok(0),
+            seen @ Found::File(..) => {
+                read_at(&self.rt, self.paths.text(), seen, at, out).map_err(failed)
+            }
+            Found::Nothing | Found::Dir(_) | Found::Other => Err(FolderErr::Unfit),
         }
+    }
+
+    /// Has the next sync flush what stands at a path. Where there is no room to keep the path, it is flushed now.
+    fn touch(&mut self, path: &VaultPath) {
+        if !self.touched.keep(path) && flush_path(&self.rt, &mut self.paths, path).is_err() {
+            self.flush_failed = true;
+        }
+    }
+
+    /// The same of a path at which something was made, moved or removed.
+    fn touch_name(&mut self, path: &VaultPath) {
+        self.touch(path);
+        self.touch(&path.parent());
     }
 
     pub(crate) fn make_dir(&mut self, path: &VaultPath) -> Result<(), FolderErr>
         ensures { IsErrOf result FolderErr.Memory → ⊥ }
     {
         match self.find(path)? {
-            Found::Nothing => fs::create_dir(&self.rt, self.paths.text()).map_err(change_error),
-            Found::Dir => Ok(()),
-            Found::File(_) => Err(FolderErr::Unfit),
-            Found::Other => Err(FolderErr::Failed),
+            Found::Nothing => {
+                let answer = make_dir(&self.rt, self.paths.text());
+                self.touch_name(path);
+                answer.map_err(change_error)
+            }
+            Found::Dir(_) => Ok(()),
+            Found::File(..) | Found::Other => Err(FolderErr::Unfit),
         }
     }
 
     pub(crate) fn put(&mut self, path: &VaultPath, bytes: &[u8]) -> Result<(), FolderErr>
         ensures { IsErrOf result FolderErr.Memory → ⊥ }
     {
-        match self.find(path)? {
-            Found::Nothing | Found::File(_) => write_at(&self.rt, self.paths.text(), bytes),
-            Found::Dir => Err(FolderErr::Unfit),
-            Found::Other => Err(FolderErr::Failed),
+        let answer = match self.find(path)? {
+            Found::Nothing => make_file(&self.rt, self.paths.text(), bytes),
+            seen @ Found::File(..) => replace_bytes(&self.rt, self.paths.text(), seen, bytes),
+            Found::Dir(_) | Found::Other => return Err(FolderErr::Unfit),
+        };
+        self.touch_name(path);
+        answer.map_err(change_error)
+    }
+
+    pub(crate) fn write(&mut self, path: &VaultPath, at: u64, bytes: &[u8]) -> Result<(), FolderErr>
+        ensures { IsErrOf result FolderErr.Memory → ⊥ }
+    {
+        let answer = match self.find(path)? {
+            seen @ Found::File(_, length) if at <= length => {
+                write_at(&self.rt, self.paths.text(), seen, at, bytes)
+            }
+            _ => return Err(FolderErr::Unfit),
+        };
+        self.touch(path);
+        answer.map_err(change_error)
+    }
+
+    pub(crate) fn set_len(&mut self, path: &VaultPath, len: u64) -> Result<(), FolderErr>
+        ensures { IsErrOf result FolderErr.Memory → ⊥ }
+    {
+        let answer = match self.find(path)? {
+            seen @ Found::File(_, length) if len <= length => {
+                cut(&self.rt, self.paths.text(), seen, len)
+            }
+            _ => return Err(FolderErr::Unfit),
+        };
+        self.touch(path);
+        answer.map_err(change_error)
+    }
+
+    pub(crate) fn rename(&mut self, from: &VaultPath, to: &VaultPath) -> Result<(), FolderErr>
+        ensures { IsErrOf result FolderErr.Memory → ⊥ }
+    {
+        self.target.compose(to);
+        let seen = found_at(&self.rt, self.target.text(), to.is_empty())?;
+        if !matches!(seen, Found::Nothing | Found::File(..)) {
+            return Err(FolderErr::Unfit);
         }
+        if !matches!(self.find(from)?, Found::File(..)) {
+            return Err(FolderErr::Unfit);
+        }
+        let answer = fs::rename(&self.rt, self.paths.text(), self.target.text());
+        self.touch(&from.parent());
+        self.touch_name(to);
+        answer.map_err(change_error)
+    }
+
+    pub(crate) fn remove_file(&mut self, path: &VaultPath) -> Result<(), FolderErr>
+        ensures { IsErrOf result FolderErr.Memory → ⊥ }
+    {
+        let answer = match self.find_inside(path)? {
+            Found::File(..) => fs::remove_file(&self.rt, self.paths.text()),
+            Found::Nothing => return Ok(()),
+            Found::Dir(_) | Found::Other => return Err(FolderErr::Unfit),
+        };
+        self.touch(&path.parent());
+        answer.map_err(change_error)
+    }
+
+    pub(crate) fn remove_dir(&mut self, path: &VaultPath) -> Result<(), FolderErr>
+        ensures no_memory { IsErrOf result FolderErr.Memory → ⊥ }
+        ensures top { path.now ≡ [] → IsErr result }
+    {
+        let answer = match self.find_inside(path)? {
+            Found::Dir(_) if !path.is_empty() => fs::remove_dir(&self.rt, self.paths.text()),
+            Found::Nothing if !path.is_empty() => return Ok(()),
+            _ => return Err(FolderErr::Unfit),
+        };
+        self.touch(&path.parent());
+        answer.map_err(change_error)
+    }
+
+    /// Flushes what was touched since the last sync. After a flush that failed, it fails for good.
+    pub(crate) fn sync(&mut self) -> Result<(), FolderErr>
+        ensures no_memory { IsOkUnless result FolderErr.Failed }
+        ensures stays { IsTrue self.old.flush_failed → IsErr result × IsTrue self.new.flush_failed }
+        ensures fails { IsErr result → IsTrue self.new.flush_failed }
+    {
+        if self.flush_failed {
+            return Err(FolderErr::Failed);
+        }
+        if let Err(cause) = flush_all(&self.rt, &mut self.paths, self.touched.paths()) {
+            self.flush_failed = true;
+            return Err(cause);
+        }
+        self.touched.clear();
+        Ok(())
     }
 }

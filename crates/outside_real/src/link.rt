@@ -103,34 +103,3 @@ impl<R: Input + Print + Drop> Listener for HostListen<R> {
         let _ = link;
     }
 }
-
-#[cfg(test)]
-mod tests {
-    use super::*;
-    use crate::script::Script;
-    use std::test::Fail;
-
-    #[test]
-    fn link_reads_and_writes_the_streams(rt: HostRuntime) {
-        let mut link = HostLink::new(Script {
-            input: b"abc",
-            output_fails: false,
-        });
-        for (room, count, want) in [(2, 2, b"ab-"), (3, 1, b"c--"), (3, 0, b"---")] {
-            let mut out = *b"---";
-            assert_eq!(rt; link.read(&mut out[..room]), Ok(count), "{want:?}");
-            assert!(rt; out.as_slice() == want.as_slice(), "{want:?}");
-        }
-        assert_eq!(rt; link.write(b"abc"), Ok(2));
-    }
-
-    #[test]
-    fn one_link_comes_once(rt: HostRuntime) -> Result<(), Fail> {
-        let mut listen = HostListen::new(&rt);
-        let link = listen.next()?.ok_or("the link")?;
-        assert!(rt; listen.next()?.is_none());
-        listen.back(link);
-        assert!(rt; listen.next()?.is_none(), "it comes only once");
-        Ok(())
-    }
-}

@@ -1,7 +1,7 @@
 ghost use Rattle.std.specs.Prelude.{◌≡◌, ◌+◌, ◌≤◌, ◌∷◌, ◌++◌, length, IfOk, IsTrue, string_bytes, string_len};
 ghost use Rattle.std.specs.String.{string_capacity};
 ghost use Rattle.vault_path.specs.Parts.{is_part};
-ghost use Rattle.outside_real.specs.HostPath.{host_path};
+ghost use Rattle.outside_real.specs.HostPath.{host_path, joined};
 
 use std::alloc::{AllocError, Global};
 use std::str;
@@ -36,7 +36,11 @@ impl PathRoom {
         ensures text { string_bytes self.new.room ≡ host_path (string_bytes self.old.base) path.now }
         ensures base { string_bytes self.new.base ≡ string_bytes self.old.base }
     {
-        compose(self.base.as_str(), &mut self.room, path);
+        if self.base.is_empty() {
+            self.room.clear();
+        } else {
+            compose(self.base.as_str(), &mut self.room, path);
+        }
     }
 
     /// The folder's own path.
@@ -56,7 +60,7 @@ impl PathRoom {
 
 fn compose(base: &str, room: &mut String, path: &VaultPath)
     requires { length base.now + LONGEST_PARTS ≤ string_capacity room.old }
-    ensures text { string_bytes room.new ≡ host_path base.now path.now }
+    ensures text { string_bytes room.new ≡ joined base.now path.now }
     ensures capacity { string_capacity room.old ≤ string_capacity room.new }
 {
     room.clear();

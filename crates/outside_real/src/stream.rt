@@ -89,37 +89,3 @@ impl Sink for NullSink {
         Ok(piece.len())
     }
 }
-
-#[cfg(test)]
-mod tests {
-    use super::*;
-    use crate::script::Script;
-
-    #[test]
-    fn input_gives_no_byte_into_no_room(rt: HostRuntime) {
-        let mut source = StdSource::new(&rt);
-        assert_eq!(rt; source.read(&mut []), Ok(0));
-    }
-
-    #[test]
-    fn output_takes_some_of_a_piece_or_fails(rt: HostRuntime) {
-        let mut sink = StdSink::new(Script {
-            input: b"",
-            output_fails: false,
-        });
-        for (piece, count) in [(b"abc".as_slice(), 2), (b"a", 1), (b"", 0)] {
-            assert_eq!(rt; sink.write(piece), Ok(count), "{piece:?}");
-        }
-        let mut sink = StdSink::new(Script {
-            input: b"",
-            output_fails: true,
-        });
-        assert_eq!(rt; sink.write(b"abc"), Err(Failed));
-    }
-
-    #[test]
-    fn null_takes_everything(rt: HostRuntime) {
-        let mut sink = NullSink;
-        assert_eq!(rt; sink.write(b"abc"), Ok(3));
-    }
-}

@@ -1,12 +1,12 @@
 use Rattle.std.proofs.Common.{◌<◌, ◌∙◌, ap, ◌++◌, ◌∷◌, length, arith}
-use Rattle.outside_real.proofs.HostPathLemmas.{host_path-more}
+use Rattle.outside_real.proofs.HostPathLemmas.{joined_more}
 use Rattle.outside_real.proofs.room.compose.Goals as goal
 
 pub loop-index-preserved : goal.loop-index-preserved
 loop-index-preserved c =
     let within : c.loop-index.index < length c.args.path.now = omega arith in
     record {
-      text = c.push_part.ensures.text ∙ ap (λ l. l ++ (47 ∷ c.part.result.now)) c.loop-index.invariant.text ∙ host_path-more _ _ _ _ within c.part.ensures.at;
+      text = c.push_part.ensures.text ∙ ap (λ l. l ++ (47 ∷ c.part.result.now)) c.loop-index.invariant.text ∙ joined_more _ _ _ _ within c.part.ensures.at;
       len = omega arith;
       capacity = omega arith;
     }

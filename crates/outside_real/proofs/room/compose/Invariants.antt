@@ -1,12 +1,12 @@
 -- The room holds the text of the path's first parts, and has place for the rest.
 use Rattle.std.proofs.Common.{◌≡◌, ◌≤◌, ◌+◌, ◌*◌, length, take, string_bytes, string_len}
 use Rattle.std.specs.String.{string_capacity}
-use Rattle.outside_real.specs.HostPath.{host_path}
+use Rattle.outside_real.specs.HostPath.{joined}
 use Rattle.outside_real.proofs.room.compose.Given as goal
 
 abbrev pub invariant-loop-index : goal.invariant-loop-index
 invariant-loop-index l = record {
-  text : string_bytes l.room ≡ host_path l.base (take l.index l.path);
+  text : string_bytes l.room ≡ joined l.base (take l.index l.path);
   len : string_len l.room ≤ length l.base + 256 * l.index;
   capacity : string_capacity l.initial.room ≤ string_capacity l.room;
 }

@@ -1,0 +1,9 @@
+//! Tests of `outside_real` on the host that they run on.
+#![tactic(auto)]
+
+#[cfg(test)]
+mod folders;
+#[cfg(test)]
+mod objects;
+#[cfg(test)]
+mod script;

@@ -1,0 +1,54 @@
+//! The standard streams, random bytes and the clock.
+
+use crate::script::Script;
+use outside::{Clock, Entropy, Failed, Link, Listener, Sink, Source};
+use outside_real::{HostClock, HostLink, HostListen, NullSink, OsEntropy, StdSink, StdSource};
+use std::test::Fail;
+
+#[test]
+fn link_reads_and_writes_the_streams(rt: HostRuntime) {
+    let mut link = HostLink::new(Script {
+        input: b"abc",
+        output_fails: false,
+    });
+    for (room, count, want) in [(2, 2, b"ab-"), (3, 1, b"c--"), (3, 0, b"---")] {
+        let mut out = *b"---";
+        assert_eq!(rt; link.read(&mut out[..room]), Ok(count), "{want:?}");
+        assert!(rt; out.as_slice() == want.as_slice(), "{want:?}");
+    }
+    assert_eq!(rt; link.write(b"abc"), Ok(2));
+}
+
+#[test]
+fn one_link_comes_once(rt: HostRuntime) -> Result<(), Fail> {
+    let mut listen = HostListen::new(&rt);
+    let link = listen.next()?.ok_or("the link")?;
+    listen.back(link);
+    assert!(rt; listen.next()?.is_none());
+    Ok(())
+}
+
+#[test]
+fn streams_take_some_or_fail(rt: HostRuntime) {
+    assert_eq!(rt; StdSource::new(&rt).read(&mut []), Ok(0));
+    for (output_fails, want) in [(false, Ok(2)), (true, Err(Failed))] {
+        let mut sink = StdSink::new(Script {
+            input: b"",
+            output_fails,
+        });
+        assert_eq!(rt; sink.write(b"abc"), want);
+    }
+    assert_eq!(rt; NullSink.write(b"abc"), Ok(3));
+}
+
+#[test]
+fn draws_differ_and_the_clock_is_past_2024(rt: HostRuntime) -> Result<(), Fail> {
+    let mut entropy = OsEntropy::new(&rt);
+    let mut first = [0u8; 32];
+    let mut second = [0u8; 32];
+    entropy.fill(&mut first)?;
+    entropy.fill(&mut second)?;
+    assert_ne!(rt; first, second);
+    assert!(rt; HostClock::new(&rt).now() > 1_704_067_200);
+    Ok(())
+}
