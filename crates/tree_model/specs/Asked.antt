@@ -1,14 +1,17 @@
 -- What was asked of a tree and what it answered, as plain data: without where names and bytes lie in memory.
-use Rattle.std.specs.Prelude.{◌≡◌, ℕ, ◌/◌, ◌%◌, ◌≤◌, List, [], length, take, Bool, Option, ⊤}
+use Rattle.std.specs.Prelude.{◌≡◌, ℕ, ◌≤◌, ◌<◌, List, [], ◌++◌, length, take, drop, filter, Bool, true, false, not, Option, ⊤}
+use Rattle.std.specs.List.{flat_map, AllByRecursion}
 use Rattle.std.specs.Option.{option_copied}
 use Rattle.tree_model.specs.declared.request.Request.{Request}
 use Rattle.tree_model.specs.declared.request.Request.TheVariants as requests
 use Rattle.tree_model.specs.declared.reply.Reply.{Reply}
 use Rattle.tree_model.specs.declared.reply.Reply.TheVariants as replies
 use Rattle.tree_model.specs.declared.refusal.Refusal.{Refusal}
+use Rattle.tree_model.specs.declared.refusal.Refusal.TheVariants as refusals
 use Rattle.tree_model.specs.declared.stat.Qid.{Qid}
 use Rattle.tree_model.specs.declared.stat.StatChange.{StatChange}
-use Rattle.tree_model.specs.Names.{names_in, AreNames}
+use Rattle.tree_model.specs.Wire.{PlainStat, spelled_stat, IsTreeStat, stat_limit}
+use Rattle.tree_model.specs.Names.{names_in, walk_limit, IsWalk}
 
 -- the fields that a change touches
 pub record PlainChange : Type 0 where
@@ -83,50 +86,102 @@ plain_reply (replies.Refused refusal) = refused refusal
 
 -- the bytes that a reply puts into the buffer, from its front on
 abbrev pub bytes_put : PlainRequest → PlainReply → List ℕ → List ℕ
-bytes_put (read n at most) (count n') buffer = take n' buffer
-bytes_put (list n after most) (count n') buffer = take n' buffer
-bytes_put (stat_of n) (stat n') buffer = take n' buffer
+bytes_put (read n at most) (count k) buffer = take k buffer
+bytes_put (list n after most) (count k) buffer = take k buffer
+bytes_put (stat_of n) (stat k) buffer = take k buffer
 bytes_put request reply buffer = []
+
+-- the bytes of a buffer behind those that a reply put into it are as they were
+abbrev pub KeepsRest : PlainRequest → PlainReply → List ℕ → List ℕ → Type 0
+KeepsRest request reply old new =
+    drop (length (bytes_put request reply new)) new ≡ drop (length (bytes_put request reply new)) old
 
 -- a request, the second at which it was made, its reply and the bytes that it put into the buffer
 pub record Asked : Type 0 where
   pub request : PlainRequest
-  pub moment : ℕ
+  pub second : ℕ
   pub reply : PlainReply
   pub bytes : List ℕ
 
 abbrev pub asked_of : PlainRequest → ℕ → PlainReply → List ℕ → Asked
-asked_of request moment reply buffer = record { request = request; moment = moment; reply = reply; bytes = bytes_put request reply buffer }
+asked_of request second reply buffer = record { request = request; second = second; reply = reply; bytes = bytes_put request reply buffer }
 
--- the requests that a tree has a step for by now
-abbrev pub HasStep : PlainRequest → Type 0
-HasStep (look n) = ⊤
-HasStep (walk n names) = ⊤
-HasStep (open_node n mode) = (mode / 16) % 2 ≡ 0
-HasStep (read n at most) = ⊤
-HasStep request = ⊥
+-- an object that stood for any list of requests since a start stands for that list with these
+abbrev pub Extends : {B : Type 0} → (B → B → List Asked → Type 0) → B → B → List Asked → Type 0
+Extends {B} stands old new asked = (start : B) (before : List Asked) → stands old start before → stands new start (before ++ asked)
 
--- what a request asks of its caller: the form of a walk's names, and a buffer that is large enough
+-- ---- what a request asks of its caller
+
+-- the most bytes of a read, of a list and of a write
+abbrev pub count_limit : ℕ
+count_limit = 65536
+
+abbrev pub write_limit : ℕ
+write_limit = 65537
+
+-- the form of a walk's names, bounds of counts, and a buffer that is large enough
 abbrev pub CanAsk : Request → ℕ → Type 0
-CanAsk (requests.Walk n names) room = (names.count ≤ 16) × AreNames names.count names.bytes.now
-CanAsk (requests.Read n at most) room = (most ≤ 65536) × (most ≤ room)
-CanAsk (requests.List n after most) room = (most ≤ 65536) × (most ≤ room)
-CanAsk (requests.Write n at bytes) room = length bytes.now ≤ 65537
-CanAsk (requests.StatOf n) room = 1088 ≤ room
-CanAsk request room = ⊤
+CanAsk (requests.Look n) room = ⊤
+CanAsk (requests.Walk n names) room = IsWalk names.count names.bytes.now
+CanAsk (requests.OpenNode n mode) room = ⊤
+CanAsk (requests.Create n name is_dir mode) room = ⊤
+CanAsk (requests.Read n at most) room = (most ≤ count_limit) × (most ≤ room)
+CanAsk (requests.List n after most) room = (most ≤ count_limit) × (most ≤ room)
+CanAsk (requests.Write n at bytes) room = length bytes.now ≤ write_limit
+CanAsk (requests.Remove n) room = ⊤
+CanAsk (requests.StatOf n) room = stat_limit ≤ room
+CanAsk (requests.Change n c) room = ⊤
+CanAsk (requests.Sync n) room = ⊤
 
--- a reply has the form that its request asks for
-abbrev pub IsReplyTo : PlainRequest → PlainReply → Type 0
-IsReplyTo request (refused refusal) = ⊤
-IsReplyTo (look n) (qid q) = ⊤
-IsReplyTo (walk n names) (walked qids) = length qids ≤ length names
-IsReplyTo (open_node n mode) (qid q) = ⊤
-IsReplyTo (create n name is_dir mode) (qid q) = ⊤
-IsReplyTo (read n at most) (count k) = k ≤ most
-IsReplyTo (list n after most) (count k) = k ≤ most
-IsReplyTo (write n at bytes) (count k) = k ≡ length bytes
-IsReplyTo (remove n) done = ⊤
-IsReplyTo (stat_of n) (stat k) = k ≤ 1088
-IsReplyTo (change n c) done = ⊤
-IsReplyTo (sync n) done = ⊤
-IsReplyTo request reply = ⊥
+-- ---- the form of a reply
+
+-- the qids of a walk: no more than its names, and at least one where it has names
+pub record AreWalked (names : List (List ℕ)) (qids : List Qid) : Type 0 where
+  pub few : length qids ≤ length names
+  pub some : 0 < length names → 0 < length qids
+
+-- whole stats, of at most so many bytes
+pub record AreStats (most : ℕ) (bytes : List ℕ) : Type 0 where
+  pub fit : length bytes ≤ most
+  pub stats : List PlainStat
+  pub spelled : bytes ≡ flat_map spelled_stat stats
+  pub each : AllByRecursion IsTreeStat stats
+
+-- one stat
+pub record IsOneStat (bytes : List ℕ) : Type 0 where
+  pub stat : PlainStat
+  pub spelled : bytes ≡ spelled_stat stat
+  pub good : IsTreeStat stat
+
+-- a reply has the form that its request asks for, with these bytes
+abbrev pub IsReplyTo : PlainRequest → PlainReply → List ℕ → Type 0
+IsReplyTo request (refused refusal) bytes = ⊤
+IsReplyTo (look n) (qid q) bytes = ⊤
+IsReplyTo (walk n names) (walked qids) bytes = AreWalked names qids
+IsReplyTo (open_node n mode) (qid q) bytes = ⊤
+IsReplyTo (create n name is_dir mode) (qid q) bytes = ⊤
+IsReplyTo (read n at most) (count k) bytes = (k ≤ most) × (length bytes ≡ k)
+IsReplyTo (list n after most) (count k) bytes = AreStats most bytes × (length bytes ≡ k)
+IsReplyTo (write n at given) (count k) bytes = k ≡ length given
+IsReplyTo (remove n) done bytes = ⊤
+IsReplyTo (stat_of n) (stat k) bytes = IsOneStat bytes × (length bytes ≡ k)
+IsReplyTo (change n c) done bytes = ⊤
+IsReplyTo (sync n) done bytes = ⊤
+-- each other pair of a request and a reply is none
+IsReplyTo request reply bytes = ⊥
+
+-- a walk's qids are those that there are
+abbrev pub HasCount : Reply → Type 0
+HasCount (replies.Walked n qids) = n ≤ walk_limit
+HasCount reply = ⊤
+
+-- ---- requests that entered a history
+
+-- a request for which the caller had no turn left is in no history
+abbrev pub is_exhausted : PlainReply → Bool
+is_exhausted (refused (refusals.Exhausted ticket)) = true
+is_exhausted reply = false
+
+-- what was asked, without the requests that are in no history
+abbrev pub entered : List Asked → List Asked
+entered asked = filter (λ a. not (is_exhausted a.reply)) asked

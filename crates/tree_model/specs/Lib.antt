@@ -1,5 +1,8 @@
+pub mod Wire
 pub mod Names
 pub mod Rows
+pub mod Contents
 pub mod Asked
 pub mod Step
+pub mod NotBuilt
 pub mod History

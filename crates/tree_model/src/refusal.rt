@@ -1,7 +1,7 @@
 use vault_path::VaultPath;
 
 /// Why a request was refused.
-#[derive(Drop)]
+#[derive(Debug, PartialEq, Eq, Drop)]
 pub enum Refusal {
     /// The number has no node.
     Removed,

@@ -1,7 +1,7 @@
 use crate::{Qid, Refusal};
 
 /// The answer to a request. Bytes that belong to it stand in the caller's buffer.
-#[derive(Drop)]
+#[derive(Debug, PartialEq, Eq, Drop)]
 pub enum Reply {
     /// To `Look`, `OpenNode` and `Create`: the node.
     Qid(Qid),
