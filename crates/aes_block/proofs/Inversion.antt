@@ -13,7 +13,8 @@ use Rattle.aes_block.proofs.TableLemmas.{substituted-substituted_back, substitut
 
 -- ---- each step keeps a block a block, and is undone
 
-IsBlock-xor : (s k : List ℕ) → IsBlock s → IsBlock k → IsBlock (xor_bytes s k)
+-- a block xored with a round key is a block
+pub IsBlock-xor : (s k : List ℕ) → IsBlock s → IsBlock k → IsBlock (xor_bytes s k)
 IsBlock-xor s k h j = (length-xor s k (omega (arith, h.0, j.0)) ∙ h.0, AreBytes-xor s k h.1 j.1)
 
 IsBlock-sub_bytes : (s : List ℕ) → IsBlock s → IsBlock (sub_bytes s)
@@ -113,7 +114,8 @@ state_back_after-none schedule n block = refl
 
 -- under a schedule of n + 1 round keys
 module _ (schedule : List ℕ) (n : ℕ) (keys : (r : ℕ) → r ≤ n → IsBlock (round_key schedule r)) where
-  IsBlock-state_after : (block : List ℕ) → IsBlock block → (r : ℕ) → r ≤ n → IsBlock (state_after schedule block r)
+  -- the state is a block after every round
+  pub IsBlock-state_after : (block : List ℕ) → IsBlock block → (r : ℕ) → r ≤ n → IsBlock (state_after schedule block r)
   unfolding state_after
   IsBlock-state_after block h zero le = IsBlock-xor block (round_key schedule 0) h (keys 0 (omega arith))
   IsBlock-state_after block h (suc r) le =

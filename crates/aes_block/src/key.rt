@@ -1,10 +1,10 @@
-ghost use Rattle.std.specs.Prelude.{◌≡◌, ℕ, List, length, take};
-ghost use Rattle.aes_block.specs.Aes.{aes, inverse_aes, key_schedule};
+ghost use Rattle.std.specs.Prelude.{◌≡◌, ◌≤◌, ℕ, List, length, map, take};
+ghost use Rattle.aes_block.specs.Aes.{aes, inverse_aes, key_schedule, round_key};
 ghost use Rattle.aes_block.specs.Bytes.{AreBytes, MakesBlocks};
 
 use crate::cipher::encrypt_block;
 use crate::inverse_cipher::decrypt_block;
-use crate::schedule::expand_key;
+use crate::schedule::{expand_key, round_key};
 use std::marker::Model;
 
 // The words of a key, and the rounds that a block goes through (FIPS 197, 5, table 4).
@@ -24,13 +24,29 @@ pub trait BlockKey {
     /// What the inverse cipher makes of a block.
     ghost inverse_cipher: { Self → List ℕ → List ℕ };
 
-    /// Encrypts a block of 16 bytes in place: for AES by the cipher of FIPS 197, section 5.1.
+    /// Encrypts a block of 16 bytes in place: for AES by the cipher of FIPS 197, 5.1.
     fn encrypt(&self, block: &mut [u8; 16])
         ensures { block.new ≡ cipher self.now block.old };
 
-    /// Decrypts a block of 16 bytes in place: for AES by the inverse cipher of FIPS 197, section 5.3.
+    /// Decrypts a block of 16 bytes in place: for AES by the inverse cipher of FIPS 197, 5.3.
     fn decrypt(&self, block: &mut [u8; 16])
         ensures { block.new ≡ inverse_cipher self.now block.old };
+
+    /// Encrypts each of the blocks in place, by itself.
+    fn encrypt_blocks(&self, blocks: &mut [[u8; 16]])
+        ensures { blocks.new ≡ map (cipher self.now) blocks.old }
+    {
+        for block in blocks.iter_mut() {
+            self.encrypt(block);
+        }
+    }
+
+    /// Encrypts eight blocks in place, as [`encrypt_blocks`](BlockKey::encrypt_blocks) does.
+    fn encrypt8(&self, blocks: &mut [[u8; 16]; 8])
+        ensures { blocks.new ≡ map (cipher self.now) blocks.old }
+    {
+        self.encrypt_blocks(blocks);
+    }
 
     /// States that what the ciphers make is always a block of 16 bytes. It does nothing.
     fn makes_blocks(&self)
@@ -87,6 +103,22 @@ impl Key256 {
         bytes.copy_from_slice(&self.schedule[..32]);
         bytes
     }
+
+    /// Round key `round` of the key schedule (FIPS 197, 5.2), of 15 that there are.
+    pub fn round_key(&self, round: usize) -> [u8; 16]
+        requires { round ≤ 14 }
+        ensures { result ≡ round_key (key_schedule self.now) round }
+    {
+        round_key(&self.schedule, round)
+    }
+
+    /// States that the key has 32 bytes. It does nothing.
+    pub fn has_32_bytes(&self)
+        ensures long { length self.now ≡ 32 }
+        ensures bytes { AreBytes self.now }
+    {
+        each_is_a_byte(&self.schedule);
+    }
 }
 
 impl BlockKey for Key256 {
@@ -103,7 +135,7 @@ impl BlockKey for Key256 {
     }
 
     fn makes_blocks(&self) {
-        each_is_a_byte(&self.bytes());
+        self.has_32_bytes();
     }
 }
 
@@ -149,6 +181,22 @@ impl Key128 {
         bytes.copy_from_slice(&self.schedule[..16]);
         bytes
     }
+
+    /// Round key `round` of the key schedule (FIPS 197, 5.2), of 11 that there are.
+    pub fn round_key(&self, round: usize) -> [u8; 16]
+        requires { round ≤ 10 }
+        ensures { result ≡ round_key (key_schedule self.now) round }
+    {
+        round_key(&self.schedule, round)
+    }
+
+    /// States that the key has 16 bytes. It does nothing.
+    pub fn has_16_bytes(&self)
+        ensures long { length self.now ≡ 16 }
+        ensures bytes { AreBytes self.now }
+    {
+        each_is_a_byte(&self.schedule);
+    }
 }
 
 impl BlockKey for Key128 {
@@ -165,6 +213,6 @@ impl BlockKey for Key128 {
     }
 
     fn makes_blocks(&self) {
-        each_is_a_byte(&self.bytes());
+        self.has_16_bytes();
     }
 }

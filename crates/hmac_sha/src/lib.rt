@@ -1,16 +1,23 @@
 //! HMAC (RFC 2104) with the hashes SHA-256, SHA-384 and SHA-512.
+//!
+//! ```
+//! let tag = hmac256(b"key", b"The quick brown fox jumps over the lazy dog");
+//! assert_eq!(hmac256_of_pieces(b"key", b"The quick brown ", rest), tag);
+//! assert!(bytes_equal(&tag, &expected));
+//! ```
+//!
+//! Compare tags by `aes_block::bytes_equal`, which doesn't end early. Not promised: that the time
+//! taken is independent of key and text beyond their lengths, or that the key and its blocks are
+//! wiped from memory.
 #![tactic(auto)]
 
 ghost use Rattle.std.specs.Prelude.{◌≡◌, ℕ, ◌-◌, ◌≤◌, List, ◌++◌, length, replicate};
 ghost use Rattle.sha2.specs.Sha256.{sha256};
 ghost use Rattle.sha2.specs.Sha512.{sha384, sha512};
-ghost use Rattle.hmac_sha.specs.Hmac.{hmac, xored};
+ghost use Rattle.hmac_sha.specs.Hmac.{hmac, key_block, xored};
 
 use sha2::{Digest, Sha256, Sha384, Sha512};
 use std::convert::AsSlice;
-
-#[cfg(test)]
-mod tests;
 
 // The bytes of a block of each hash.
 const BLOCK_256: usize = 64;
@@ -22,14 +29,34 @@ const INNER_PAD: u8 = 0x36;
 
 const OUTER_PAD: u8 = 0x5c;
 
-// The key, padded with zeros to a block.
-fn padded<const BLOCK: usize>(key: &[u8]) -> [u8; BLOCK]
-    requires { length key.now ≤ BLOCK }
-    ensures { result ≡ key.now ++ replicate (BLOCK - length key.now) 0 }
+// Bytes padded with zeros to a block. No hash has a digest that is longer than its block.
+fn padded<const BLOCK: usize>(bytes: &[u8]) -> [u8; BLOCK]
+    ensures { length bytes.now ≤ BLOCK
+        → result ≡ bytes.now ++ replicate (BLOCK - length bytes.now) 0 }
 {
     let mut block = [0; BLOCK];
-    block[..key.len()].copy_from_slice(key);
+    let len = bytes.len().min(BLOCK);
+    block[..len].copy_from_slice(&bytes[..len]);
     block
+}
+
+// The key as a block: hashed where it is longer than one, and padded.
+fn key_block<D: Digest, const BLOCK: usize>(key: &[u8]) -> [u8; BLOCK]
+where
+    D::Output: AsSlice<u8> + Drop,
+    requires { BLOCK ≤ BLOCK_512 }
+    ensures { (hash : List ℕ → List ℕ)
+        → ((text : List ℕ) (digest : D.Output)
+        → D.digest_of text digest → D.Output.items digest ≡ hash text)
+        → ((text : List ℕ) → length (hash text) ≤ BLOCK)
+        → result ≡ key_block hash BLOCK key.now }
+{
+    if key.len() > BLOCK {
+        let digest = D::digest(key);
+        padded(digest.as_slice())
+    } else {
+        padded(key)
+    }
 }
 
 // Every byte of a block xored with `byte`.
@@ -65,6 +92,20 @@ where
     outer.finalize()
 }
 
+// HMAC over the hash of `D`, whose blocks have `BLOCK` bytes, of `first` and behind it `second`.
+fn hmac<D: Digest, const BLOCK: usize>(key: &[u8], first: &[u8], second: &[u8]) -> D::Output
+where
+    D::Output: AsSlice<u8> + Drop,
+    requires { BLOCK ≤ BLOCK_512 }
+    ensures { (hash : List ℕ → List ℕ)
+        → ((text : List ℕ) (digest : D.Output)
+        → D.digest_of text digest → D.Output.items digest ≡ hash text)
+        → ((text : List ℕ) → length (hash text) ≤ BLOCK)
+        → D.Output.items result ≡ hmac hash BLOCK key.now (first.now ++ second.now) }
+{
+    tag::<D, BLOCK>(key_block::<D, BLOCK>(key), first, second)
+}
+
 /// The HMAC-SHA-256 tag of `text`, 32 bytes, under a key of any length.
 pub fn hmac256(key: &[u8], text: &[u8]) -> [u8; 32]
     ensures { result ≡ hmac sha256 64 key.now text.now }
@@ -76,34 +117,19 @@ pub fn hmac256(key: &[u8], text: &[u8]) -> [u8; 32]
 pub fn hmac256_of_pieces(key: &[u8], first: &[u8], second: &[u8]) -> [u8; 32]
     ensures { result ≡ hmac sha256 64 key.now (first.now ++ second.now) }
 {
-    let key_block: [u8; BLOCK_256] = if key.len() > BLOCK_256 {
-        padded(&Sha256::digest(key))
-    } else {
-        padded(key)
-    };
-    tag::<Sha256, BLOCK_256>(key_block, first, second)
+    hmac::<Sha256, BLOCK_256>(key, first, second)
 }
 
 /// The HMAC-SHA-384 tag of `text`, 48 bytes, under a key of any length.
 pub fn hmac384(key: &[u8], text: &[u8]) -> [u8; 48]
     ensures { result ≡ hmac sha384 128 key.now text.now }
 {
-    let key_block: [u8; BLOCK_512] = if key.len() > BLOCK_512 {
-        padded(&Sha384::digest(key))
-    } else {
-        padded(key)
-    };
-    tag::<Sha384, BLOCK_512>(key_block, text, &[])
+    hmac::<Sha384, BLOCK_512>(key, text, &[])
 }
 
 /// The HMAC-SHA-512 tag of `text`, 64 bytes, under a key of any length.
 pub fn hmac512(key: &[u8], text: &[u8]) -> [u8; 64]
     ensures { result ≡ hmac sha512 128 key.now text.now }
 {
-    let key_block: [u8; BLOCK_512] = if key.len() > BLOCK_512 {
-        padded(&Sha512::digest(key))
-    } else {
-        padded(key)
-    };
-    tag::<Sha512, BLOCK_512>(key_block, text, &[])
+    hmac::<Sha512, BLOCK_512>(key, text, &[])
 }

@@ -5,10 +5,10 @@ use Rattle.std.proofs.lemmas.List.{drop-drop, drop_at, length-take-le, take-appe
 use Rattle.aes_block.specs.Aes.{aes, inverse_aes}
 use Rattle.aes_block.specs.Bytes.{AreBytes, MakesBlocks, bytes_of, xor_bytes}
 use Rattle.aes_block.proofs.ByteLemmas.{AreBytes-append, AreBytes-drop, AreBytes-take, AreBytes-xor, length-xor, xor_bytes-twice}
-use Rattle.aes_block.proofs.Inversion.{MakesBlocks-aes, inverse_aes-aes}
+use Rattle.aes_block.proofs.Inversion.{MakesBlocks-aes, MakesBlocks-inverse_aes, aes-inverse_aes, inverse_aes-aes}
 use Rattle.aes_block.proofs.Schedules.{IsBlock, IsKey}
 use Rattle.key_wrap.specs.Wrap.{check_value, part, turn, unwrap_step, unwrapped, unwrapped_after, with_part, wrap_step, wrapped, wrapped_after}
-use Rattle.key_wrap.proofs.States.{wrapped_after-none}
+use Rattle.key_wrap.proofs.States.{from-unwrapped, unwrapped_after-none, wrapped_after-none}
 
 -- ---- a state as A, the bytes up to R i, R i, and the rest
 
@@ -170,6 +170,7 @@ steps-undone cipher inverse s w (suc n) u h e le =
     ∙ ap (λ (k : ℕ). unwrap_step inverse k (wrapped_after cipher s k)) next
     ∙ step-undone cipher inverse s (24 - suc n) u h
 
+-- what was wrapped unwraps to its key
 pub unwrapped-wrapped : (cipher inverse : List ℕ → List ℕ) (key : List ℕ) → Undoes cipher inverse → length key ≡ 32 → AreBytes key
     → unwrapped inverse (wrapped cipher key) ≡ Some key
 unfolding unwrapped wrapped
@@ -181,5 +182,99 @@ unwrapped-wrapped cipher inverse key u long bytes =
     let start = steps-undone cipher inverse (check_value ++ key) _ 24 u state refl (omega arith) ∙ wrapped_after-none cipher (check_value ++ key) in
     ap (λ (s : List ℕ). cond (bytes_eq (part s 0) check_value) (Some (drop 8 s)) None) start
 
+-- the cipher is undone by the inverse cipher
 pub Undoes-aes : (key : List ℕ) → IsKey key → Undoes (aes key) (inverse_aes key)
 Undoes-aes key k = record { makes = MakesBlocks-aes key k; undone = λ b h. inverse_aes-aes key b k h }
+
+-- ---- and each step undoes its step back
+
+wrap_step-unwrap_step : (cipher inverse : List ℕ → List ℕ) (t : ℕ) (s : List ℕ) → Undoes inverse cipher → IsState s
+    → wrap_step cipher t (unwrap_step inverse t s) ≡ s
+wrap_step-unwrap_step cipher inverse t s u h =
+    let a : List ℕ = take 8 s in
+    let m : List ℕ = take (8 * turn t - 8) (drop 8 s) in
+    let r : List ℕ = take 8 (drop (8 * turn t) s) in
+    let z : List ℕ = drop (8 * turn t + 8) s in
+    let counter : List ℕ = bytes_of 8 t in
+    let b : List ℕ = xor_bytes a counter ++ r in
+    let y : List ℕ = inverse b in
+    let cut = cut-is s (turn t) h.long (omega arith) (omega arith) in
+    let counted : length counter ≡ 8 = refl in
+    let front : length (xor_bytes a counter) ≡ 8 = length-xor a counter (omega (arith, cut.first, counted)) ∙ cut.first in
+    let block : IsBlock b = (
+      length-append (xor_bytes a counter) r ∙ omega (arith, front, cut.turned),
+      AreBytes-append (xor_bytes a counter) r (AreBytes-xor a counter (AreBytes-take 8 s h.bytes) (AreBytes-bytes_of 8 t))
+          (AreBytes-take 8 _ (AreBytes-drop (8 * turn t) s h.bytes)),
+    ) in
+    let long : length y ≡ 16 = u.makes.long b in
+    let again : IsCut (take 8 y ++ (m ++ (drop 8 y ++ z))) (take 8 y) m (drop 8 y) z (turn t) = record {
+      whole = refl;
+      first = length-take-le 8 y (omega (arith, long));
+      between = cut.between;
+      turned = length-drop 8 y ∙ omega (arith, long);
+    } in
+    let back : cipher (take 8 y ++ drop 8 y) ≡ b = ap cipher (take-append-drop 8 y) ∙ u.undone b block in
+    ap (wrap_step cipher t) (unwrap_step-cut inverse t s a m r z y cut refl)
+    ∙ wrap_step-cut cipher t _ _ m _ z again
+    ∙ ap (λ (x : List ℕ). xor_bytes (take 8 x) (bytes_of 8 t) ++ (take (8 * turn t - 8) (drop 8 s) ++ (drop 8 x ++ drop (8 * turn t + 8) s))) back
+    ∙ ap₂ (λ (p q : List ℕ). xor_bytes p (bytes_of 8 t) ++ (take (8 * turn t - 8) (drop 8 s) ++ (q ++ drop (8 * turn t + 8) s)))
+    (take_at (xor_bytes a counter) r 8 front) (drop_at (xor_bytes a counter) r 8 front)
+    ∙ ap (λ (p : List ℕ). p ++ (take (8 * turn t - 8) (drop 8 s) ++ (take 8 (drop (8 * turn t) s) ++ drop (8 * turn t + 8) s)))
+    (xor_bytes-twice a counter (omega (arith, cut.first, counted)))
+    ∙ sym cut.whole
+
+IsState-unwrap_step : (inverse : List ℕ → List ℕ) (t : ℕ) (s : List ℕ) → MakesBlocks inverse → IsState s → IsState (unwrap_step inverse t s)
+IsState-unwrap_step inverse t s makes h =
+    let a : List ℕ = take 8 s in
+    let m : List ℕ = take (8 * turn t - 8) (drop 8 s) in
+    let r : List ℕ = take 8 (drop (8 * turn t) s) in
+    let z : List ℕ = drop (8 * turn t + 8) s in
+    let y : List ℕ = inverse (xor_bytes a (bytes_of 8 t) ++ r) in
+    let cut = cut-is s (turn t) h.long (omega arith) (omega arith) in
+    let long : length y ≡ 16 = makes.long _ in
+    let first : length (take 8 y) ≡ 8 = length-take-le 8 y (omega (arith, long)) in
+    let other : length (drop 8 y) ≡ 8 = length-drop 8 y ∙ omega (arith, long) in
+    let made : IsState (take 8 y ++ (m ++ (drop 8 y ++ z))) = record {
+      long = length-append _ (m ++ (drop 8 y ++ z))
+          ∙ omega (arith, first, length-append m (drop 8 y ++ z), length-append (drop 8 y) z, other, cut.between, length-drop (8 * turn t + 8) s, h.long);
+      bytes = AreBytes-append _ _ (AreBytes-take 8 y (makes.bytes _))
+          (AreBytes-append _ _ (AreBytes-take _ _ (AreBytes-drop 8 s h.bytes))
+          (AreBytes-append _ _ (AreBytes-drop 8 y (makes.bytes _)) (AreBytes-drop _ s h.bytes)));
+    } in
+    subst IsState (sym (unwrap_step-cut inverse t s a m r z y cut refl)) made
+
+IsState-unwrapped_after : (inverse : List ℕ → List ℕ) (s : List ℕ) → MakesBlocks inverse → IsState s → (n : ℕ) → IsState (unwrapped_after inverse s n)
+unfolding unwrapped_after
+IsState-unwrapped_after inverse s makes h zero = h
+IsState-unwrapped_after inverse s makes h (suc n) = IsState-unwrap_step inverse (24 - n) _ makes (IsState-unwrapped_after inverse s makes h n)
+
+step-redone : (cipher inverse : List ℕ → List ℕ) (w : List ℕ) (n t : ℕ) → Undoes inverse cipher → IsState w → 24 - n ≡ t
+    → wrap_step cipher t (unwrapped_after inverse w (suc n)) ≡ unwrapped_after inverse w n
+unfolding unwrapped_after
+step-redone cipher inverse w n t u h e =
+    ap (λ (k : ℕ). wrap_step cipher t (unwrap_step inverse k (unwrapped_after inverse w n))) e
+    ∙ wrap_step-unwrap_step cipher inverse t (unwrapped_after inverse w n) u (IsState-unwrapped_after inverse w u.makes h n)
+
+steps-redone : (cipher inverse : List ℕ → List ℕ) (w s : List ℕ) (t : ℕ) → Undoes inverse cipher → IsState w → s ≡ unwrapped_after inverse w 24 → t ≤ 24
+    → wrapped_after cipher s t ≡ unwrapped_after inverse w (24 - t)
+unfolding wrapped_after
+steps-redone cipher inverse w s zero u h e le = e
+steps-redone cipher inverse w s (suc t) u h e le =
+    let next : 24 - t ≡ suc (24 - suc t) = omega arith in
+    ap (wrap_step cipher (suc t)) (steps-redone cipher inverse w s t u h e (omega arith) ∙ ap (unwrapped_after inverse w) next)
+    ∙ step-redone cipher inverse w (24 - suc t) (suc t) u h (omega arith)
+
+-- what unwraps to a key is the key's wrapped form
+pub wrapped-unwrapped : (cipher inverse : List ℕ → List ℕ) (form key : List ℕ) → Undoes inverse cipher → IsState form
+    → unwrapped inverse form ≡ Some key → form ≡ wrapped cipher key
+unfolding wrapped
+wrapped-unwrapped cipher inverse form key u h e =
+    let s : List ℕ = unwrapped_after inverse form 24 in
+    let parts = from-unwrapped inverse form key e in
+    let whole : check_value ++ key ≡ s = ap₂ (λ (p q : List ℕ). p ++ q) (sym parts.0) parts.1 ∙ take-append-drop 8 s in
+    sym (ap (λ (l : List ℕ). wrapped_after cipher l 24) whole
+    ∙ steps-redone cipher inverse form s 24 u h refl (omega arith) ∙ unwrapped_after-none inverse form)
+
+-- the inverse cipher is undone by the cipher
+pub Undoes-inverse_aes : (key : List ℕ) → IsKey key → Undoes (inverse_aes key) (aes key)
+Undoes-inverse_aes key k = record { makes = MakesBlocks-inverse_aes key k; undone = λ b h. aes-inverse_aes key b k h }

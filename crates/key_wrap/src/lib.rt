@@ -1,20 +1,27 @@
 //! AES key wrap (RFC 3394) of keys of 32 bytes under keys of 32 bytes.
+//!
+//! ```
+//! let wrapped = wrap(&[1; 32], &[7; 32]);
+//! assert_eq!(unwrap(&[1; 32], &wrapped), Ok([7; 32]));
+//! assert_eq!(unwrap(&[2; 32], &wrapped), Err(BadWrap));
+//! ```
+//!
+//! Not promised: that the time taken is independent of the keys (AES indexes tables by secret
+//! bytes; the check value is compared without an early end), or that keys are wiped from memory.
 #![tactic(auto)]
 
-ghost use Rattle.std.specs.Prelude.{◌≡◌, ◌↔◌, ◌≤◌, ◌<◌, ◌+◌, ◌*◌, length, Some, None, IsOk, IfOk, OnErr};
+ghost use Rattle.std.specs.Prelude.{◌≡◌, ◌↔◌, Some, None, IsOk, IfOk, OnErr};
 ghost use Rattle.aes_block.specs.Aes.{aes, inverse_aes};
 ghost use Rattle.key_wrap.specs.Wrap.{check_value, part, unwrapped, unwrapped_after, wrapped};
 
 use crate::steps::{unwrap_step, wrap_step};
-use aes_block::Key256;
+use aes_block::{Key256, bytes_equal};
 use thiserror::Error;
 
 mod laws;
 mod steps;
-#[cfg(test)]
-mod tests;
 
-pub use laws::unwrapping_undoes_wrapping;
+pub use laws::unwrapping_is_exact;
 
 // The check value (RFC 3394, 2.2.3.1).
 const CHECK_VALUE: [u8; 8] = [0xa6; 8];
@@ -41,10 +48,11 @@ pub fn wrap(kek: &[u8; 32], key: &[u8; 32]) -> [u8; 40]
     state
 }
 
-/// Unwraps a key that was wrapped under the key-encryption key `kek` (RFC 3394, 2.2.2). It fails where the check value
-/// doesn't come out: `kek` is another key, or `wrapped` was changed.
+/// Unwraps a key that was wrapped under the key-encryption key `kek` (RFC 3394, 2.2.2). It fails
+/// exactly where the check value doesn't come out: `kek` is another key, or `wrapped` was changed.
 pub fn unwrap(kek: &[u8; 32], wrapped: &[u8; 40]) -> Result<[u8; 32], BadWrap>
-    ensures accepted { IsOk result ↔ (part (unwrapped_after (inverse_aes kek.now) wrapped.now 24) 0 ≡ check_value) }
+    ensures accepted { IsOk result
+        ↔ (part (unwrapped_after (inverse_aes kek.now) wrapped.now STEPS) 0 ≡ check_value) }
     ensures key { IfOk result (λ key. unwrapped (inverse_aes kek.now) wrapped.now ≡ Some key) }
     ensures refused { OnErr result (unwrapped (inverse_aes kek.now) wrapped.now ≡ None) }
 {
@@ -53,7 +61,7 @@ pub fn unwrap(kek: &[u8; 32], wrapped: &[u8; 40]) -> Result<[u8; 32], BadWrap>
     for taken in 0..STEPS {
         unwrap_step(&cipher, &mut state, STEPS - taken);
     }
-    if state[..8] != CHECK_VALUE[..] {
+    if !bytes_equal(&state[..8], &CHECK_VALUE) {
         return Err(BadWrap);
     }
     let mut key = [0; 32];

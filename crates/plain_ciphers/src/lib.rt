@@ -1,7 +1,16 @@
-//! The ciphers as plain functions: a bit, a byte or a block at a time, without tables and without work in place. Each is proved to be the
-//! definition that the contracts of the ciphers in use cite, and its tests are the standards' vectors: so these test the definitions.
+//! The ciphers as plain functions: a bit, a byte or a block at a time, without tables and without work
+//! in place. Each is proved to be the definition that the contracts of the ciphers in use cite, and
+//! the program `content_vectors` compares them with the standards' vectors: so these test the
+//! definitions.
 //!
-//! They are slow, and take memory for each text. Nothing but tests calls them.
+//! ```
+//! let block = aes(&[7; 32], *b"sixteen bytes ..");
+//! let tag = cmac(&[7; 32], b"a text");
+//! let sealed = gcm_sealed(alloc, &[7; 32], [1; 12], b"associated data", b"a text")?;
+//! let opened = siv_opened(alloc, &[7; 32], &[8; 32], None, &sealed)?;
+//! ```
+//!
+//! They are slow, take memory for each text, and branch on secrets. Nothing but tests calls them.
 #![tactic(auto)]
 
 mod cipher;
@@ -10,10 +19,6 @@ mod gcm;
 mod hash;
 mod mac;
 mod siv;
-#[cfg(test)]
-mod tests;
-#[cfg(test)]
-mod tests_gcm;
 
 pub use cipher::aes;
 pub use field::{product, substituted};

@@ -24,4 +24,5 @@ block password salt turns i = xored_us password (salt ++ bytes_of 4 (i % 2 ^ 32)
 
 -- as many blocks as are needed, cut to the length; turns is at least 1
 unfoldable pub pbkdf2 : List ℕ → List ℕ → ℕ → ℕ → List ℕ
-pbkdf2 password salt turns len = take len (flat_map (λ i. block password salt turns (i + 1)) (range_with_len 0 ((len + 31) / 32)))
+pbkdf2 password salt turns len =
+    take len (flat_map (λ i. block password salt turns (i + 1)) (range_with_len 0 ((len + 31) / 32)))

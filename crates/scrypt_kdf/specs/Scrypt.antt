@@ -21,7 +21,8 @@ mixed_after r bytes (suc n) = salsa_bytes (xor_bytes (mixed_after r bytes n) (bl
 -- BlockMix: the outputs of even places, then those of odd places (section 4)
 unfoldable pub block_mix : ℕ → List ℕ → List ℕ
 block_mix r bytes =
-    flat_map (λ i. mixed_after r bytes (2 * i + 1)) (range_with_len 0 r) ++ flat_map (λ i. mixed_after r bytes (2 * i + 2)) (range_with_len 0 r)
+    flat_map (λ i. mixed_after r bytes (2 * i + 1)) (range_with_len 0 r)
+    ++ flat_map (λ i. mixed_after r bytes (2 * i + 2)) (range_with_len 0 r)
 
 -- V i of ROMix (section 5, step 2)
 unfoldable pub v_at : ℕ → List ℕ → ℕ → List ℕ
@@ -35,7 +36,9 @@ integerify r bytes = little_number 64 (drop (64 * (2 * r - 1)) bytes)
 -- X after n of the N steps of the second loop (section 5, step 3)
 unfoldable pub x_after : ℕ → ℕ → List ℕ → ℕ → List ℕ
 x_after cost r bytes zero = v_at r bytes cost
-x_after cost r bytes (suc n) = block_mix r (xor_bytes (x_after cost r bytes n) (v_at r bytes (integerify r (x_after cost r bytes n) % cost)))
+x_after cost r bytes (suc n) =
+    block_mix r (xor_bytes (x_after cost r bytes n)
+    (v_at r bytes (integerify r (x_after cost r bytes n) % cost)))
 
 -- ROMix (section 5)
 abbrev pub ro_mix : ℕ → ℕ → List ℕ → List ℕ
@@ -43,14 +46,16 @@ ro_mix cost r bytes = x_after cost r bytes cost
 
 -- what PBKDF2 made, in p parts of 128 r bytes, each mixed on its own (section 6, steps 1 and 2)
 abbrev pub mixed_parts : ℕ → ℕ → ℕ → List ℕ → List ℕ
-mixed_parts cost r p bytes = flat_map (λ i. ro_mix cost r (take (128 * r) (drop (128 * r * i) bytes))) (range_with_len 0 p)
+mixed_parts cost r p bytes =
+    flat_map (λ i. ro_mix cost r (take (128 * r) (drop (128 * r * i) bytes))) (range_with_len 0 p)
 
 -- scrypt (section 6)
 unfoldable pub scrypt : List ℕ → List ℕ → ℕ → ℕ → ℕ → ℕ → List ℕ
-scrypt password salt cost r p len = pbkdf2 password (mixed_parts cost r p (pbkdf2 password salt 1 (128 * r * p))) 1 len
+scrypt password salt cost r p len =
+    pbkdf2 password (mixed_parts cost r p (pbkdf2 password salt 1 (128 * r * p))) 1 len
 
--- a cost is a power of two above 1, and there is a block and a part at least. The section's further bound on the cost by the block size
--- isn't looked at.
+-- a cost is a power of two above 1, and there is a block and a part at least. The further bound on
+-- the cost by the block size (section 6) isn't looked at.
 pub record IsCost (cost r p : ℕ) : Type 0 where
   pub power : ℕ
   pub above : 0 < power

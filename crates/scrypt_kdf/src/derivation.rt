@@ -1,20 +1,11 @@
-ghost use Rattle.std.specs.Prelude.{◌≡◌, ◌<◌, ◌++◌, length};
-ghost use Rattle.aes_block.specs.Bytes.{bytes_of, xor_bytes};
+ghost use Rattle.std.specs.Prelude.{◌≡◌, ◌<◌, length};
 ghost use Rattle.scrypt_kdf.specs.Pbkdf2.{block, pbkdf2};
 
+use aes_block::xor_onto;
 use hmac_sha::{hmac256, hmac256_of_pieces};
 
 // The bytes of a block.
 const BLOCK: usize = 32;
-
-// Xors 32 bytes onto as many others.
-fn xor_onto(target: &mut [u8; BLOCK], bytes: &[u8; BLOCK])
-    ensures { target.new ≡ xor_bytes target.old bytes.now }
-{
-    for (i, byte) in target.iter_mut().enumerate() {
-        *byte ^= bytes[i];
-    }
-}
 
 // Block `number`, counted from 1, of what `password` and `salt` give.
 fn block(password: &[u8], salt: &[u8], turns: u32, number: usize) -> [u8; BLOCK]
@@ -31,8 +22,9 @@ fn block(password: &[u8], salt: &[u8], turns: u32, number: usize) -> [u8; BLOCK]
     xored
 }
 
-/// Fills `out` with what PBKDF2 (RFC 8018, 5.2) with HMAC-SHA-256 makes of a password and a salt of any lengths in
-/// `turns` iterations.
+/// Fills `out` with what PBKDF2 (RFC 8018, 5.2) with HMAC-SHA-256 makes of a password and a salt of
+/// any lengths in `turns` iterations. The standard allows at most (2^32 - 1)·32 bytes; behind them
+/// the number of a block goes on from 0.
 pub fn pbkdf2(password: &[u8], salt: &[u8], turns: u32, out: &mut [u8])
     requires { 0 < turns }
     ensures { out.new ≡ pbkdf2 password.now salt.now turns (length out.old) }

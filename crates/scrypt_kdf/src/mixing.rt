@@ -16,7 +16,7 @@ pub(crate) const PART: usize = 4 * ROW;
 
 // Xors words onto as many others.
 #[inline(always)]
-fn xor_onto(target: &mut [u32], words: &[u32])
+fn xor_words_onto(target: &mut [u32], words: &[u32])
     requires { length target.old ≡ length words.now }
     ensures { target.new ≡ xor_bytes target.old words.now }
 {
@@ -31,7 +31,7 @@ fn take_in(x: &mut [u32; WORDS], row: &[u32], i: usize)
     requires { 16 * (i + 1) ≤ length row.now }
     ensures { x.new ≡ salsa (xor_bytes x.old (take 16 (drop (16 * i) row.now))) }
 {
-    xor_onto(x, &row[WORDS * i..WORDS * i + WORDS]);
+    xor_words_onto(x, &row[WORDS * i..WORDS * i + WORDS]);
     salsa(x);
 }
 
@@ -58,7 +58,8 @@ fn fill_row(r: usize, table: &mut [u32], i: usize)
     requires behind { 0 < i }
     requires within { 32 * r * (i + 1) ≤ length table.old }
     ensures kept { take (32 * r * i) table.new ≡ take (32 * r * i) table.old }
-    ensures made { bytes_of_words (row_at r table.new i) ≡ block_mix r (bytes_of_words (row_at r table.old (i - 1))) }
+    ensures made { bytes_of_words (row_at r table.new i)
+        ≡ block_mix r (bytes_of_words (row_at r table.old (i - 1))) }
 {
     let row = ROW * r;
     let (front, back) = table.split_at_mut(row * i);
@@ -99,7 +100,7 @@ fn mix_with_row(cost: usize, r: usize, table: &[u32], x: &mut [u32], y: &mut [u3
 {
     let row = ROW * r;
     let j = chosen_row(cost, r, x);
-    xor_onto(x, &table[row * j..row * j + row]);
+    xor_words_onto(x, &table[row * j..row * j + row]);
     block_mix(r, x, y);
 }
 

@@ -24,13 +24,13 @@ pub enum ScryptErr {
 }
 
 // Whether the cost is a power of two above 1, and there is a block and a part.
-fn is_cost(n: u64, r: u64, p: u64) -> bool
-    ensures { IsTrue result ↔ IsCost n r p }
+fn is_cost(cost: u64, r: u64, p: u64) -> bool
+    ensures { IsTrue result ↔ IsCost cost r p }
 {
-    if n < 2 || r == 0 || p == 0 {
+    if cost < 2 || r == 0 || p == 0 {
         return false;
     }
-    n.is_power_of_two()
+    cost.is_power_of_two()
 }
 
 // Whether 128·a·b bytes are too many.
@@ -43,20 +43,20 @@ fn is_above(a: u64, b: u64) -> bool
 // ROMix of each of `p` parts of 128·r bytes, in one table.
 fn mix_parts(
     alloc: Global,
-    n: usize,
+    cost: usize,
     r: usize,
     p: usize,
     parts: &mut [u8],
 ) -> Result<(), AllocError>
-    requires cost { IsCost n r p }
-    requires large { IsTooLarge n r p → ⊥ }
+    requires cost { IsCost cost r p }
+    requires large { IsTooLarge cost r p → ⊥ }
     requires long { length parts.old ≡ 128 * r * p }
-    ensures { OnOk result (parts.new ≡ mixed_parts n r p parts.old) }
+    ensures { OnOk result (parts.new ≡ mixed_parts cost r p parts.old) }
 {
-    let mut table = vec![in alloc; 0u32; ROW * r * n]?;
+    let mut table = vec![in alloc; 0u32; ROW * r * cost]?;
     let mut x = vec![in alloc; 0u32; ROW * r]?;
     let mut y = vec![in alloc; 0u32; ROW * r]?;
-    mix_each(n, r, p, parts, &mut table, &mut x, &mut y);
+    mix_each(cost, r, p, parts, &mut table, &mut x, &mut y);
     Ok(())
 }
 
@@ -65,49 +65,58 @@ fn derive(
     alloc: Global,
     password: &[u8],
     salt: &[u8],
-    n: usize,
+    cost: usize,
     r: usize,
     p: usize,
     out: &mut [u8],
 ) -> Result<(), AllocError>
-    requires cost { IsCost n r p }
-    requires large { IsTooLarge n r p → ⊥ }
-    ensures derived { OnOk result (out.new ≡ scrypt password.now salt.now n r p (length out.old)) }
+    requires cost { IsCost cost r p }
+    requires large { IsTooLarge cost r p → ⊥ }
+    ensures derived { OnOk result (out.new ≡ scrypt password.now salt.now cost r p (length out.old)) }
     ensures refused { OnErr result (out.new ≡ out.old) }
 {
     let mut buffer = vec![in alloc; 0u8; PART * r * p]?;
     let parts = buffer.as_mut_slice();
     pbkdf2(password, salt, 1, parts);
-    mix_parts(alloc, n, r, p, parts)?;
+    mix_parts(alloc, cost, r, p, parts)?;
     pbkdf2(password, parts, 1, out);
     Ok(())
 }
 
-/// Fills `out` with what scrypt (RFC 7914) makes of a password and a salt of any lengths, with cost `n`, block size `r` (in 128 bytes)
-/// and parallelization `p`. One table of 128·n·r bytes is taken. `BadCost` is tested first, then `TooLarge`; after an error `out` is as
-/// it was.
+/// Fills `out` with what scrypt (RFC 7914) makes of a password and a salt of any lengths, with the
+/// cost `cost` (the RFC's N), block size `r` in units of 128 bytes, and parallelization `p`. One
+/// table of 128·cost·r bytes is taken. `BadCost` is tested first, then `TooLarge`; after an error
+/// `out` is as it was.
 pub fn scrypt(
     alloc: Global,
     password: &[u8],
     salt: &[u8],
-    n: u64,
+    cost: u64,
     r: u64,
     p: u64,
     out: &mut [u8],
 ) -> Result<(), ScryptErr>
-    ensures derived { OnOk result (out.new ≡ scrypt password.now salt.now n r p (length out.old)) }
-    ensures bad_cost { IsErrOf result ScryptErr.BadCost ↔ (IsCost n r p → ⊥) }
-    ensures too_large { IsErrOf result ScryptErr.TooLarge ↔ (IsCost n r p × IsTooLarge n r p) }
+    ensures derived { OnOk result (out.new ≡ scrypt password.now salt.now cost r p (length out.old)) }
+    ensures cost { OnOk result (IsCost cost r p) }
+    ensures size { OnOk result (IsTooLarge cost r p → ⊥) }
+    ensures bad_cost { IsErrOf result ScryptErr.BadCost ↔ (IsCost cost r p → ⊥) }
+    ensures too_large { IsErrOf result ScryptErr.TooLarge ↔ (IsCost cost r p × IsTooLarge cost r p) }
     ensures refused { OnErr result (out.new ≡ out.old) }
 {
-    if !is_cost(n, r, p) {
+    if !is_cost(cost, r, p) {
         return Err(ScryptErr::BadCost);
     }
-    if is_above(n, r) || is_above(r, p) {
+    if is_above(cost, r) || is_above(r, p) {
         return Err(ScryptErr::TooLarge);
     }
     derive(
-        alloc, password, salt, n as usize, r as usize, p as usize, out,
+        alloc,
+        password,
+        salt,
+        cost as usize,
+        r as usize,
+        p as usize,
+        out,
     )
     .map_err(|_| ScryptErr::Memory)
 }

@@ -7,9 +7,11 @@ use Rattle.std.proofs.lemmas.List.{length-append, take-append-drop, take_at, dro
 use Rattle.aes_block.specs.Bytes.{xor_bytes, bytes_of, MakesBlocks}
 use Rattle.siv_mode.specs.Cmac.{doubled, padded, cmac}
 use Rattle.siv_mode.specs.Siv.{mixed, xored_end, s2v, first_counter, keystream, counted, siv_sealed, siv_text, siv_opened}
-use Rattle.siv_mode.proofs.Xors.{length-xor_bytes, xor_bytes-twice}
+use Rattle.siv_mode.proofs.Xors.{length-xor_bytes}
+use Rattle.aes_block.proofs.ByteLemmas.{xor_bytes-twice}
 use Rattle.siv_mode.proofs.Counters.{keystream-push, counter_block}
 
+-- n counters give n blocks
 pub length-keystream : (ctr : List ℕ → List ℕ) (first n : ℕ) → MakesBlocks ctr → length (keystream ctr first n) ≡ 16 * n
 length-keystream ctr first zero makes = refl
 length-keystream ctr first (suc n) makes =
@@ -30,14 +32,17 @@ length-s2v mac ad text makes =
       | false ↦ length-cmac mac _ makes
     ]
 
+-- S2V of a text that is shorter than a block
 pub s2v_short : (mac : List ℕ → List ℕ) (ad : Option (List ℕ)) (text : List ℕ) → length text < 16 → s2v mac ad text ≡ cmac mac (xor_bytes (doubled (mixed mac ad)) (padded text))
 unfolding s2v
 s2v_short mac ad text short = let test : nat_lt (length text) 16 ≡ true = grind (arith, nat_tests) in rw test refl
 
+-- S2V of a text of a block or more
 pub s2v_long : (mac : List ℕ → List ℕ) (ad : Option (List ℕ)) (text : List ℕ) → 16 ≤ length text → s2v mac ad text ≡ cmac mac (xored_end text (mixed mac ad))
 unfolding s2v
 s2v_long mac ad text long = let test : nat_lt (length text) 16 ≡ false = grind (arith, nat_tests) in rw test refl
 
+-- the counters applied twice give the text back
 pub counted_twice : (ctr : List ℕ → List ℕ) (tag text : List ℕ) → MakesBlocks ctr → counted ctr tag (counted ctr tag text) ≡ text
 unfolding counted
 counted_twice ctr tag text makes =
@@ -55,6 +60,7 @@ opened_is mac ctr ad sealed same =
     let test : bytes_eq (s2v mac ad (siv_text ctr sealed)) (take 16 sealed) ≡ true = (bytes_eq-Decides _ _).1 same in
     rw test refl
 
+-- what is refused
 pub closed_is : (mac ctr : List ℕ → List ℕ) (ad : Option (List ℕ)) (sealed : List ℕ) → (s2v mac ad (siv_text ctr sealed) ≡ take 16 sealed → ⊥) → siv_opened mac ctr ad sealed ≡ None
 unfolding siv_opened
 closed_is mac ctr ad sealed differs =
@@ -70,6 +76,7 @@ from_opened mac ctr ad sealed text is =
       go true same is = let back : text ≡ siv_text ctr sealed = cc in (ap (s2v mac ad) back ∙ (bytes_eq-Decides _ _).0 same, back)
       go false same is = cc
 
+-- what was sealed opens to its text
 pub opens : (mac ctr : List ℕ → List ℕ) (ad : Option (List ℕ)) (text : List ℕ) → MakesBlocks mac → MakesBlocks ctr → siv_opened mac ctr ad (siv_sealed mac ctr ad text) ≡ Some text
 unfolding siv_sealed
 opens mac ctr ad text makes makes' =
@@ -80,6 +87,7 @@ opens mac ctr ad text makes makes' =
     let same : siv_text ctr (siv_sealed mac ctr ad text) ≡ text = (λ i. counted ctr (front i) (back i)) ∙ counted_twice ctr tag text makes' in
     opened_is mac ctr ad (siv_sealed mac ctr ad text) (ap (s2v mac ad) same ∙ sym front) ∙ ap Some same
 
+-- what opens is what sealing its text gives
 pub sealed_is : (mac ctr : List ℕ → List ℕ) (ad : Option (List ℕ)) (sealed text : List ℕ) → MakesBlocks ctr → siv_opened mac ctr ad sealed ≡ Some text → sealed ≡ siv_sealed mac ctr ad text
 unfolding siv_sealed
 sealed_is mac ctr ad sealed text makes is =

@@ -1,19 +1,8 @@
 ghost use Rattle.std.specs.Prelude.{◌≡◌, ◌<◌, length};
-ghost use Rattle.aes_block.specs.Bytes.{xor_bytes};
 ghost use Rattle.siv_mode.specs.Cmac.{doubled, padded};
 
 // The constant that is xored in where a one leaves a doubled block (SP 800-38B, 5.3).
 const REDUCTION: u128 = 0x87;
-
-// Xors bytes onto as many others.
-pub(crate) fn xor_onto(target: &mut [u8], bytes: &[u8])
-    requires { length target.old ≡ length bytes.now }
-    ensures { target.new ≡ xor_bytes target.old bytes.now }
-{
-    for i in 0..target.len() {
-        target[i] ^= bytes[i];
-    }
-}
 
 // A block doubled (SP 800-38B, 6.1).
 pub(crate) fn double(block: [u8; 16]) -> [u8; 16]

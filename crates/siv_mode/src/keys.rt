@@ -1,4 +1,5 @@
-ghost use Rattle.std.specs.Prelude.{◌≡◌};
+ghost use Rattle.std.specs.Prelude.{◌≡◌, length};
+ghost use Rattle.aes_block.specs.Bytes.{AreBytes};
 
 use aes_block::Key256;
 use std::marker::Model;
@@ -52,5 +53,16 @@ impl VaultKeys {
         ensures { result.now ≡ self.now.mac }
     {
         &self.mac
+    }
+
+    /// States that each key has 32 bytes. It does nothing.
+    pub fn have_32_bytes(&self)
+        ensures enc { length self.now.enc ≡ 32 }
+        ensures mac { length self.now.mac ≡ 32 }
+        ensures enc_bytes { AreBytes self.now.enc }
+        ensures mac_bytes { AreBytes self.now.mac }
+    {
+        self.enc.has_32_bytes();
+        self.mac.has_32_bytes();
     }
 }

@@ -1,17 +1,27 @@
-//! AES-CMAC (SP 800-38B), and S2V and SIV (RFC 5297) with no or one associated string, over any block cipher with blocks
-//! of 16 bytes.
+//! AES-CMAC (SP 800-38B), and S2V and SIV (RFC 5297) with no or one associated string, over any
+//! block cipher on blocks of 16 bytes.
+//!
+//! ```
+//! let keys = VaultKeys::new(&[1; 32], &[2; 32]);
+//! let mut sealed = [0; TAG_LEN + 5];
+//! seal(keys.mac_key(), keys.encryption_key(), Some(b"folder"), b"hello", &mut sealed);
+//! open(keys.mac_key(), keys.encryption_key(), Some(b"folder"), &sealed, &mut [0; 5])?;
+//! ```
+//!
+//! SIV is deterministic: the same text sealed twice under the same keys and string gives the same
+//! bytes. Not promised: that the time taken is independent of keys and text (AES indexes tables by
+//! secret bytes; tags are compared without an early end), or that keys are wiped from memory when
+//! they are dropped.
 #![tactic(auto)]
 
 mod blocks;
-mod counter;
 mod keys;
+mod keystream;
+mod laws;
 mod mac;
 mod siv;
-#[cfg(test)]
-mod tests;
-#[cfg(test)]
-mod vectors;
 
 pub use keys::VaultKeys;
+pub use laws::opening_is_exact;
 pub use mac::cmac;
-pub use siv::{BadTag, open, opening_is_exact, s2v, seal};
+pub use siv::{BadTag, TAG_LEN, open, s2v, seal};

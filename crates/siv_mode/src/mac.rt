@@ -3,8 +3,8 @@ ghost use Rattle.aes_block.specs.Bytes.{xor_bytes};
 ghost use Rattle.siv_mode.specs.Cmac.{cmac as cmac_of};
 ghost use Rattle.siv_mode.specs.Absorbed.{HasAbsorbed};
 
-use crate::blocks::{double, pad, xor_onto};
-use aes_block::BlockKey;
+use crate::blocks::{double, pad};
+use aes_block::{BlockKey, xor_onto};
 
 /// The message authentication code of a text, 16 bytes, as in SP 800-38B, section 6.2.
 pub fn cmac<K: BlockKey>(key: &K, text: &[u8]) -> [u8; 16]

@@ -12,8 +12,8 @@ pub loop-taken-preserved : goal.loop-taken-preserved
 loop-taken-preserved c =
     unwrapped_after-more (inverse_aes c.new-cipher.result) c.args.wrapped.now _ _ c.loop-taken.taken c.loop-taken.invariant c.unwrap_step.ensures
 
-pub returns-then-ne-clause-refused : goal.returns-then-ne-clause-refused
-returns-then-ne-clause-refused c =
+pub returns-then-not-bytes_equal-clause-refused : goal.returns-then-not-bytes_equal-clause-refused
+returns-then-not-bytes_equal-clause-refused c =
     let other : take 8 c.loop-taken.state ≡ check_value → ⊥ = search rules in
     ap (λ k. unwrapped (inverse_aes k) c.args.wrapped.now) (sym c.new-cipher.ensures)
     ∙ unwrapped-none (inverse_aes c.new-cipher.result) c.args.wrapped.now _ c.loop-taken.taken c.loop-taken.invariant (omega arith) other

@@ -5,5 +5,5 @@ use Rattle.key_wrap.proofs.steps.wrap_step.Goals as goal
 
 pub returns : goal.returns
 returns c =
-    wrap_step-is (aes c.args.kek.now) c.args.step c.place-at.result (c.place-at.result + 8 - c.place-at.result) c.args.state.now _ _ _ _ _ c.place-at.ensures (omega arith)
-    c.joined-block.ensures c.encrypt.ensures c.encrypt.array_long c.put.ensures c.counted-check.ensures c.put-2.ensures
+    wrap_step-is (aes c.args.kek.now) c.args.step c.offset-at.result (c.offset-at.result + 8 - c.offset-at.result) c.args.state.now _ _ _ _ _ c.offset-at.ensures (omega arith)
+    c.joined-block.ensures c.encrypt.ensures c.encrypt.array_long c.write_part.ensures c.with_counter-check.ensures c.write_part-2.ensures
