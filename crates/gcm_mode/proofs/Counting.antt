@@ -1,11 +1,12 @@
 -- A text xored with the encrypted counter blocks, a block at a time.
-use Rattle.std.proofs.Common.{◌≡◌, ℕ, zero, suc, ◌+◌, ◌-◌, ◌*◌, ◌/◌, ◌%◌, ◌^◌, ◌<◌, List, [], ◌∷◌, ◌++◌, length, take, drop, min, refl, ap, sym, ◌∙◌, arith, length-append, length-drop}
+use Rattle.std.proofs.Common.{◌≡◌, ℕ, zero, suc, ◌+◌, ◌-◌, ◌*◌, ◌/◌, ◌%◌, ◌^◌, ◌<◌, ◌≤◌, List, [], ◌∷◌, ◌++◌, length, map, get_or, take, drop, min, refl, ap, sym, subst, ◌∙◌, arith, length-append, length-drop}
 use Rattle.std.proofs.lemmas.List.{append-nil, append_assoc, take_all, drop_all, take_at, drop_at, drop-drop, drop-take, take-append-drop, take-take, take_min, drop_min, length-take-le}
 use Rattle.std.proofs.lemmas.List.Concat.{flat_map-append}
 use Rattle.std.specs.List.{between, range_with_len, flat_map}
 use borrow.Rule.Slice.PartMut.{put_mid}
 use Rattle.aes_block.specs.Bytes.{xor_bytes, bytes_of, MakesBlocks}
 use Rattle.gcm_mode.specs.Gcm.{counter_block, counted, keystream}
+use Rattle.gcm_mode.specs.Counted.{Counted}
 use Rattle.gcm_mode.proofs.XorBytes.{xor_bytes-append, length-xor_bytes}
 
 range_with_len_more : (a n : ℕ) → range_with_len a (n + 1) ≡ range_with_len a n ++ (a + n) ∷ []
@@ -75,3 +76,49 @@ length-keystream cipher nonce blocks (suc n) =
     let before : length (keystream cipher nonce n) ≡ 16 * n = length-keystream cipher nonce blocks n in
     let size : length block ≡ 16 = blocks.long (counter_block nonce (n + 2)) in
     ap length more ∙ length-append (keystream cipher nonce n) block ∙ omega arith
+
+-- ---- the state of the loops
+
+pub Counted_none : (cipher : List ℕ → List ℕ) (nonce old : List ℕ) → Counted cipher nonce old 0 old
+Counted_none cipher nonce old = record {
+  blocks = ap length (keystream_none cipher nonce);
+  done = refl;
+}
+
+-- one block more, or what is left of it
+pub Counted_more : (cipher : List ℕ → List ℕ) (nonce old now block ys : List ℕ) (n e k : ℕ) → Counted cipher nonce old n now → 16 * n < length old
+    → e ≡ min (length old) (16 * n + 16) → k ≡ e - 16 * n → block ≡ cipher (counter_block nonce (n + 2)) → length block ≡ 16 → ys ≡ xor_bytes (between (16 * n) e now) block
+    → Counted cipher nonce old (n + 1) (put_mid (16 * n) k now ys)
+Counted_more cipher nonce old now block ys n e k known within end size is long done =
+    let more : keystream cipher nonce (n + 1) ≡ keystream cipher nonce n ++ block =
+    keystream_more cipher nonce n ∙ ap (λ (b : List ℕ). keystream cipher nonce n ++ b) (sym is) in
+    let place : 16 * (n + 1) ≡ 16 * n + 16 = omega arith in record {
+      blocks = ap length more ∙ length-append (keystream cipher nonce n) block ∙ omega (arith, long, known.blocks);
+      done = ap (λ (j : ℕ). put_mid (16 * n) j now ys) size ∙ rw (place, more) (counted_more old now (keystream cipher nonce n) block ys (16 * n) e known.done known.blocks within end done);
+    }
+
+pub Counted_all : (cipher : List ℕ → List ℕ) (nonce old now : List ℕ) (n : ℕ) → n ≡ (length old + 15) / 16 → Counted cipher nonce old n now → now ≡ counted cipher nonce old
+Counted_all cipher nonce old now n count known = counted_all cipher nonce old now n count known.done
+
+-- one whole block more, from a up to e
+pub Counted_step : (cipher : List ℕ → List ℕ) (nonce old now b block ys : List ℕ) (n a e : ℕ) → MakesBlocks cipher → Counted cipher nonce old n now → a ≡ 16 * n → e ≡ a + 16
+    → e ≤ length old → b ≡ counter_block nonce (n + 2) → block ≡ cipher b → ys ≡ xor_bytes (between a e now) block → Counted cipher nonce old (n + 1) (put_mid a (e - a) now ys)
+Counted_step cipher nonce old now b block ys n a e blocks known at end room is made done =
+    let last : e ≡ min (length old) (16 * n + 16) = omega arith in
+    let cited : ys ≡ xor_bytes (between (16 * n) e now) block = done ∙ ap (λ (k : ℕ). xor_bytes (between k e now) block) at in
+    let long : length block ≡ 16 = ap length (made ∙ ap cipher is) ∙ blocks.long (counter_block nonce (n + 2)) in
+    let next = Counted_more cipher nonce old now block ys n e (e - a) known (omega arith) last (ap (λ (k : ℕ). e - k) at) (made ∙ ap cipher is) long cited in
+    subst (λ (k : ℕ). Counted cipher nonce old (n + 1) (put_mid k (e - a) now ys)) (sym at) next
+
+-- four encrypted counter blocks
+pub four_masks_are : (cipher : List ℕ → List ℕ) (nonce b0 b1 b2 b3 : List ℕ) (first : ℕ) → first < 2 ^ 32
+    → b0 ≡ counter_block nonce first → b1 ≡ counter_block nonce ((first + 1) % 4294967296)
+    → b2 ≡ counter_block nonce ((first + 2) % 4294967296) → b3 ≡ counter_block nonce ((first + 3) % 4294967296)
+    → (j : ℕ) → j < 4 → get_or (map cipher (b0 ∷ b1 ∷ b2 ∷ b3 ∷ [])) j [] ≡ cipher (counter_block nonce ((first + j) % 2 ^ 32))
+four_masks_are cipher nonce b0 b1 b2 b3 first small e0 e1 e2 e3 zero within =
+    let same : first ≡ (first + 0) % 2 ^ 32 = omega arith in
+    ap cipher (e0 ∙ ap (counter_block nonce) same)
+four_masks_are cipher nonce b0 b1 b2 b3 first small e0 e1 e2 e3 (suc zero) within = ap cipher e1
+four_masks_are cipher nonce b0 b1 b2 b3 first small e0 e1 e2 e3 (suc (suc zero)) within = ap cipher e2
+four_masks_are cipher nonce b0 b1 b2 b3 first small e0 e1 e2 e3 (suc (suc (suc zero))) within = ap cipher e3
+four_masks_are cipher nonce b0 b1 b2 b3 first small e0 e1 e2 e3 (suc (suc (suc (suc j)))) within = absurd (omega arith)

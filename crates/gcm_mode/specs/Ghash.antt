@@ -39,6 +39,19 @@ zero_padded text = text ++ replicate ((16 - length text % 16) % 16) 0
 abbrev pub IsHashed : ℕ → List ℕ → ℕ → Type 0
 IsHashed h text y = (length text % 16 ≡ 0) × (hashed h text (length text / 16) ≡ y)
 
+-- the product with x^m
+abbrev pub times_x_power : ℕ → ℕ → ℕ
+times_x_power zero v = v
+times_x_power (suc m) v = times_x_power m (times_x v)
+
+-- entry j of the table below: the product of the 4 bits j % 16 at place j / 16 of a block with h
+abbrev pub place_entry : ℕ → ℕ → ℕ
+place_entry h j = product_of 4 (j % 16) (times_x_power (4 * (j / 16)) h)
+
+-- a table of the products of h with each 4 bits at each of the 32 places of a block, the leftmost first
+abbrev pub IsPlaceTable : ℕ → List ℕ → Type 0
+IsPlaceTable h table = (j : ℕ) → j < 512 → slice_index table j ≡ place_entry h j
+
 -- a table of the products of h with each polynomial of degree 3, as the 4 bits from the left
 abbrev pub IsProductTable : ℕ → List ℕ → Type 0
 IsProductTable h table = (i : ℕ) → i < 16 → slice_index table i ≡ product_of 4 i h

@@ -1,34 +1,28 @@
-// GHASH (SP 800-38D, section 6) over u128 words: the coefficient of x^i is bit 127 - i.
+// GHASH (SP 800-38D, 6) over u128 words: the coefficient of x^i is bit 127 - i.
 
 ghost use Rattle.std.specs.Prelude.{◌≡◌, ℕ, ◌+◌, ◌*◌, ◌<◌, List, ◌++◌, length};
 ghost use Rattle.aes_block.specs.Bytes.{bytes_of, number_of};
 ghost use Rattle.gcm_mode.specs.Gcm.{hashed_text};
 ghost use Rattle.gcm_mode.specs.Ghash.{block_at, ghash, IsHashed, product, product_of, times_x, zero_padded};
 
+use crate::stream::BLOCK_LEN;
 use std::marker::Model;
-
-const BLOCK_LEN: usize = 16;
 
 // What x^128 stands for: 1 + x + x^2 + x^7.
 const REDUCTION: u128 = 0xe1 << 120;
 
-// The top 16 bits of the product of x^4 with each polynomial of which only the coefficients of x^124 up to x^127 count.
-// The other bits are 0.
+// The top 16 bits of the product of x^4 with each polynomial of which only the coefficients of
+// x^124 up to x^127 count. The other bits are 0.
 const REDUCTIONS: [u16; 16] = [
     0x0000, 0x1c20, 0x3840, 0x2460, 0x7080, 0x6ca0, 0x48c0, 0x54e0, 0xe100, 0xfd20, 0xd940, 0xc560,
     0x9180, 0x8da0, 0xa9c0, 0xb5e0,
 ];
 
-// The product with x.
-#[tactic(auto, unfolding(crate::specs::Ghash::times_x))]
+// The product with x, without a branch on a bit of v, which is a secret.
 fn times_x(v: u128) -> u128
     ensures { result ≡ times_x v }
 {
-    if v & 1 == 0 {
-        v >> 1
-    } else {
-        (v >> 1) ^ REDUCTION
-    }
+    (v >> 1) ^ ((v & 1) * REDUCTION)
 }
 
 // The product with x^4.
@@ -38,7 +32,8 @@ fn times_x4(v: u128) -> u128
     (v >> 4) ^ (u128::from(REDUCTIONS[(v & 15) as usize]) << 112)
 }
 
-// The product with v of the polynomial of degree 3 that the low 4 bits of `nibble` are from the left.
+// The product with v of the polynomial of degree 3 that the low 4 bits of `nibble` are from the
+// left.
 fn nibble_product(nibble: usize, v: u128) -> u128
     ensures { result ≡ product_of 4 nibble v }
 {
@@ -53,13 +48,23 @@ fn nibble_product(nibble: usize, v: u128) -> u128
     sum
 }
 
-// A hash subkey, and in a table its products with the polynomials of degree 3. Clauses see the subkey.
+// A hash subkey, made ready for products.
+pub(crate) trait Subkey {
+    // The subkey as a number.
+    ghost subkey: { Self → ℕ };
+
+    // The product of a block with the subkey (6.3).
+    fn product(&self, x: u128) -> u128
+        ensures { result ≡ product x (subkey self.now) };
+}
+
+// The products of a subkey with each 4 bits, for few blocks: 256 bytes, soon made.
 #[derive(Drop)]
-pub(crate) struct HashKey {
+pub(crate) struct ProductTable {
     table: [u128; 16],
 }
 
-impl Model for HashKey {
+impl Model for ProductTable {
     ghost use Rattle.std.specs.Prelude.{ℕ, slice_index};
     ghost use Rattle.gcm_mode.specs.Ghash.{IsProductTable};
 
@@ -70,21 +75,23 @@ impl Model for HashKey {
     ghost invariant = { λ k. IsProductTable (slice_index k.table 8) k.table };
 }
 
-impl HashKey {
-    pub(crate) fn new(subkey: u128) -> HashKey
+impl ProductTable {
+    pub(crate) fn new(subkey: u128) -> ProductTable
         ensures { result ≡ subkey }
     {
-        let mut table = [0u128; 16];
+        let mut table = [0; 16];
         for (nibble, entry) in table.iter_mut().enumerate() {
             *entry = nibble_product(nibble, subkey);
         }
-        HashKey { table }
+        ProductTable { table }
     }
+}
 
-    // The product of a block with the subkey (6.3), 4 bits of the block at a time from the right.
-    fn product(&self, x: u128) -> u128
-        ensures { result ≡ product x self.now }
-    {
+impl Subkey for ProductTable {
+    ghost subkey = { λ k. k };
+
+    // From the right: x^4 times the sum so far, and the product of the next 4 bits.
+    fn product(&self, x: u128) -> u128 {
         let mut sum = 0;
         for i in 0..32u32 {
             let nibble = (x >> (4 * i)) & 15;
@@ -94,21 +101,79 @@ impl HashKey {
     }
 }
 
-// Block i of a text that is padded with zeros.
+// The products of a subkey with the 4 bits at each of the 32 places of a block, the leftmost place
+// first, for many blocks: 8 KiB.
+#[derive(Drop)]
+pub(crate) struct PlaceTable {
+    table: [u128; 512],
+}
+
+impl Model for PlaceTable {
+    ghost use Rattle.std.specs.Prelude.{ℕ, slice_index};
+    ghost use Rattle.gcm_mode.specs.Ghash.{IsPlaceTable};
+
+    ghost Value = { ℕ };
+
+    ghost view = { λ k. slice_index k.table 8 };
+
+    ghost invariant = { λ k. IsPlaceTable (slice_index k.table 8) k.table };
+}
+
+impl PlaceTable {
+    pub(crate) fn new(subkey: u128) -> PlaceTable
+        ensures { result ≡ subkey }
+    {
+        let mut table = [0u128; 512];
+        for nibble in 0..16usize {
+            table[nibble] = nibble_product(nibble, subkey);
+        }
+        for i in 16..512usize {
+            table[i] = times_x4(table[i - 16]);
+        }
+        PlaceTable { table }
+    }
+}
+
+impl Subkey for PlaceTable {
+    ghost subkey = { λ k. k };
+
+    // A sum of one entry for each 4 bits of the block.
+    #[inline(always)]
+    fn product(&self, x: u128) -> u128 {
+        let high = (x >> 64) as u64;
+        let low = (x & 0xffff_ffff_ffff_ffff) as u64;
+        let mut sum = 0;
+        for i in 0..16usize {
+            let shift = 60 - 4 * i as u32;
+            let upper = self.table[16 * i + ((high >> shift) & 15) as usize];
+            let lower = self.table[16 * (16 + i) + ((low >> shift) & 15) as usize];
+            sum ^= upper ^ lower;
+        }
+        sum
+    }
+}
+
+// Block i of a text that is padded with zeros. A whole block is copied as one, which is quicker
+// than by its length.
+#[inline(always)]
 fn block_number(text: &[u8], i: usize) -> u128
     requires { 16 * i < length text.now }
     ensures { result ≡ number_of (block_at (zero_padded text.now) i) }
 {
     let start = BLOCK_LEN * i;
-    let end = text.len().min(start + BLOCK_LEN);
     let mut block = [0u8; BLOCK_LEN];
-    block[..end - start].copy_from_slice(&text[start..end]);
+    if text.len() - start >= BLOCK_LEN {
+        block.copy_from_slice(&text[start..start + BLOCK_LEN]);
+        return u128::from_be_bytes(block);
+    }
+    block[..text.len() - start].copy_from_slice(&text[start..]);
     u128::from_be_bytes(block)
 }
 
 // The hash of what was hashed before and of a text behind it, padded with zeros.
-fn absorb(key: &HashKey, before: u128, text: &[u8]) -> u128
-    ensures { (front : List ℕ) → IsHashed key.now front before → IsHashed key.now (front ++ zero_padded text.now) result }
+fn absorb<K: Subkey>(key: &K, before: u128, text: &[u8]) -> u128
+    ensures { (front : List ℕ) → IsHashed (K.subkey key.now) front before
+        → IsHashed (K.subkey key.now) (front ++ zero_padded text.now) result }
 {
     let mut hash = before;
     for i in 0..text.len().div_ceil(BLOCK_LEN) {
@@ -130,8 +195,8 @@ fn length_block(ad: &[u8], ciphertext: &[u8]) -> [u8; BLOCK_LEN]
 }
 
 // GHASH of associated data, a ciphertext and their lengths (7.1, step 5).
-pub(crate) fn hash_of(key: &HashKey, ad: &[u8], ciphertext: &[u8]) -> [u8; BLOCK_LEN]
-    ensures { result ≡ ghash key.now (hashed_text ad.now ciphertext.now) }
+pub(crate) fn hash_of<K: Subkey>(key: &K, ad: &[u8], ciphertext: &[u8]) -> [u8; BLOCK_LEN]
+    ensures { result ≡ ghash (K.subkey key.now) (hashed_text ad.now ciphertext.now) }
 {
     let ad_hash = absorb(key, 0, ad);
     let text_hash = absorb(key, ad_hash, ciphertext);
