@@ -6,13 +6,13 @@ use Rattle.std.specs.List.{range_with_len}
 use Rattle.std.proofs.lemmas.Bool.{cases_lt}
 use Rattle.std.proofs.lemmas.Bool.Decides.{nat_tests}
 use Rattle.std.proofs.lemmas.List.{length-map, length-replicate}
-use Rattle.aes_block.specs.Aes.{aes}
-use Rattle.gcm_mode.specs.Gcm.{gcm_opened}
 use Rattle.siv_mode.specs.Keys.{KeyPair}
 use Rattle.tree_model.specs.Rows.{Cell, good, damaged, cell_bytes, Content, bad_size, chunks, joined, content_length, slice_of, all_there}
 use Rattle.file_chunks.specs.Header.{Head, head_of, header_opens}
-use Rattle.file_chunks.specs.Chunk.{place_data, chunk_opens}
-use Rattle.file_chunks.specs.File.{is_bad_size, chunk_count, sealed_at, cell_of, content_of, clear_length, IsKey, KeepsLength}
+use Rattle.file_chunks.specs.Envelope.{envelope_opens}
+use Rattle.file_chunks.specs.Chunk.{associated_data, chunk_opens}
+use Rattle.file_chunks.specs.File.{is_bad_size, chunk_count, sealed_at, cell_of, content_of, clear_length, IsKey}
+use Rattle.file_chunks.proofs.KeptLengths.{length-envelope}
 use Rattle.file_chunks.proofs.Chunks.{joined_from, HaveLengths, length-joined_from, from_chunk}
 use Rattle.file_chunks.proofs.SliceLemmas.{slice_behind, slice_missing, slice_there, both, slice-add}
 
@@ -67,39 +67,32 @@ mapped f None y e = absurd cc
 mapped f (Some x) y e = (x, refl, cc)
 
 -- the content key of a header that opens
-head_key : KeepsLength → (keys : KeyPair) (bytes : List ℕ) (head : Head) → IsKey keys.enc → 68 ≤ length bytes
+head_key : (keys : KeyPair) (bytes : List ℕ) (head : Head) → IsKey keys.enc → 68 ≤ length bytes
     → header_opens keys (take 68 bytes) ≡ Some head → IsKey head.key
 unfolding header_opens
-head_key keeps keys bytes head key long opens =
+head_key keys bytes head key long opens =
     let header : List ℕ = take 68 bytes in
-    let text : List ℕ = take 40 (drop 12 header) in
-    let size : length (take 40 (drop 12 (take 68 bytes))) ≡ 40 =
-    omega (arith, length-take 40 (drop 12 (take 68 bytes)), length-drop 12 (take 68 bytes), length-take 68 bytes) in
-    let clear = mapped (head_of header) (gcm_opened (aes keys.enc) (take 12 header) [] text (drop 52 header)) head opens in
-    let same : length clear.0 ≡ length (take 40 (drop 12 (take 68 bytes))) = keeps keys.enc (take 12 header) [] text (drop 52 header) clear.0 key clear.1 in
-    let is : drop 8 clear.0 ≡ head.key = ap (λ (h : Head). h.key) clear.2 in
-    ap length (sym is) ∙ omega (arith, length-drop 8 clear.0)
+    let payload = mapped (head_of header) (envelope_opens keys.enc [] header) head opens in
+    let same : length payload.0 ≡ length (take 68 bytes) - 28 = length-envelope keys.enc [] header payload.0 key payload.1 in
+    let is : drop 8 payload.0 ≡ head.key = ap (λ (h : Head). h.key) payload.2 in
+    ap length (sym is) ∙ omega (arith, length-drop 8 payload.0, length-take 68 bytes)
 
 -- what a chunk opens to is as long as its ciphertext
-chunk_length : KeepsLength → (head : Head) (i : ℕ) (sealed clear : List ℕ) → IsKey head.key → chunk_opens head i sealed ≡ Some clear
-    → length clear ≡ length sealed - 28
+length-chunk : (head : Head) (index : ℕ) (sealed plaintext : List ℕ) → IsKey head.key → chunk_opens head index sealed ≡ Some plaintext
+    → length plaintext ≡ length sealed - 28
 unfolding chunk_opens
-chunk_length keeps head i sealed clear key opens =
-    let text : List ℕ = take (length sealed - 28) (drop 12 sealed) in
-    let size : length (take (length sealed - 28) (drop 12 sealed)) ≡ length sealed - 28 =
-    omega (arith, length-take (length sealed - 28) (drop 12 sealed), length-drop 12 sealed) in
-    keeps head.key (take 12 sealed) (place_data head i) text (drop (length sealed - 16) sealed) clear key opens ∙ size
+length-chunk head index sealed plaintext key opens = length-envelope head.key (associated_data head index) sealed plaintext key opens
 
-cell_length_of : (n : ℕ) (clear : Option (List ℕ)) → ((bytes : List ℕ) → clear ≡ Some bytes → length bytes ≡ n)
-    → length (cell_bytes (option_map_or good clear (damaged n))) ≡ n
+cell_length_of : (n : ℕ) (plaintext : Option (List ℕ)) → ((bytes : List ℕ) → plaintext ≡ Some bytes → length bytes ≡ n)
+    → length (cell_bytes (option_map_or good plaintext (damaged n))) ≡ n
 cell_length_of n None same = length-replicate n None
 cell_length_of n (Some bytes) same = length-map bytes (λ (b : ℕ). Some b) ∙ same bytes refl
 
-cell_length : KeepsLength → (head : Option Head) (i : ℕ) (sealed : List ℕ) → ((h : Head) → head ≡ Some h → IsKey h.key)
+cell_length : (head : Option Head) (i : ℕ) (sealed : List ℕ) → ((h : Head) → head ≡ Some h → IsKey h.key)
     → length (cell_bytes (cell_of head i sealed)) ≡ length sealed - 28
-cell_length keeps None i sealed key = length-replicate (length sealed - 28) None
-cell_length keeps (Some h) i sealed key =
-    cell_length_of (length sealed - 28) (chunk_opens h i sealed) (λ clear opens. chunk_length keeps h i sealed clear (key h refl) opens)
+cell_length None i sealed key = length-replicate (length sealed - 28) None
+cell_length (Some h) i sealed key =
+    cell_length_of (length sealed - 28) (chunk_opens h i sealed) (λ plaintext opens. length-chunk h i sealed plaintext (key h refl) opens)
 
 length-sealed_at : (bytes : List ℕ) (i : ℕ) → length (sealed_at bytes i) ≡ min 32796 (length bytes - 68 - 32796 * i)
 length-sealed_at bytes i =
@@ -129,25 +122,25 @@ good_content keys bytes n e =
     let facts = sized (length bytes) n e in
     (map (cell_at keys bytes) (range_with_len 0 (chunk_count (length bytes))), rw facts.test refl)
 
-have_lengths : KeepsLength → (keys : KeyPair) (bytes : List ℕ) → IsKey keys.enc → 68 ≤ length bytes
+have_lengths : (keys : KeyPair) (bytes : List ℕ) → IsKey keys.enc → 68 ≤ length bytes
     → HaveLengths (cell_at keys bytes) (length bytes - 68)
-have_lengths keeps keys bytes key long i =
-    cell_length keeps (header_opens keys (take 68 bytes)) i (sealed_at bytes i) (λ head opens. head_key keeps keys bytes head key long opens)
+have_lengths keys bytes key long i =
+    cell_length (header_opens keys (take 68 bytes)) i (sealed_at bytes i) (λ head opens. head_key keys bytes head key long opens)
     ∙ ap (λ (m : ℕ). m - 28) (length-sealed_at bytes i)
 
-pub length-content : KeepsLength → (keys : KeyPair) (bytes : List ℕ) (n : ℕ) → IsKey keys.enc → clear_length (length bytes) ≡ Some n
+pub length-content : (keys : KeyPair) (bytes : List ℕ) (n : ℕ) → IsKey keys.enc → clear_length (length bytes) ≡ Some n
     → content_length (content_of keys bytes) ≡ n
-length-content keeps keys bytes n key e =
+length-content keys bytes n key e =
     let facts = sized (length bytes) n e in
     let total : ℕ = length bytes - 68 in
     let len : n ≡ length bytes - 68 - 28 * ((length bytes - 68 + 32795) / 32796) = facts.len in
-    let all = length-joined_from (cell_at keys bytes) total (chunk_count (length bytes)) 0 (have_lengths keeps keys bytes key facts.header) (omega arith) facts.whole in
+    let all = length-joined_from (cell_at keys bytes) total (chunk_count (length bytes)) 0 (have_lengths keys bytes key facts.header) (omega arith) facts.whole in
     ap length (joined_is keys bytes facts.test) ∙ all ∙ omega arith
 
-pub slice_empty : KeepsLength → (keys : KeyPair) (bytes : List ℕ) (n at count : ℕ) → IsKey keys.enc → clear_length (length bytes) ≡ Some n
+pub slice_empty : (keys : KeyPair) (bytes : List ℕ) (n at count : ℕ) → IsKey keys.enc → clear_length (length bytes) ≡ Some n
     → (n ≤ at) ⊎ (count ≡ 0) → slice_of (content_of keys bytes) at count ≡ Some []
-slice_empty keeps keys bytes n at count key e none =
-    let len : length (joined (content_of keys bytes)) ≡ n = length-content keeps keys bytes n key e in
+slice_empty keys bytes n at count key e none =
+    let len : length (joined (content_of keys bytes)) ≡ n = length-content keys bytes n key e in
     slice_behind (joined (content_of keys bytes)) at count (elim none [ inl behind ↦ inl (omega arith) | inr nothing ↦ inr nothing ])
 
 -- from a byte on: the rest of its chunk, and what stands behind
@@ -156,16 +149,16 @@ record IsFrom (keys : KeyPair) (bytes : List ℕ) (n at : ℕ) (rest : List (Opt
   this : length (cell_bytes (cell_at keys bytes (at / 32768))) ≡ min 32768 (n - 32768 * (at / 32768))
   behind : length rest ≡ n - 32768 * (at / 32768) - length (cell_bytes (cell_at keys bytes (at / 32768)))
 
-from_byte : KeepsLength → (keys : KeyPair) (bytes : List ℕ) (n at : ℕ) → IsKey keys.enc → clear_length (length bytes) ≡ Some n → at < n
+from_byte : (keys : KeyPair) (bytes : List ℕ) (n at : ℕ) → IsKey keys.enc → clear_length (length bytes) ≡ Some n → at < n
     → (rest : List (Option ℕ)) × IsFrom keys bytes n at rest
-from_byte keeps keys bytes n at key e inside =
+from_byte keys bytes n at key e inside =
     let facts = sized (length bytes) n e in
     let header : 68 ≤ length bytes = facts.header in
     let whole : ((length bytes - 68) % 32796 ≡ 0) ⊎ (28 ≤ (length bytes - 68) % 32796) = facts.whole in
     let len : n ≡ length bytes - 68 - 28 * ((length bytes - 68 + 32795) / 32796) = facts.len in
     let k : ℕ = at / 32768 in
     let cell : ℕ → Cell = cell_at keys bytes in
-    let lengths : HaveLengths (cell_at keys bytes) (length bytes - 68) = have_lengths keeps keys bytes key header in
+    let lengths : HaveLengths (cell_at keys bytes) (length bytes - 68) = have_lengths keys bytes key header in
     let m : ℕ = (length bytes - 68 + 32795) / 32796 in
     let met : at / 32768 < (length bytes - 68 + 32795) / 32796 = omega arith in
     let full : (i : ℕ) → i < at / 32768 → length (cell_bytes (cell_at keys bytes i)) ≡ 32768 = λ i below. lengths i ∙ omega arith in
@@ -174,7 +167,7 @@ from_byte keeps keys bytes n at key e inside =
     let is : drop at (joined (content_of keys bytes)) ≡ drop (at % 32768) (cell_bytes (cell_at keys bytes (at / 32768)) ++ found.0) =
     ap (drop at) (joined_is keys bytes facts.test) ∙ ap (λ (a : ℕ). drop a (joined_from (cell_at keys bytes) 0 m)) place ∙ found.1 in
     let this : length (cell_bytes (cell_at keys bytes (at / 32768))) ≡ min 32768 (n - 32768 * (at / 32768)) = lengths k ∙ omega arith in
-    let all : length (joined (content_of keys bytes)) ≡ n = length-content keeps keys bytes n key e in
+    let all : length (joined (content_of keys bytes)) ≡ n = length-content keys bytes n key e in
     let left : n - at ≡ length (cell_bytes (cell_at keys bytes (at / 32768)) ++ found.0) - at % 32768 =
     ap (λ (l : ℕ). l - at) (sym all) ∙ sym (length-drop at (joined (content_of keys bytes))) ∙ ap length is
     ∙ length-drop (at % 32768) (cell_bytes (cell_at keys bytes (at / 32768)) ++ found.0) in
@@ -188,16 +181,16 @@ cell_unopened : (head : Option Head) (i : ℕ) (sealed : List ℕ) → option_an
     → cell_of head i sealed ≡ damaged (length sealed - 28)
 cell_unopened head i sealed none = ap (λ (o : Option (List ℕ)). option_map_or good o (damaged (length sealed - 28))) none
 
-cell_opened : (head : Option Head) (i : ℕ) (sealed clear : List ℕ) → option_and_then (λ h. chunk_opens h i sealed) head ≡ Some clear
-    → cell_of head i sealed ≡ good clear
-cell_opened head i sealed clear some = ap (λ (o : Option (List ℕ)). option_map_or good o (damaged (length sealed - 28))) some
+cell_opened : (head : Option Head) (i : ℕ) (sealed plaintext : List ℕ) → option_and_then (λ h. chunk_opens h i sealed) head ≡ Some plaintext
+    → cell_of head i sealed ≡ good plaintext
+cell_opened head i sealed plaintext some = ap (λ (o : Option (List ℕ)). option_map_or good o (damaged (length sealed - 28))) some
 
-slice_unopened : KeepsLength → (keys : KeyPair) (bytes : List ℕ) (n at count : ℕ) → IsKey keys.enc → clear_length (length bytes) ≡ Some n
+slice_unopened : (keys : KeyPair) (bytes : List ℕ) (n at count : ℕ) → IsKey keys.enc → clear_length (length bytes) ≡ Some n
     → at < n → 0 < count
     → option_and_then (λ h. chunk_opens h (at / 32768) (sealed_at bytes (at / 32768))) (header_opens keys (take 68 bytes)) ≡ None
     → slice_of (content_of keys bytes) at count ≡ None
-slice_unopened keeps keys bytes n at count key e inside some none =
-    let from = from_byte keeps keys bytes n at key e inside in
+slice_unopened keys bytes n at count key e inside some none =
+    let from = from_byte keys bytes n at key e inside in
     let rest : List (Option ℕ) = from.0 in
     let q : ℕ = length (sealed_at bytes (at / 32768)) - 28 in
     let cell : cell_at keys bytes (at / 32768) ≡ damaged q = cell_unopened (header_opens keys (take 68 bytes)) (at / 32768) (sealed_at bytes (at / 32768)) none in
@@ -207,43 +200,43 @@ slice_unopened keeps keys bytes n at count key e inside some none =
     (from.1.is ∙ ap (λ (c : Cell). drop (at % 32768) (cell_bytes c ++ rest)) cell)
     ∙ slice_missing q (at % 32768) count rest (omega arith) some
 
-pub slice_closed : KeepsLength → (keys : KeyPair) (bytes : List ℕ) (n at count : ℕ) → IsKey keys.enc → clear_length (length bytes) ≡ Some n
+pub slice_closed : (keys : KeyPair) (bytes : List ℕ) (n at count : ℕ) → IsKey keys.enc → clear_length (length bytes) ≡ Some n
     → at < n → 0 < count → header_opens keys (take 68 bytes) ≡ None → slice_of (content_of keys bytes) at count ≡ None
-slice_closed keeps keys bytes n at count key e inside some none =
-    slice_unopened keeps keys bytes n at count key e inside some
+slice_closed keys bytes n at count key e inside some none =
+    slice_unopened keys bytes n at count key e inside some
     (ap (option_and_then (λ h. chunk_opens h (at / 32768) (sealed_at bytes (at / 32768)))) none)
 
-pub slice_damaged : KeepsLength → (keys : KeyPair) (bytes : List ℕ) (n at count : ℕ) (head : Head) → IsKey keys.enc → clear_length (length bytes) ≡ Some n
+pub slice_damaged : (keys : KeyPair) (bytes : List ℕ) (n at count : ℕ) (head : Head) → IsKey keys.enc → clear_length (length bytes) ≡ Some n
     → at < n → 0 < count → header_opens keys (take 68 bytes) ≡ Some head → chunk_opens head (at / 32768) (sealed_at bytes (at / 32768)) ≡ None
     → slice_of (content_of keys bytes) at count ≡ None
-slice_damaged keeps keys bytes n at count head key e inside some opens none =
-    slice_unopened keeps keys bytes n at count key e inside some
+slice_damaged keys bytes n at count head key e inside some opens none =
+    slice_unopened keys bytes n at count key e inside some
     (ap (option_and_then (λ h. chunk_opens h (at / 32768) (sealed_at bytes (at / 32768)))) opens ∙ none)
 
-pub slice_opened : KeepsLength → (keys : KeyPair) (bytes : List ℕ) (n at count : ℕ) (head : Head) (clear : List ℕ) → IsKey keys.enc
+pub slice_opened : (keys : KeyPair) (bytes : List ℕ) (n at count : ℕ) (head : Head) (plaintext : List ℕ) → IsKey keys.enc
     → clear_length (length bytes) ≡ Some n → at < n → header_opens keys (take 68 bytes) ≡ Some head
-    → chunk_opens head (at / 32768) (sealed_at bytes (at / 32768)) ≡ Some clear
+    → chunk_opens head (at / 32768) (sealed_at bytes (at / 32768)) ≡ Some plaintext
     → (at % 32768 + count ≤ 32768) ⊎ (n ≤ 32768 * (at / 32768 + 1))
-    → slice_of (content_of keys bytes) at count ≡ Some (take count (drop (at % 32768) clear))
-slice_opened keeps keys bytes n at count head clear key e inside header chunk no_further =
-    let from = from_byte keeps keys bytes n at key e inside in
+    → slice_of (content_of keys bytes) at count ≡ Some (take count (drop (at % 32768) plaintext))
+slice_opened keys bytes n at count head plaintext key e inside header chunk no_further =
+    let from = from_byte keys bytes n at key e inside in
     let rest : List (Option ℕ) = from.0 in
-    let both_open : option_and_then (λ h. chunk_opens h (at / 32768) (sealed_at bytes (at / 32768))) (header_opens keys (take 68 bytes)) ≡ Some clear =
+    let both_open : option_and_then (λ h. chunk_opens h (at / 32768) (sealed_at bytes (at / 32768))) (header_opens keys (take 68 bytes)) ≡ Some plaintext =
     ap (option_and_then (λ h. chunk_opens h (at / 32768) (sealed_at bytes (at / 32768)))) header ∙ chunk in
-    let cell : cell_at keys bytes (at / 32768) ≡ good clear =
-    cell_opened (header_opens keys (take 68 bytes)) (at / 32768) (sealed_at bytes (at / 32768)) clear both_open in
-    let size : length (cell_bytes (cell_at keys bytes (at / 32768))) ≡ length clear =
-    ap (λ (c : Cell). length (cell_bytes c)) cell ∙ length-map clear (λ (b : ℕ). Some b) in
+    let cell : cell_at keys bytes (at / 32768) ≡ good plaintext =
+    cell_opened (header_opens keys (take 68 bytes)) (at / 32768) (sealed_at bytes (at / 32768)) plaintext both_open in
+    let size : length (cell_bytes (cell_at keys bytes (at / 32768))) ≡ length plaintext =
+    ap (λ (c : Cell). length (cell_bytes c)) cell ∙ length-map plaintext (λ (b : ℕ). Some b) in
     let this : length (cell_bytes (cell_at keys bytes (at / 32768))) ≡ min 32768 (n - 32768 * (at / 32768)) = from.1.this in
     let behind : length rest ≡ n - 32768 * (at / 32768) - length (cell_bytes (cell_at keys bytes (at / 32768))) = from.1.behind in
-    let end : (at % 32768 + count ≤ length clear) ⊎ (length rest ≡ 0) =
-    elim (cases_lt (length clear) (at % 32768 + count)) [
+    let end : (at % 32768 + count ≤ length plaintext) ⊎ (length rest ≡ 0) =
+    elim (cases_lt (length plaintext) (at % 32768 + count)) [
       | inl past ↦ inr (elim no_further [ inl short ↦ omega arith | inr last ↦ omega arith ])
       | inr within ↦ inl within
     ] in
     ap (λ (xs : List (Option ℕ)). all_there (take count xs))
     (from.1.is ∙ ap (λ (c : Cell). drop (at % 32768) (cell_bytes c ++ rest)) cell)
-    ∙ slice_there clear (at % 32768) count rest (omega arith) end
+    ∙ slice_there plaintext (at % 32768) count rest (omega arith) end
 
 pub slices_joined : (content : Content) (at first second : ℕ)
     → slice_of content (at) (first + second) ≡ both (slice_of content at first) (slice_of content (at + first) second)

@@ -1,12 +1,14 @@
 -- What GCM opens under AES-256 is as long as its ciphertext.
-use Rattle.std.proofs.Common.{◌≡◌, ℕ, zero, suc, ◌+◌, ◌-◌, ◌*◌, ◌/◌, ◌%◌, ◌≤◌, min, Bool, true, false, cond, eqb, ltb, ◌&&◌, List, [], ◌∷◌, length, take, drop, Some, None, refl, ap, sym, ◌∙◌, arith, length-append, length-drop, length-take}
+use Rattle.std.proofs.Common.{◌≡◌, ℕ, zero, suc, ◌+◌, ◌-◌, ◌*◌, ◌/◌, ◌%◌, ◌≤◌, min, Bool, true, false, cond, eqb, ltb, ◌&&◌, inl, inr, List, [], ◌∷◌, length, take, drop, Some, None, refl, ap, sym, ◌∙◌, arith, length-append, length-drop, length-take}
 use Rattle.std.specs.List.{flat_map, range_with_len}
 use Rattle.std.specs.Str.{bytes_eq}
+use Rattle.std.proofs.lemmas.Bool.{cases_Bool}
 use Rattle.std.proofs.lemmas.List.{length-map}
 use Rattle.aes_block.specs.Bytes.{xor_bytes}
 use Rattle.aes_block.specs.Field.{substituted}
 use Rattle.aes_block.specs.Aes.{aes, expanded_key, key_schedule, power_of_x, rotated_word, round_count, round_key, schedule_step, shift_rows, state_after, sub_bytes, word}
 use Rattle.gcm_mode.specs.Gcm.{counted, counter_block, gcm_opened, gcm_tag, keystream}
+use Rattle.file_chunks.specs.Envelope.{envelope_opens}
 use Rattle.file_chunks.specs.File.{IsKey, KeepsLength}
 
 length-xor_bytes : (xs ks : List ℕ) → length (xor_bytes xs ks) ≡ min (length xs) (length ks)
@@ -89,11 +91,29 @@ length-counted cipher nonce text long =
     length-xor_bytes text (flat_map (λ i. cipher (counter_block nonce (i + 2))) (range_with_len 0 n))
     ∙ omega (arith, length-blocks cipher nonce long n 0)
 
-text_of : (b : Bool) (text clear : List ℕ) → cond b (Some text) None ≡ Some clear → text ≡ clear
-text_of true text clear opened = cc
-text_of false text clear opened = absurd cc
+text_of : (b : Bool) (text plaintext : List ℕ) → cond b (Some text) None ≡ Some plaintext → text ≡ plaintext
+text_of true text plaintext opened = cc
+text_of false text plaintext opened = absurd cc
 
+-- what opens is as long as its ciphertext
 pub keeps_length : KeepsLength
 unfolding gcm_opened
-keeps_length key nonce ad text tag clear long opened =
-    ap length (sym (text_of (bytes_eq (gcm_tag (aes key) nonce ad text) tag) (counted (aes key) nonce text) clear opened)) ∙ length-counted (aes key) nonce text (λ block. length-aes key block long)
+keeps_length key nonce ad text tag plaintext long opened =
+    ap length (sym (text_of (bytes_eq (gcm_tag (aes key) nonce ad text) tag) (counted (aes key) nonce text) plaintext opened)) ∙ length-counted (aes key) nonce text (λ block. length-aes key block long)
+
+-- what a nonce, a ciphertext and a tag open to is 28 bytes shorter than they are
+pub length-envelope : (key ad sealed plaintext : List ℕ) → IsKey key → envelope_opens key ad sealed ≡ Some plaintext
+    → length plaintext ≡ length sealed - 28
+length-envelope key ad sealed plaintext long opened =
+    elim (cases_Bool (ltb (length sealed) 28)) [
+      | inl short ↦
+          let none : None ≡ Some plaintext = rw short at opened in
+          absurd cc
+      | inr enough ↦
+          let ciphertext : List ℕ = take (length sealed - 28) (drop 12 sealed) in
+          let size : length (take (length sealed - 28) (drop 12 sealed)) ≡ length sealed - 28 =
+          omega (arith, length-take (length sealed - 28) (drop 12 sealed), length-drop 12 sealed) in
+          let opens : gcm_opened (aes key) (take 12 sealed) ad (take (length sealed - 28) (drop 12 sealed)) (drop (length sealed - 16) sealed) ≡ Some plaintext =
+          rw enough at opened in
+          keeps_length key (take 12 sealed) ad ciphertext (drop (length sealed - 16) sealed) plaintext long opens ∙ size
+    ]

@@ -50,17 +50,17 @@ slice_missing (suc q) zero (suc count) rest inside some = refl
 slice_missing (suc q) (suc r) count rest inside some = slice_missing q r count rest (omega arith) some
 
 -- what is read inside bytes that are there, or up to their end where nothing stands behind them
-pub slice_there : (clear : List ℕ) (r count : ℕ) (rest : List (Option ℕ)) → r ≤ length clear → (r + count ≤ length clear) ⊎ (length rest ≡ 0)
-    → all_there (take count (drop r (map (λ b. Some b) clear ++ rest))) ≡ Some (take count (drop r clear))
-slice_there clear r count rest from inside =
-    let bytes : List (Option ℕ) = map (λ b. Some b) clear in
-    let size : length (map (λ (b : ℕ). Some b) clear) ≡ length clear = length-map clear (λ (b : ℕ). Some b) in
+pub slice_there : (plaintext : List ℕ) (r count : ℕ) (rest : List (Option ℕ)) → r ≤ length plaintext → (r + count ≤ length plaintext) ⊎ (length rest ≡ 0)
+    → all_there (take count (drop r (map (λ b. Some b) plaintext ++ rest))) ≡ Some (take count (drop r plaintext))
+slice_there plaintext r count rest from inside =
+    let bytes : List (Option ℕ) = map (λ b. Some b) plaintext in
+    let size : length (map (λ (b : ℕ). Some b) plaintext) ≡ length plaintext = length-map plaintext (λ (b : ℕ). Some b) in
     let cut : drop r (bytes ++ rest) ≡ drop r bytes ++ rest = drop-append-le r bytes rest (omega arith) in
-    let same : take count (drop r bytes) ≡ map (λ b. Some b) (take count (drop r clear)) =
-    ap (take count) (drop-map (λ (b : ℕ). Some b) r clear) ∙ take-map (λ (b : ℕ). Some b) count (drop r clear) in
+    let same : take count (drop r bytes) ≡ map (λ b. Some b) (take count (drop r plaintext)) =
+    ap (take count) (drop-map (λ (b : ℕ). Some b) r plaintext) ∙ take-map (λ (b : ℕ). Some b) count (drop r plaintext) in
     let front : take count (drop r bytes ++ rest) ≡ take count (drop r bytes) =
     (elim inside [
       | inl short ↦ take-append-le count (drop r bytes) rest (omega (arith, length-drop r bytes))
       | inr none ↦ ap (take count) (ap (λ (xs : List (Option ℕ)). drop r bytes ++ xs) (nil_from_length rest none) ∙ append-nil (drop r bytes))
     ]) in
-    ap all_there (ap (take count) cut ∙ front ∙ same) ∙ all_there-map (take count (drop r clear))
+    ap all_there (ap (take count) cut ∙ front ∙ same) ∙ all_there-map (take count (drop r plaintext))

@@ -1,9 +1,15 @@
--- What headers and chunks share: a nonce of 12 bytes, a ciphertext under GCM, and its tag of 16.
-use Rattle.std.specs.Prelude.{ℕ, ◌-◌, List, length, take, drop, Option}
+-- What headers and chunks share: a nonce, a ciphertext under GCM, and its tag.
+use Rattle.std.specs.Prelude.{ℕ, ◌-◌, List, ◌++◌, length, take, drop, Option, None, nat_lt, if◌then◌else◌}
 use Rattle.aes_block.specs.Aes.{aes}
-use Rattle.gcm_mode.specs.Gcm.{gcm_opened}
+use Rattle.gcm_mode.specs.Gcm.{gcm_opened, gcm_sealed}
+use Rattle.file_chunks.specs.declared.size.TheConstants.{NONCE_LENGTH, TAG_LENGTH, SEALING_LENGTH}
 
--- the text in a nonce, a ciphertext and a tag, and None where the tag isn't GCM's
+-- the plaintext in a nonce, a ciphertext and a tag, and None where they are too short to hold both, or the tag isn't GCM's
 abbrev pub envelope_opens : List ℕ → List ℕ → List ℕ → Option (List ℕ)
 envelope_opens key ad sealed =
-    gcm_opened (aes key) (take 12 sealed) ad (take (length sealed - 28) (drop 12 sealed)) (drop (length sealed - 16) sealed)
+    if nat_lt (length sealed) SEALING_LENGTH then None
+    else gcm_opened (aes key) (take NONCE_LENGTH sealed) ad (take (length sealed - SEALING_LENGTH) (drop NONCE_LENGTH sealed)) (drop (length sealed - TAG_LENGTH) sealed)
+
+-- a plaintext sealed under a nonce of its own
+abbrev pub sealed_envelope : List ℕ → List ℕ → List ℕ → List ℕ → List ℕ
+sealed_envelope key ad nonce plaintext = nonce ++ gcm_sealed (aes key) nonce ad plaintext

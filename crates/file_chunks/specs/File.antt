@@ -8,52 +8,42 @@ use Rattle.siv_mode.specs.Keys.{KeyPair}
 use Rattle.tree_model.specs.Rows.{Cell, good, damaged, Content, bad_size, chunks}
 use Rattle.file_chunks.specs.Header.{Head, header_opens}
 use Rattle.file_chunks.specs.Chunk.{chunk_opens}
-
--- the lengths in bytes of a header, of a chunk's clear bytes, of what sealing adds to a chunk, and of a full sealed chunk
-abbrev pub header_length : ℕ
-header_length = 68
-
-abbrev pub chunk_length : ℕ
-chunk_length = 32768
-
-abbrev pub sealing_length : ℕ
-sealing_length = 28
-
-abbrev pub sealed_length : ℕ
-sealed_length = 32796
+use Rattle.file_chunks.specs.declared.size.TheConstants.{HEADER_LENGTH, SEALING_LENGTH, SEALED_LENGTH}
+use Rattle.file_chunks.specs.declared.header.TheConstants.{KEY_LENGTH}
 
 -- no content has this size: it is shorter than a header, or its last chunk shorter than an empty one
 abbrev pub is_bad_size : ℕ → Bool
-is_bad_size size = nat_lt size header_length || (nat_lt 0 ((size - header_length) % sealed_length) && nat_lt ((size - header_length) % sealed_length) sealing_length)
+is_bad_size size = nat_lt size HEADER_LENGTH || (nat_lt 0 ((size - HEADER_LENGTH) % SEALED_LENGTH) && nat_lt ((size - HEADER_LENGTH) % SEALED_LENGTH) SEALING_LENGTH)
 
 -- how many sealed chunks stand in a file of this size
 abbrev pub chunk_count : ℕ → ℕ
-chunk_count size = (size - header_length + (sealed_length - 1)) / sealed_length
+chunk_count size = (size - HEADER_LENGTH + (SEALED_LENGTH - 1)) / SEALED_LENGTH
 
--- sealed chunk i, from 0
+-- the sealed chunk of an index
 abbrev pub sealed_at : List ℕ → ℕ → List ℕ
-sealed_at bytes i = take sealed_length (drop (header_length + sealed_length * i) bytes)
+sealed_at bytes index = take SEALED_LENGTH (drop (HEADER_LENGTH + SEALED_LENGTH * index) bytes)
 
--- a chunk's clear bytes, where header and chunk open; else how many there would be
+-- a chunk's plaintext, where header and chunk open; else how long it would be
 abbrev pub cell_of : Option Head → ℕ → List ℕ → Cell
-cell_of head i sealed = option_map_or good (option_and_then (λ h. chunk_opens h i sealed) head) (damaged (length sealed - sealing_length))
+cell_of head index sealed = option_map_or good (option_and_then (λ h. chunk_opens h index sealed) head) (damaged (length sealed - SEALING_LENGTH))
 
 -- the content of a host file's bytes
 unfoldable pub content_of : KeyPair → List ℕ → Content
 content_of keys bytes =
     if is_bad_size (length bytes) then bad_size
-    else chunks (is_some (header_opens keys (take header_length bytes)))
-    (map (λ i. cell_of (header_opens keys (take header_length bytes)) i (sealed_at bytes i)) (range_with_len 0 (chunk_count (length bytes))))
+    else chunks (is_some (header_opens keys (take HEADER_LENGTH bytes)))
+    (map (λ i. cell_of (header_opens keys (take HEADER_LENGTH bytes)) i (sealed_at bytes i)) (range_with_len 0 (chunk_count (length bytes))))
 
 -- the length of the content of a file of this size
 abbrev pub clear_length : ℕ → Option ℕ
-clear_length size = if is_bad_size size then None else Some (size - header_length - sealing_length * chunk_count size)
+clear_length size = if is_bad_size size then None else Some (size - HEADER_LENGTH - SEALING_LENGTH * chunk_count size)
 
 -- a key of AES-256
 abbrev pub IsKey : List ℕ → Type 0
-IsKey key = length key ≡ 32
+IsKey key = length key ≡ KEY_LENGTH
 
 -- what GCM opens is as long as its ciphertext
 abbrev pub KeepsLength : Type 0
 KeepsLength =
-    (key nonce ad text tag clear : List ℕ) → IsKey key → gcm_opened (aes key) nonce ad text tag ≡ Some clear → length clear ≡ length text
+    (key nonce ad ciphertext tag plaintext : List ℕ) → IsKey key → gcm_opened (aes key) nonce ad ciphertext tag ≡ Some plaintext
+    → length plaintext ≡ length ciphertext

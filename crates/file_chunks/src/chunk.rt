@@ -1,52 +1,65 @@
-ghost use Rattle.std.specs.Prelude.{◌≡◌, ◌≤◌, ◌+◌, ◌-◌, ◌++◌, ℕ, length, take, drop, replicate, Some, None, IfOk, OnOk, OnErr, IsErr};
+ghost use Rattle.std.specs.Prelude.{◌≡◌, ◌≤◌, ◌+◌, ◌-◌, ◌++◌, length, take, drop, replicate, Some, None, IfOk, OnOk, OnErr, IsErr};
 ghost use Rattle.outside.specs.Calls.{HasCause, Changes};
 ghost use Rattle.file_chunks.specs.Chunk.{chunk_opens, sealed_chunk};
 
-use crate::envelope::{Damaged, NONCE_LENGTH, open_into, seal_into};
+use crate::envelope::{Damaged, open_into, seal_into};
 use crate::header::Header;
-use crate::size::SEALING_LENGTH;
+use crate::size::{CHUNK_LENGTH, NONCE_LENGTH, SEALED_LENGTH, SEALING_LENGTH};
 use outside::{Entropy, Failed};
 
-/// Seals chunk `i`, at most 32,768 bytes, into the front of `out`: draws a nonce of 12 bytes. `out` keeps the rest. After
-/// `Failed`, `out` is as it was.
+/// Seals the chunk of an index, at most 32,768 bytes, into the front of `out`: draws a nonce of 12
+/// bytes. `out` keeps the rest. After `Failed`, which comes where the draw failed, nothing is drawn
+/// and `out` is as it was.
 pub fn seal_chunk<E: Entropy>(
     header: &Header,
-    i: u64,
-    clear: &[u8],
+    index: u64,
+    plaintext: &[u8],
     entropy: &mut E,
     out: &mut [u8],
 ) -> Result<(), Failed>
-    requires clear { length clear.now ≤ 32768 }
-    requires room { length clear.now + 28 ≤ length out.old }
-    ensures sealed { OnOk result (out.new ≡ sealed_chunk header.now i (take 12 out.new) clear.now ++ drop (length clear.now + 28) out.old) }
-    ensures opens { OnOk result (chunk_opens header.now i (take (length clear.now + 28) out.new) ≡ Some clear.now) }
-    ensures drawn { OnOk result (Changes (E.drawn entropy.old) (E.drawn entropy.new) (λ old new. new ≡ old ++ take 12 out.new)) }
+    requires plaintext { length plaintext.now ≤ CHUNK_LENGTH }
+    requires room { length plaintext.now + SEALING_LENGTH ≤ length out.old }
+    ensures sealed { OnOk result (out.new
+        ≡ sealed_chunk header.now index (take NONCE_LENGTH out.new) plaintext.now
+        ++ drop (length plaintext.now + SEALING_LENGTH) out.old) }
+    ensures opens { OnOk result (
+        chunk_opens header.now index (take (length plaintext.now + SEALING_LENGTH) out.new)
+        ≡ Some plaintext.now) }
+    ensures drawn { OnOk result (Changes (E.drawn entropy.old) (E.drawn entropy.new)
+        (λ old new. new ≡ old ++ take NONCE_LENGTH out.new)) }
     ensures refused { OnErr result (out.new ≡ out.old) }
+    ensures unspent { OnErr result (E.drawn entropy.new ≡ E.drawn entropy.old) }
     ensures cause { HasCause (E.faults entropy.old) (E.faults entropy.new) (IsErr result) }
 {
     let mut nonce = [0; NONCE_LENGTH];
     entropy.fill(&mut nonce)?;
-    seal_into(header.key(), &nonce, &header.place_data(i), clear, out);
+    let ad = header.associated_data(index);
+    seal_into(header.key(), &nonce, &ad, plaintext, out);
     Ok(())
 }
 
-/// Opens chunk `i`, of 28 to 32,796 sealed bytes, into the front of `out`, which keeps the rest, and gives the number of
-/// clear bytes. `Damaged` comes exactly where its tag isn't GCM's for this header and place; the front holds zeros then.
-pub fn open_chunk(header: &Header, i: u64, sealed: &[u8], out: &mut [u8]) -> Result<usize, Damaged>
-    requires sealed { (28 ≤ length sealed.now) × (length sealed.now ≤ 32796) }
-    requires room { length sealed.now ≤ length out.old + 28 }
-    ensures count { IfOk result (λ n. n + 28 ≡ length sealed.now) }
-    ensures opened { IfOk result (λ n. chunk_opens header.now i sealed.now ≡ Some (take n out.new)) }
-    ensures rest { drop (length sealed.now - 28) out.new ≡ drop (length sealed.now - 28) out.old }
-    ensures damaged { OnErr result (chunk_opens header.now i sealed.now ≡ None) }
-    ensures zeros { OnErr result (take (length sealed.now - 28) out.new ≡ replicate (length sealed.now - 28) 0) }
+/// Opens the chunk of an index, of 28 to 32,796 sealed bytes, into the front of `out`, which keeps
+/// the rest, and gives the plaintext's length in bytes. `Damaged` comes exactly where its tag isn't
+/// GCM's for this header and index; the front holds zeros then.
+pub fn open_chunk(
+    header: &Header,
+    index: u64,
+    sealed: &[u8],
+    out: &mut [u8],
+) -> Result<usize, Damaged>
+    requires sealed { (SEALING_LENGTH ≤ length sealed.now) × (length sealed.now ≤ SEALED_LENGTH) }
+    requires room { length sealed.now ≤ length out.old + SEALING_LENGTH }
+    ensures count { IfOk result (λ n. n + SEALING_LENGTH ≡ length sealed.now) }
+    ensures opened { IfOk result (λ n. chunk_opens header.now index sealed.now
+        ≡ Some (take n out.new)) }
+    ensures rest { drop (length sealed.now - SEALING_LENGTH) out.new
+        ≡ drop (length sealed.now - SEALING_LENGTH) out.old }
+    ensures damaged { OnErr result (chunk_opens header.now index sealed.now ≡ None) }
+    ensures zeros { OnErr result (take (length sealed.now - SEALING_LENGTH) out.new
+        ≡ replicate (length sealed.now - SEALING_LENGTH) 0) }
 {
     let count = sealed.len() - SEALING_LENGTH;
-    open_into(
-        header.key(),
-        &header.place_data(i),
-        sealed,
-        &mut out[..count],
-    )?;
+    let ad = header.associated_data(index);
+    open_into(header.key(), &ad, sealed, &mut out[..count])?;
     Ok(count)
 }

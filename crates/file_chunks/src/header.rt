@@ -1,11 +1,11 @@
-ghost use Rattle.std.specs.Prelude.{◌≡◌, ◌++◌, List, ℕ, length, replicate, Some, None, IfOk, OnErr, IsErr};
+ghost use Rattle.std.specs.Prelude.{◌≡◌, ◌⊎◌, ◌++◌, List, ℕ, length, replicate, Some, None, IfOk, OnErr, IsErr};
 ghost use Rattle.outside.specs.Calls.{HasCause, Changes};
 ghost use Rattle.file_chunks.specs.Header.{header_opens, sealed_header};
-ghost use Rattle.file_chunks.specs.Chunk.{place_data};
+ghost use Rattle.file_chunks.specs.Chunk.{associated_data};
 
-use crate::envelope::{Damaged, NONCE_LENGTH, array_at, open_into, seal_into};
-use crate::size::HEADER_LENGTH;
-use gcm_mode::GcmKey;
+use crate::envelope::{Damaged, array_at, open_into, seal_into};
+use crate::size::{HEADER_LENGTH, NONCE_LENGTH};
+use gcm_mode::{BulkGcmKey, GcmKey};
 use outside::{Entropy, Failed};
 use siv_mode::VaultKeys;
 use std::marker::Model;
@@ -17,16 +17,17 @@ const UNUSED_LENGTH: usize = 8;
 
 const PAYLOAD_LENGTH: usize = UNUSED_LENGTH + KEY_LENGTH;
 
-// The length of a chunk's place in bytes.
-const PLACE_LENGTH: usize = 8;
+// The length of a chunk's index in bytes.
+const INDEX_LENGTH: usize = 8;
 
-const PLACE_DATA_LENGTH: usize = PLACE_LENGTH + NONCE_LENGTH;
+const ASSOCIATED_LENGTH: usize = INDEX_LENGTH + NONCE_LENGTH;
 
-/// A file's header: its nonce and content key, ready for use. Clauses see a `Head`.
+/// A file's header: its nonce, and its content key ready for chunks, some 9 KiB in all. Clauses see
+/// a `Head`.
 #[derive(Drop)]
 pub struct Header {
     nonce: [u8; NONCE_LENGTH],
-    key: GcmKey,
+    key: BulkGcmKey,
 }
 
 impl Model for Header {
@@ -39,49 +40,54 @@ impl Model for Header {
 
 impl Header {
     // The content key.
-    pub(crate) fn key(&self) -> &GcmKey
+    pub(crate) fn key(&self) -> &BulkGcmKey
         ensures { result.now ≡ self.now.key }
     {
         &self.key
     }
 
-    // The associated data of the chunk at this place.
-    pub(crate) fn place_data(&self, i: u64) -> [u8; PLACE_DATA_LENGTH]
-        ensures { result ≡ place_data self.now i }
+    // The associated data of the chunk of this index.
+    pub(crate) fn associated_data(&self, index: u64) -> [u8; ASSOCIATED_LENGTH]
+        ensures { result ≡ associated_data self.now index }
     {
-        let mut data = [0; PLACE_DATA_LENGTH];
-        data[..PLACE_LENGTH].copy_from_slice(&i.to_be_bytes());
-        data[PLACE_LENGTH..].copy_from_slice(&self.nonce);
+        let mut data = [0; ASSOCIATED_LENGTH];
+        data[..INDEX_LENGTH].copy_from_slice(&index.to_be_bytes());
+        data[INDEX_LENGTH..].copy_from_slice(&self.nonce);
         data
     }
 }
 
 // What is sealed into a header with this content key.
 fn payload(key: &[u8; KEY_LENGTH]) -> [u8; PAYLOAD_LENGTH]
-    ensures { result ≡ replicate 8 255 ++ key.now }
+    ensures { result ≡ replicate UNUSED_LENGTH 255 ++ key.now }
 {
     let mut payload = [0xFF; PAYLOAD_LENGTH];
     payload[UNUSED_LENGTH..].copy_from_slice(key);
     payload
 }
 
-// The key that headers are sealed with.
+// The key that headers are sealed with, for one of them. The vault's key is expanded already.
 fn sealing_key(keys: &VaultKeys) -> GcmKey
     ensures { result ≡ keys.now.enc }
 {
-    GcmKey::new(&keys.encryption_key().bytes())
+    GcmKey::from(keys.encryption_key().copied())
 }
 
-/// A new header: draws a nonce of 12 bytes, then a content key of 32, and gives the header and its 68 bytes. `Failed` comes
-/// where a draw failed.
+/// A new header: draws a nonce of 12 bytes, then a content key of 32, and gives the header and its
+/// 68 bytes. `Failed` comes where a draw failed; nothing is drawn then, or the nonce alone.
 pub fn new_header<E: Entropy>(
     keys: &VaultKeys,
     entropy: &mut E,
 ) -> Result<(Header, [u8; HEADER_LENGTH]), Failed>
     ensures bytes { IfOk result (λ h. h.1 ≡ sealed_header keys.now h.0) }
     ensures opens { IfOk result (λ h. header_opens keys.now h.1 ≡ Some h.0) }
-    ensures drawn { IfOk result (λ h. Changes (E.drawn entropy.old) (E.drawn entropy.new) (λ old new. new ≡ old ++ h.0.nonce ++ h.0.key)) }
-    ensures lengths { IfOk result (λ h. (length h.0.nonce ≡ 12) × (length h.0.key ≡ 32)) }
+    ensures drawn { IfOk result (λ h. Changes (E.drawn entropy.old) (E.drawn entropy.new)
+        (λ old new. new ≡ old ++ h.0.nonce ++ h.0.key)) }
+    ensures lengths { IfOk result (λ h.
+        (length h.0.nonce ≡ NONCE_LENGTH) × (length h.0.key ≡ KEY_LENGTH)) }
+    ensures partly { OnErr result ((E.drawn entropy.new ≡ E.drawn entropy.old)
+        ⊎ Changes (E.drawn entropy.old) (E.drawn entropy.new)
+        (λ old new. (nonce : List ℕ) × (length nonce ≡ NONCE_LENGTH) × (new ≡ old ++ nonce))) }
     ensures cause { HasCause (E.faults entropy.old) (E.faults entropy.new) (IsErr result) }
 {
     let mut nonce = [0; NONCE_LENGTH];
@@ -92,21 +98,23 @@ pub fn new_header<E: Entropy>(
     seal_into(&sealing_key(keys), &nonce, &[], &payload(&key), &mut bytes);
     let header = Header {
         nonce,
-        key: GcmKey::new(&key),
+        key: BulkGcmKey::new(&key),
     };
     Ok((header, bytes))
 }
 
-/// Opens the header that these 68 bytes are. `Damaged` comes exactly where its tag isn't GCM's under the encryption key.
+/// Opens the header that these 68 bytes are. `Damaged` comes exactly where its tag isn't GCM's
+/// under the encryption key.
 pub fn open_header(keys: &VaultKeys, bytes: &[u8; HEADER_LENGTH]) -> Result<Header, Damaged>
     ensures opened { IfOk result (λ h. header_opens keys.now bytes.now ≡ Some h) }
-    ensures lengths { IfOk result (λ h. (length h.nonce ≡ 12) × (length h.key ≡ 32)) }
+    ensures lengths { IfOk result (λ h.
+        (length h.nonce ≡ NONCE_LENGTH) × (length h.key ≡ KEY_LENGTH)) }
     ensures damaged { OnErr result (header_opens keys.now bytes.now ≡ None) }
 {
     let mut payload = [0; PAYLOAD_LENGTH];
     open_into(&sealing_key(keys), &[], bytes, &mut payload)?;
     Ok(Header {
         nonce: array_at(bytes, 0),
-        key: GcmKey::new(&array_at(&payload, UNUSED_LENGTH)),
+        key: BulkGcmKey::new(&array_at(&payload, UNUSED_LENGTH)),
     })
 }

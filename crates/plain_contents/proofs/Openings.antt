@@ -20,8 +20,8 @@ pub header_read : (keys : KeyPair) (bytes key nonce tag : List ℕ) (opened : Op
 unfolding header_opens
 header_read keys bytes key nonce tag opened long key_is nonce_is tag_is is =
     let last : tag ≡ drop 52 bytes = tag_behind bytes tag 52 (omega arith) tag_is in
-    rw (is, key_is, nonce_is, last) refl
+    rw (is, key_is, nonce_is, last, long) refl
 
 -- what opens is as long as its ciphertext
-pub length-opened : (key nonce text tag clear : List ℕ) → length key ≡ 32 → Some clear ≡ gcm_opened (aes key) nonce [] text tag → length clear ≡ length text
-length-opened key nonce text tag clear long is = keeps_length key nonce [] text tag clear long (sym is)
+pub length-opened : (key nonce text tag plaintext : List ℕ) → length key ≡ 32 → Some plaintext ≡ gcm_opened (aes key) nonce [] text tag → length plaintext ≡ length text
+length-opened key nonce text tag plaintext long is = keeps_length key nonce [] text tag plaintext long (sym is)

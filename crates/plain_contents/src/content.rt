@@ -1,25 +1,20 @@
 ghost use Rattle.std.specs.Prelude.{◌≡◌, ◌≤◌, ◌+◌, ◌-◌, ◌*◌, IfOk, length, min, option_map};
-ghost use Rattle.file_chunks.specs.Chunk.{chunk_opens, place_data};
+ghost use Rattle.file_chunks.specs.Chunk.{associated_data, chunk_opens};
 ghost use Rattle.file_chunks.specs.File.{cell_of, chunk_count, content_of, is_bad_size, sealed_at};
 ghost use Rattle.plain_contents.specs.Seen.{cell_seen, content_seen, head_seen};
 
 use crate::header::{Head, array_at, header_opens};
+use file_chunks::{HEADER_LENGTH, NONCE_LENGTH, SEALED_LENGTH, SEALING_LENGTH, TAG_LENGTH};
 use plain_ciphers::gcm_opened;
 use siv_mode::VaultKeys;
 use std::alloc::{AllocError, Global};
 
-// The lengths in bytes of a header, of a nonce and a tag, of what both add to a chunk, and of a full sealed chunk.
-const HEADER_LENGTH: usize = 68;
+// The length of a chunk's index in bytes.
+const INDEX_LENGTH: usize = 8;
 
-const NONCE_LENGTH: usize = 12;
+const ASSOCIATED_LENGTH: usize = INDEX_LENGTH + NONCE_LENGTH;
 
-const TAG_LENGTH: usize = 16;
-
-const SEALING_LENGTH: usize = NONCE_LENGTH + TAG_LENGTH;
-
-const SEALED_LENGTH: usize = 32768 + SEALING_LENGTH;
-
-/// A chunk of a file: its clear bytes, or, where it doesn't open, how many there would be.
+/// A chunk of a file: its plaintext, or, where it doesn't open, how long that would be.
 #[derive(Debug, Drop, PartialEq, Eq)]
 pub enum Cell {
     Good(Vec<u8>),
@@ -35,33 +30,37 @@ pub enum Content {
     Chunks(bool, Vec<Cell>),
 }
 
-// The associated data of the chunk at this place.
-fn place_data(head: &Head, i: u64) -> [u8; 20]
-    ensures { result ≡ place_data (head_seen head.now) i }
+// The associated data of the chunk of this index.
+fn associated_data(head: &Head, index: u64) -> [u8; ASSOCIATED_LENGTH]
+    ensures { result ≡ associated_data (head_seen head.now) index }
 {
-    let mut data = [0; 20];
-    data[..8].copy_from_slice(&i.to_be_bytes());
-    data[8..].copy_from_slice(&head.nonce);
+    let mut data = [0; ASSOCIATED_LENGTH];
+    data[..INDEX_LENGTH].copy_from_slice(&index.to_be_bytes());
+    data[INDEX_LENGTH..].copy_from_slice(&head.nonce);
     data
 }
 
-/// The clear bytes of a sealed chunk of at least 28 bytes at place `i`, and None exactly where it doesn't open under this header and at this
-/// place (vault format 8, file content).
+/// The plaintext of the sealed chunk of an index, and None exactly where it is below 28 bytes or
+/// doesn't open under this header and at this index (vault format 8, file content).
+#[tactic(auto, unfolding(file_chunks::specs::Chunk::chunk_opens))]
 pub fn chunk_opens(
     alloc: Global,
     head: &Head,
-    i: u64,
+    index: u64,
     sealed: &[u8],
 ) -> Result<Option<Vec<u8>>, AllocError>
-    requires { 28 ≤ length sealed.now }
-    ensures { IfOk result (λ clear. option_map (λ text. text.items) clear ≡ chunk_opens (head_seen head.now) i sealed.now) }
+    ensures { IfOk result (λ plaintext. option_map (λ text. text.items) plaintext
+        ≡ chunk_opens (head_seen head.now) index sealed.now) }
 {
+    if sealed.len() < SEALING_LENGTH {
+        return Ok(None);
+    }
     let end = sealed.len() - TAG_LENGTH;
     gcm_opened(
         alloc,
         &head.key,
         array_at(sealed, 0),
-        &place_data(head, i),
+        &associated_data(head, index),
         &sealed[NONCE_LENGTH..end],
         array_at(sealed, end),
     )
@@ -80,31 +79,32 @@ fn is_bad_size(size: usize) -> bool
 
 // How many sealed chunks stand in a file of this size.
 fn chunk_count(size: usize) -> usize
-    requires { 68 ≤ size }
+    requires { HEADER_LENGTH ≤ size }
     ensures { result ≡ chunk_count size }
 {
     (size - HEADER_LENGTH).div_ceil(SEALED_LENGTH)
 }
 
-// Sealed chunk `i`, from 0.
-fn sealed_at(bytes: &[u8], i: usize) -> &[u8]
-    requires { 68 + 32796 * i ≤ length bytes.now }
-    ensures chunk { result.now ≡ sealed_at bytes.now i }
-    ensures len { length result.now ≡ min 32796 (length bytes.now - (68 + 32796 * i)) }
+// The sealed chunk of an index.
+fn sealed_at(bytes: &[u8], index: usize) -> &[u8]
+    requires { HEADER_LENGTH + SEALED_LENGTH * index ≤ length bytes.now }
+    ensures chunk { result.now ≡ sealed_at bytes.now index }
+    ensures len { length result.now ≡ min SEALED_LENGTH (length bytes.now - (HEADER_LENGTH + SEALED_LENGTH * index)) }
 {
-    let start = HEADER_LENGTH + SEALED_LENGTH * i;
+    let start = HEADER_LENGTH + SEALED_LENGTH * index;
     let end = bytes.len().min(start + SEALED_LENGTH);
     &bytes[start..end]
 }
 
-// A sealed chunk as a cell: what it opens to, or, where it or the header doesn't open, the length of its clear bytes.
-fn cell_of(alloc: Global, head: Option<Head>, i: u64, sealed: &[u8]) -> Result<Cell, AllocError>
-    requires { 28 ≤ length sealed.now }
-    ensures { IfOk result (λ cell. cell_seen cell ≡ cell_of (option_map head_seen head) i sealed.now) }
+// A sealed chunk as a cell: what it opens to, or, where it or the header doesn't open, the length of
+// its plaintext.
+fn cell_of(alloc: Global, head: Option<Head>, index: u64, sealed: &[u8]) -> Result<Cell, AllocError>
+    requires { SEALING_LENGTH ≤ length sealed.now }
+    ensures { IfOk result (λ cell. cell_seen cell ≡ cell_of (option_map head_seen head) index sealed.now) }
 {
     if let Some(head) = head {
-        if let Some(clear) = chunk_opens(alloc, &head, i, sealed)? {
-            return Ok(Cell::Good(clear));
+        if let Some(plaintext) = chunk_opens(alloc, &head, index, sealed)? {
+            return Ok(Cell::Good(plaintext));
         }
     }
     Ok(Cell::Damaged(sealed.len() - SEALING_LENGTH))

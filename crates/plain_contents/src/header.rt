@@ -2,15 +2,21 @@ ghost use Rattle.std.specs.Prelude.{◌≡◌, ◌≤◌, ◌+◌, IfOk, drop, l
 ghost use Rattle.file_chunks.specs.Header.{header_opens};
 ghost use Rattle.plain_contents.specs.Seen.{head_seen};
 
+use file_chunks::{HEADER_LENGTH, NONCE_LENGTH, TAG_LENGTH};
 use plain_ciphers::gcm_opened;
 use siv_mode::VaultKeys;
 use std::alloc::{AllocError, Global};
 
+const KEY_LENGTH: usize = 32;
+
+// How many bytes stand before the content key. They aren't looked at.
+const UNUSED_LENGTH: usize = 8;
+
 /// What a header tells of its file: its nonce, and the content key.
 #[derive(Clone, Copy, Debug, PartialEq, Eq)]
 pub struct Head {
-    pub nonce: [u8; 12],
-    pub key: [u8; 32],
+    pub nonce: [u8; NONCE_LENGTH],
+    pub key: [u8; KEY_LENGTH],
 }
 
 // The N bytes from `at` on.
@@ -23,23 +29,25 @@ pub(crate) fn array_at<const N: usize>(bytes: &[u8], at: usize) -> [u8; N]
     part
 }
 
-/// The header that 68 bytes are, and None exactly where they don't open under the encryption key (vault format 8, file header).
+/// The header that 68 bytes are, and None exactly where they don't open under the encryption key
+/// (vault format 8, file header).
 pub fn header_opens(
     alloc: Global,
     keys: &VaultKeys,
-    bytes: &[u8; 68],
+    bytes: &[u8; HEADER_LENGTH],
 ) -> Result<Option<Head>, AllocError>
     ensures { IfOk result (λ head. option_map head_seen head ≡ header_opens keys.now bytes.now) }
 {
     let key = keys.encryption_key().bytes();
+    let end = HEADER_LENGTH - TAG_LENGTH;
     let nonce = array_at(bytes, 0);
-    let opened = gcm_opened(alloc, &key, nonce, &[], &bytes[12..52], array_at(bytes, 52))?;
-    let Some(clear) = opened else {
+    let ciphertext = &bytes[NONCE_LENGTH..end];
+    let opened = gcm_opened(alloc, &key, nonce, &[], ciphertext, array_at(bytes, end))?;
+    let Some(payload) = opened else {
         return Ok(None);
     };
-    // The 8 bytes before the content key aren't looked at.
     Ok(Some(Head {
         nonce,
-        key: array_at(&clear, 8),
+        key: array_at(&payload, UNUSED_LENGTH),
     }))
 }

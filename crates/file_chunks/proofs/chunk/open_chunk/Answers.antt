@@ -7,11 +7,11 @@ use Rattle.file_chunks.proofs.chunk.open_chunk.Goals as goal
 pub returns-in_err-open_into-clause-damaged : goal.returns-in_err-open_into-clause-damaged
 returns-in_err-open_into-clause-damaged c =
     let p = err_from_is_err_and c.from_residual.result c.from_residual.ensures.1 in
-    rw p.1 (chunk_opens_is c.args.header.now c.args.i _ _ c.args.sealed.now None c.key.ensures c.place_data.ensures c.in_err-open_into.ensures.damaged)
+    rw p.1 (chunk_opens_is c.args.header.now c.args.index _ _ c.args.sealed.now None c.key.ensures c.associated_data-ad.ensures c.in_err-open_into.ensures.damaged)
 
 pub returns-clause-opened : goal.returns-clause-opened
 returns-clause-opened c =
     let opened = c.open_into.new.out in
     let n : length opened ≡ length c.args.sealed.now - 28 = omega (arith, length-take (length c.args.sealed.now - 28) c.args.out.now) in
-    chunk_opens_is c.args.header.now c.args.i _ _ c.args.sealed.now (Some opened) c.key.ensures c.place_data.ensures c.in_ok-open_into.ensures.opened
+    chunk_opens_is c.args.header.now c.args.index _ _ c.args.sealed.now (Some opened) c.key.ensures c.associated_data-ad.ensures c.in_ok-open_into.ensures.opened
     ∙ ap Some (sym (take_at opened (drop (length c.args.sealed.now - 28) c.args.out.now) _ n))

@@ -4,10 +4,10 @@ use Rattle.file_chunks.proofs.chunk.seal_chunk.Goals as goal
 
 pub returns-clause-sealed : goal.returns-clause-sealed
 returns-clause-sealed g c =
-    sealed_chunk_is c.args.header.now c.args.i _ _ _ c.args.clear.now c.seal_into.new.out _ c.key.ensures c.place_data.ensures
+    sealed_chunk_is c.args.header.now c.args.index _ _ _ c.args.plaintext.now c.seal_into.new.out _ c.key.ensures c.associated_data-ad.ensures
     c.seal_into.ensures.nonce c.seal_into.ensures.sealed
 
 pub returns-clause-opens : goal.returns-clause-opens
 returns-clause-opens g c =
-    chunk_opens_is c.args.header.now c.args.i _ _ (take (length c.args.clear.now + 28) c.seal_into.new.out) (Some c.args.clear.now)
-    c.key.ensures c.place_data.ensures c.seal_into.ensures.opens
+    chunk_opens_is c.args.header.now c.args.index _ _ (take (length c.args.plaintext.now + 28) c.seal_into.new.out) (Some c.args.plaintext.now)
+    c.key.ensures c.associated_data-ad.ensures c.seal_into.ensures.opens

@@ -12,15 +12,15 @@ returns-in_default c =
 pub array_at-requires-2 : goal.array_at-requires-2
 array_at-requires-2 c =
     let some = rw c.in-Some.is at c.in_ok-opened.ensures in
-    let long : length c.in-Some.clear.items ≡ 40 = length-opened c.bytes-key.result _ _ _ c.in-Some.clear.items (omega arith) some ∙ omega arith in
+    let long : length c.in-Some.payload.items ≡ 40 = length-opened c.bytes-key.result _ _ _ c.in-Some.payload.items (omega arith) some ∙ omega arith in
     (omega arith, omega (arith, ap length c.deref.ensures.value))
 
 pub returns : goal.returns
 returns c =
     let some = rw c.in-Some.is at c.in_ok-opened.ensures in
-    let long : length c.in-Some.clear.items ≡ 40 = length-opened c.bytes-key.result _ _ _ c.in-Some.clear.items (omega arith) some ∙ omega arith in
-    let key : c.array_at-2.result ≡ drop 8 c.in-Some.clear.items =
-    c.array_at-2.ensures ∙ rw c.deref.ensures.value (take_all 32 (drop 8 c.in-Some.clear.items) (omega (arith, length-drop 8 c.in-Some.clear.items))) in
+    let long : length c.in-Some.payload.items ≡ 40 = length-opened c.bytes-key.result _ _ _ c.in-Some.payload.items (omega arith) some ∙ omega arith in
+    let key : c.array_at-2.result ≡ drop 8 c.in-Some.payload.items =
+    c.array_at-2.ensures ∙ rw c.deref.ensures.value (take_all 32 (drop 8 c.in-Some.payload.items) (omega (arith, length-drop 8 c.in-Some.payload.items))) in
     rw (key, c.array_at-nonce.ensures)
     (header_read c.args.keys.now c.args.bytes.now c.bytes-key.result c.array_at-nonce.result c.array_at.result _
     c.told-bytes (c.bytes-key.ensures ∙ c.encryption_key.ensures) c.array_at-nonce.ensures c.array_at.ensures some)
