@@ -1,20 +1,25 @@
-ghost use Rattle.std.specs.Prelude.{◌≡◌, ◌==◌, ◌||◌, Ok, IfOk, IfErr, MatchResult};
+ghost use Rattle.std.specs.Prelude.{None, Err, IsSomeAnd, refl, ◌≡◌, ◌==◌, ◌||◌, Ok, IfOk, IfErr, MatchResult};
+ghost use Rattle.std.specs.Cmp.{partial_equiv_from_equiv};
+ghost use Rattle.std.specs.Cmp.Lexicographic.{slice_cmp, texts_ties, texts_po, nat_list_eq_equiv, nat_list_cmp_total};
 ghost use Rattle.std.specs.List.{list_any};
-ghost use Rattle.tree_model.specs.Names.{IsClearName, checked_name, clear_name as clear_name_of};
+ghost use Rattle.std.specs.Ordering.{nat_cmp, as_partial_cmp};
+ghost use Rattle.std.specs.Str.{bytes_eq};
+ghost use Rattle.tree_model.specs.Names.{IsClearName, form_fault, checked_name, clear_name as clear_name_of};
 ghost use Rattle.name_cipher.specs.Faults.{IsFault};
 
+use nfc_text::nfc;
 use std::alloc::{AllocError, Global};
+use std::cmp::Ordering;
 use std::marker::Model;
 use std::str;
 use thiserror::Error;
-use unicode_normalization::to_nfc;
 use vault_path::Text;
 
 // The longest clear name, in bytes of its form NFC.
 const NAME_LIMIT: usize = 1024;
 
 /// A valid clear name: UTF-8 in the form NFC (UAX 15), 1 to 1,024 bytes, without `/` and NUL, and neither `.` nor `..`.
-/// Clauses see its bytes.
+/// Names are ordered by their bytes, which clauses see.
 #[derive(Debug, Drop)]
 pub struct Name {
     text: String,
@@ -57,7 +62,46 @@ impl Name {
     }
 }
 
-/// Why bytes are no clear name. The tests are made in this order, those after `NotUtf8` on the form NFC of the text.
+impl PartialEq for Name {
+    ghost eq = { bytes_eq };
+
+    ghost laws = { partial_equiv_from_equiv nat_list_eq_equiv };
+
+    fn eq(&self, other: &Name) -> bool {
+        self.as_bytes() == other.as_bytes()
+    }
+}
+
+impl Eq for Name {
+    ghost laws = { nat_list_eq_equiv };
+}
+
+impl Ord for Name {
+    ghost cmp = { slice_cmp nat_cmp };
+
+    ghost total = { nat_list_cmp_total };
+
+    ghost matches_partial_cmp = { λ _ _. refl };
+
+    ghost matches_eq = { texts_ties };
+
+    fn cmp(&self, other: &Name) -> Ordering {
+        self.as_bytes().cmp(&other.as_bytes())
+    }
+}
+
+impl PartialOrd for Name {
+    ghost partial_cmp = { as_partial_cmp (slice_cmp nat_cmp) };
+
+    ghost laws = { texts_po };
+
+    fn partial_cmp(&self, other: &Name) -> Option<Ordering> {
+        Some(self.cmp(other))
+    }
+}
+
+/// Why bytes are no clear name. The tests are made in this order: those for `Empty`, `Dots` and `Forbidden` on the text and again
+/// on its form NFC, that for `TooLong` on the form NFC.
 #[derive(Clone, Copy, Debug, PartialEq, Eq, Error)]
 pub enum BadName {
     /// The bytes aren't UTF-8.
@@ -99,7 +143,9 @@ pub fn clear_name(alloc: Global, bytes: &[u8]) -> Result<Name, BadName>
     let Ok(text) = str::from_utf8(bytes) else {
         return Err(BadName::NotUtf8);
     };
-    let text = to_nfc(alloc, text)?;
+    // What the bytes alone refuse needs no memory for their form NFC.
+    check_form(text)?;
+    let text = nfc(alloc, text)?;
     check(text.as_str())?;
     Ok(Name { text })
 }
@@ -108,14 +154,25 @@ pub fn clear_name(alloc: Global, bytes: &[u8]) -> Result<Name, BadName>
 fn check(name: &str) -> Result<(), BadName>
     ensures { MatchResult result (λ _. checked_name name.now ≡ Ok name.now) (λ e. IsFault e (checked_name name.now)) }
 {
+    check_form(name)?;
+    if name.len() > NAME_LIMIT {
+        Err(BadName::TooLong(name.len()))
+    } else {
+        Ok(())
+    }
+}
+
+// Whether a text may be a name, whatever its length is.
+fn check_form(name: &str) -> Result<(), BadName>
+    ensures { MatchResult result (λ _. form_fault name.now ≡ None)
+        (λ e. IsSomeAnd (form_fault name.now) (λ fault. IsFault e (Err fault))) }
+{
     if name.is_empty() {
         Err(BadName::Empty)
     } else if name == "." || name == ".." {
         Err(BadName::Dots)
     } else if holds_forbidden(name) {
         Err(BadName::Forbidden)
-    } else if name.len() > NAME_LIMIT {
-        Err(BadName::TooLong(name.len()))
     } else {
         Ok(())
     }

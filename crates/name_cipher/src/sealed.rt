@@ -39,8 +39,8 @@ pub fn seal_name(
 }
 
 /// The clear name of a sealed name in the directory whose identifier is `parent` (RFC 5297, section 2.7, under the same
-/// encoding). `None` comes exactly where the text isn't
-/// what `seal_name` gives of any valid name: its suffix, its base64, its tag or its clear name is another.
+/// encoding). `None` is returned exactly if the text isn't what `seal_name` gives of any valid name: its suffix, its
+/// base64, its tag or its clear name is another.
 pub fn open_name(
     alloc: Global,
     keys: &VaultKeys,
@@ -71,7 +71,7 @@ fn opened_name(
     let Some(sealed) = decode(alloc, encoded)? else {
         return Ok(None);
     };
-    let Some(name) = open(alloc, keys, parent, &sealed)? else {
+    let Some(name) = unsealed(alloc, keys, parent, &sealed)? else {
         return Ok(None);
     };
     valid_name(alloc, &name)
@@ -104,7 +104,7 @@ fn decode(alloc: Global, text: &[u8]) -> Result<Option<Vec<u8>>, AllocError>
 }
 
 // The text that bytes are the sealed form of.
-fn open(
+fn unsealed(
     alloc: Global,
     keys: &VaultKeys,
     parent: &[u8],

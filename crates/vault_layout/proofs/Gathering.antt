@@ -1,5 +1,5 @@
 -- What one more entry adds to the files and the mark of those before it.
-use Rattle.std.proofs.Common.{◌≡◌, ◌↔◌, ℕ, Bool, true, false, cond, ◌+◌, ◌<◌, List, [], ◌∷◌, ◌++◌, length, take, get_or, Option, Some, IsSome, IsTrue, Contains, inl, inr, refl, sym, ap, subst, ◌∙◌}
+use Rattle.std.proofs.Common.{◌≡◌, ◌↔◌, ℕ, Bool, true, false, cond, List, [], ◌∷◌, ◌++◌, length, Option, Some, IsSome, IsTrue, Contains, inl, inr, refl, sym, ap, subst, ◌∙◌, append_assoc}
 use Rattle.std.specs.Ordering.{nat_cmp}
 use Rattle.std.specs.Cmp.{eq_by_cmp_equiv}
 use Rattle.std.specs.Cmp.Lexicographic.{slice_cmp, nat_list_cmp_total}
@@ -8,17 +8,17 @@ use Rattle.std.proofs.lemmas.Bool.{cases_Bool}
 use Rattle.std.proofs.lemmas.Option.{same_Some}
 use Rattle.std.proofs.lemmas.Map.Lookups.{exact_bytes}
 use Rattle.std.proofs.lemmas.Map.Views.{tells_apart}
-use Rattle.std.proofs.lemmas.List.Elements.{Contains-push, Contains-push_cases, Contains-append_left, Contains-get_or}
-use Rattle.std.proofs.lemmas.List.{take_more}
+use Rattle.std.proofs.lemmas.List.Elements.{Contains-push, Contains-push_cases, Contains-append_left}
 use Rattle.siv_mode.specs.Keys.{KeyPair}
 use Rattle.outside.specs.Disk.{Disk, file, node_at}
 use Rattle.name_cipher.specs.Sealed.{sealed_name}
 use Rattle.vault_layout.specs.Clear.{IsRootFile, IsForeign, place_of, root_folder}
 use Rattle.outside.specs.Calls.{Told}
+use Rattle.outside.specs.Images.{Log, disk_in}
 use Rattle.vault_layout.specs.declared.entry.Entry.{Entry}
 use Rattle.vault_layout.specs.declared.entry.Entry.TheVariants.{File, Foreign, Ignored}
 use Rattle.vault_layout.specs.Entries.{AreThere, IsNoFile, IsFileOf, IsEntry, host_at, IsGathered}
-use Rattle.vault_layout.proofs.Telling.{told_both}
+use Rattle.outside.proofs.Told.{told_both}
 
 abbrev Hosts : Type 0
 Hosts = List (List ℕ × (List ℕ × ℕ))
@@ -116,36 +116,41 @@ module _ (keys : KeyPair) (disk : Disk) (names : List (List ℕ)) (entry : List 
       marked = marked_more b (λ foreign. foreign.no_file name bytes sealed file_is.file) so_far.marked;
     }
 
-module _ (contents : Option Disk) (keys : KeyPair) (names : List (List ℕ)) (i : ℕ) (item entry : List ℕ) (files : Hosts) (b : Bool) (e : Entry)
-    (within : i < length names) (at : item ≡ get_or names i item) (same : entry ≡ item)
-    (so_far : Told contents (λ d. AreThere keys d names → IsGathered keys d (take i names) files b))
-    (told : Told contents (λ d. IsSome (node_at d (root_folder keys ++ entry ∷ [])) → IsEntry keys d entry e)) where
+-- the list of what was taken so far, with one more
+pub one_more : {X : Type 0} (before : List X) (x : X) (old rest all : List X) → old ≡ x ∷ rest → before ++ old ≡ all → before ++ x ∷ [] ++ rest ≡ all
+one_more before x old rest all first split = append_assoc before (x ∷ []) rest ∙ ap (λ xs. before ++ xs) (sym first) ∙ split
+
+module _ (begun now : Option Log) (stayed : now ≡ begun) (keys : KeyPair) (names before old after : List (List ℕ)) (entry : List ℕ) (files : Hosts) (b : Bool) (e : Entry)
+    (first : old ≡ entry ∷ after) (split : before ++ old ≡ names)
+    (so_far : Told (disk_in begun) (λ d. AreThere keys d names → IsGathered keys d before files b))
+    (told : Told (disk_in now) (λ d. IsSome (node_at d (root_folder keys ++ entry ∷ [])) → IsEntry keys d entry e)) where
   -- one name more, where what is told of it carries on what was gathered
-  told_more : (more : Hosts) (now : Bool)
-      → ((d : Disk) → IsEntry keys d entry e → IsGathered keys d (take i names) files b → IsGathered keys d (take i names ++ entry ∷ []) more now)
-      → Told contents (λ d. AreThere keys d names → IsGathered keys d (take (i + 1) names) more now)
-  told_more more now step =
-      told_both contents (λ d. AreThere keys d names → IsGathered keys d (take i names) files b)
+  told_more : (more : Hosts) (mark : Bool)
+      → ((d : Disk) → IsEntry keys d entry e → IsGathered keys d before files b → IsGathered keys d (before ++ entry ∷ []) more mark)
+      → Told (disk_in begun) (λ d. AreThere keys d names → IsGathered keys d (before ++ entry ∷ []) more mark)
+  told_more more mark step =
+      told_both (disk_in begun) (λ d. AreThere keys d names → IsGathered keys d before files b)
       (λ d. IsSome (node_at d (root_folder keys ++ entry ∷ [])) → IsEntry keys d entry e)
-      (λ d. AreThere keys d names → IsGathered keys d (take (i + 1) names) more now) so_far told
+      (λ d. AreThere keys d names → IsGathered keys d (before ++ entry ∷ []) more mark) so_far
+      (subst (λ (l : Option Log). Told (disk_in l) (λ d. IsSome (node_at d (root_folder keys ++ entry ∷ [])) → IsEntry keys d entry e)) stayed told)
       (λ d gathered is there.
-      let here : entry ≡ get_or names i item = same ∙ at in
-      let some : IsSome (node_at d (root_folder keys ++ entry ∷ [])) = subst (λ (n : List ℕ). IsSome (node_at d (root_folder keys ++ n ∷ []))) (sym here) (there (get_or names i item) (Contains-get_or names i item within)) in
-      let grown : take i names ++ entry ∷ [] ≡ take (i + 1) names = ap (λ (n : List ℕ). take i names ++ n ∷ []) here ∙ sym (take_more names i item within) in
-      subst (λ (ns : List (List ℕ)). IsGathered keys d ns more now) grown (step d (is some) (gathered there)))
+      let among : Contains names entry =
+      subst (λ (ns : List (List ℕ)). Contains ns entry) (one_more before entry old after names first split)
+      (Contains-append_left (before ++ entry ∷ []) after entry (Contains-push before entry)) in
+      step d (is (there entry among)) (gathered there))
 
   pub told_file : (more : Hosts) (name : List ℕ) (host : List ℕ × ℕ) → e ≡ File name host
       → ((q : List ℕ) → host_at more q ≡ cond (is_at (slice_cmp nat_cmp name) q) (Some host) (host_at files q))
-      → Told contents (λ d. AreThere keys d names → IsGathered keys d (take (i + 1) names) more b)
+      → Told (disk_in begun) (λ d. AreThere keys d names → IsGathered keys d (before ++ entry ∷ []) more b)
   told_file more name host is adds = told_more more b (λ d entry_is gathered.
       let found = subst (λ (x : Entry). IsEntry keys d entry x) is entry_is in
-      gathered_file keys d (take i names) entry files more b name found.0 host found.1 adds gathered)
+      gathered_file keys d before entry files more b name found.0 host found.1 adds gathered)
 
-  pub told_foreign : e ≡ Foreign → Told contents (λ d. AreThere keys d names → IsGathered keys d (take (i + 1) names) files true)
+  pub told_foreign : e ≡ Foreign → Told (disk_in begun) (λ d. AreThere keys d names → IsGathered keys d (before ++ entry ∷ []) files true)
   told_foreign is = told_more files true (λ d entry_is gathered.
-      gathered_foreign keys d (take i names) entry files b (subst (λ (x : Entry). IsEntry keys d entry x) is entry_is) gathered)
+      gathered_foreign keys d before entry files b (subst (λ (x : Entry). IsEntry keys d entry x) is entry_is) gathered)
 
-  pub told_ignored : e ≡ Ignored → Told contents (λ d. AreThere keys d names → IsGathered keys d (take (i + 1) names) files b)
+  pub told_ignored : e ≡ Ignored → Told (disk_in begun) (λ d. AreThere keys d names → IsGathered keys d (before ++ entry ∷ []) files b)
   told_ignored is = told_more files b (λ d entry_is gathered.
       let found = subst (λ (x : Entry). IsEntry keys d entry x) is entry_is in
-      gathered_ignored keys d (take i names) entry files b found.0 found.1 gathered)
+      gathered_ignored keys d before entry files b found.0 found.1 gathered)

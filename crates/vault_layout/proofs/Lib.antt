@@ -1,5 +1,5 @@
-pub mod Telling
 pub mod EntryLemmas
 pub mod Gathering
 pub mod Listing
 pub mod Searching
+pub mod Folders

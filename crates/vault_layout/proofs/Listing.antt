@@ -23,7 +23,7 @@ use Rattle.name_cipher.specs.Sealed.{sealed_name}
 use Rattle.vault_layout.specs.Clear.{Files, AreFiles, IsRootFile, IsForeign, IsClear, root_folder, place_of, rows_of}
 use Rattle.vault_layout.specs.Loaded.{LoadedTree, IsLoaded, loaded_file}
 use Rattle.vault_layout.specs.Entries.{AreThere, host_at, IsGathered}
-use Rattle.vault_layout.proofs.Telling.{told_both}
+use Rattle.outside.proofs.Told.{told_both}
 use Rattle.outside.specs.Calls.{Told}
 
 abbrev Hosts : Type 0

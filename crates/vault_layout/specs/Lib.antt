@@ -2,3 +2,4 @@ pub mod Clear
 pub mod Loaded
 pub mod Entries
 pub mod Faults
+pub mod Tree

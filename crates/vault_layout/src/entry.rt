@@ -1,11 +1,8 @@
-ghost use Rattle.std.specs.Prelude.{refl, ℕ, ◌≡◌, ◌↔◌, ◌≤◌, false, List, [], ◌∷◌, ◌++◌, Some, IsSome, IsTrue, IfOk, IsErrOf, MatchOption};
-ghost use Rattle.std.specs.Cmp.{partial_equiv_from_equiv};
-ghost use Rattle.std.specs.Cmp.Lexicographic.{slice_cmp, texts_ties, texts_po, nat_list_eq_equiv, nat_list_cmp_total};
-ghost use Rattle.std.specs.Ordering.{nat_cmp, as_partial_cmp};
-ghost use Rattle.std.specs.Str.{bytes_eq};
+ghost use Rattle.std.specs.Prelude.{ℕ, ◌≡◌, ◌↔◌, ◌≤◌, false, List, [], ◌∷◌, ◌++◌, IsSome, IsTrue, IfOk, IsErrOf, MatchOption};
 ghost use Rattle.vault_path.specs.Parts.{is_part};
 ghost use Rattle.outside.specs.Disk.{node_at};
 ghost use Rattle.outside.specs.Calls.{HasCause, Told};
+ghost use Rattle.outside.specs.Images.{disk_in};
 ghost use Rattle.name_cipher.specs.Sealed.{IsSealedName};
 ghost use Rattle.file_chunks.specs.File.{is_bad_size, chunk_count};
 ghost use Rattle.vault_layout.specs.Clear.{root_folder};
@@ -17,7 +14,6 @@ use name_cipher::{Name, open_name, opening_undoes_sealing};
 use outside::{Kind, Reads};
 use siv_mode::VaultKeys;
 use std::alloc::{AllocError, Global};
-use std::cmp::Ordering;
 use std::marker::Model;
 use vault_path::{Text, VaultPath};
 
@@ -26,66 +22,6 @@ const IDENTIFIER_COPY: &str = "dirid.c9r";
 
 // The size in bytes of the longest host file that is shown: a header and a full chunk.
 const LARGEST_SIZE: u64 = (HEADER_LENGTH + SEALED_LENGTH) as u64;
-
-/// A clear name, in the order of its bytes. Clauses see them.
-#[derive(Drop)]
-pub(crate) struct FileName {
-    name: Name,
-}
-
-impl Model for FileName {
-    ghost use Rattle.std.specs.Prelude.{ℕ, List};
-
-    ghost Value = { List ℕ };
-
-    ghost view = { λ n. n.name };
-}
-
-impl FileName {
-    pub(crate) fn as_bytes(&self) -> &[u8]
-        ensures { result.now ≡ self.now }
-    {
-        self.name.as_bytes()
-    }
-}
-
-impl PartialEq for FileName {
-    ghost eq = { bytes_eq };
-
-    ghost laws = { partial_equiv_from_equiv nat_list_eq_equiv };
-
-    fn eq(&self, other: &FileName) -> bool {
-        self.as_bytes() == other.as_bytes()
-    }
-}
-
-impl Eq for FileName {
-    ghost laws = { nat_list_eq_equiv };
-}
-
-impl Ord for FileName {
-    ghost cmp = { slice_cmp nat_cmp };
-
-    ghost total = { nat_list_cmp_total };
-
-    ghost matches_partial_cmp = { λ _ _. refl };
-
-    ghost matches_eq = { texts_ties };
-
-    fn cmp(&self, other: &FileName) -> Ordering {
-        self.as_bytes().cmp(&other.as_bytes())
-    }
-}
-
-impl PartialOrd for FileName {
-    ghost partial_cmp = { as_partial_cmp (slice_cmp nat_cmp) };
-
-    ghost laws = { texts_po };
-
-    fn partial_cmp(&self, other: &FileName) -> Option<Ordering> {
-        Some(self.cmp(other))
-    }
-}
 
 /// The host file of a clear file: its sealed name, which is a good part of a path, and its size in bytes. Clauses see the
 /// pair of them.
@@ -125,7 +61,7 @@ impl HostFile {
 #[derive(Drop)]
 pub(crate) enum Entry {
     /// A file of the root.
-    File(FileName, HostFile),
+    File(Name, HostFile),
     /// An entry that isn't the vault's.
     Foreign,
     /// The copy of the root's identifier.
@@ -138,42 +74,42 @@ pub(crate) fn entry_of<R: Reads>(
     from: &mut R,
     keys: &VaultKeys,
     root: &VaultPath,
-    name: &[u8],
+    name: Text,
 ) -> Result<Entry, LoadErr>
     requires { root.now ≡ root_folder keys.now }
-    ensures entry { IfOk result (λ entry. Told (R.disk from.old) (λ d. IsSome (node_at d (root_folder keys.now ++ name.now ∷ [])) → IsEntry keys.now d name.now entry)) }
+    ensures entry { IfOk result (λ entry. Told (disk_in (R.log from.old))
+        (λ d. IsSome (node_at d (root_folder keys.now ++ name ∷ [])) → IsEntry keys.now d name entry)) }
     ensures root_is_there { IsErrOf result LoadErr.NoRoot → ⊥ }
-    ensures disk { R.disk from.new ≡ R.disk from.old }
+    ensures log { R.log from.new ≡ R.log from.old }
+    ensures changes { R.changes from.new ≡ R.changes from.old }
     ensures cause { HasCause (R.faults from.old) (R.faults from.new) (IsErrOf result LoadErr.Device) }
 {
-    let Ok(path) = root.join(name) else {
+    let Ok(path) = root.join(name.as_bytes()) else {
         return Ok(Entry::Foreign);
     };
     match from.kind(&path)? {
         Some(Kind::File(size)) => Ok(host_file(alloc, keys, name, size)?),
-        // A folder, or what is neither a file nor a folder, as a link of the host's.
+        // A directory, a symbolic link or a device.
         Some(Kind::Dir) | None => Ok(Entry::Foreign),
     }
 }
 
 // What a host file of this name and size is.
-fn host_file(alloc: Global, keys: &VaultKeys, name: &[u8], size: u64) -> Result<Entry, AllocError>
-    requires { IsTrue (is_part name.now) }
-    ensures { IfOk result (IsHostFile keys.now name.now size) }
+fn host_file(alloc: Global, keys: &VaultKeys, name: Text, size: u64) -> Result<Entry, AllocError>
+    requires { IsTrue (is_part name) }
+    ensures { IfOk result (IsHostFile keys.now name size) }
 {
-    match opened(alloc, keys, name)? {
-        Some(clear) if is_shown(size) => {
-            let sealed = Text::from_vec(name.to_vec(alloc)?);
-            Ok(Entry::File(FileName { name: clear }, HostFile { sealed, size }))
-        }
-        _ if name == IDENTIFIER_COPY.as_bytes() => Ok(Entry::Ignored),
+    match clear_name_of(alloc, keys, name.as_bytes())? {
+        Some(clear) if is_shown(size) => { Ok(Entry::File(clear, HostFile { sealed: name, size })) }
+        _ if name.as_bytes() == IDENTIFIER_COPY.as_bytes() => Ok(Entry::Ignored),
         _ => Ok(Entry::Foreign),
     }
 }
 
 // The one clear name of an entry of the root.
-fn opened(alloc: Global, keys: &VaultKeys, name: &[u8]) -> Result<Option<Name>, AllocError>
-    ensures { IfOk result (λ clear. MatchOption clear ((n : List ℕ) → IsSealedName keys.now [] name.now n → ⊥) (IsOnlyName keys.now name.now)) }
+fn clear_name_of(alloc: Global, keys: &VaultKeys, name: &[u8]) -> Result<Option<Name>, AllocError>
+    ensures { IfOk result (λ clear. MatchOption clear
+        ((n : List ℕ) → IsSealedName keys.now [] name.now n → ⊥) (IsOnlyName keys.now name.now)) }
 {
     opening_undoes_sealing(keys);
     open_name(alloc, keys, b"", name)

@@ -6,13 +6,15 @@ ghost use Rattle.std.specs.Map.{keys_of};
 ghost use Rattle.siv_mode.specs.Keys.{KeyPair};
 ghost use Rattle.outside.specs.Disk.{Disk, IsFolder, node_at};
 ghost use Rattle.outside.specs.Calls.{HasCause, Told};
+ghost use Rattle.outside.specs.Images.{disk_in};
 ghost use Rattle.vault_layout.specs.Clear.{IsClear, root_folder, rows_of};
 ghost use Rattle.vault_layout.specs.Loaded.{IsLoaded, LoadedTree};
 ghost use Rattle.vault_layout.specs.Entries.{AreThere, IsGathered};
 
-use crate::entry::{Entry, FileName, HostFile, entry_of};
+use crate::entry::{Entry, HostFile, entry_of};
 use crate::tree::Loaded;
 use dir_paths::folder_of;
+use name_cipher::Name;
 use outside::{FolderErr, Kind, Reads};
 use siv_mode::VaultKeys;
 use std::alloc::{AllocError, AllocFailed, Global};
@@ -71,7 +73,7 @@ impl<T: Drop> From<AllocFailed<T>> for LoadErr {
 }
 
 /// Loads the root and its files from a vault's folder, in O(n log n) for n entries. `threshold` is the vault's
-/// shortening threshold, which decides nothing yet: only files at their short place are loaded.
+/// shortening threshold, which decides nothing yet: only files at their short place are loaded. No changing call is made.
 pub fn load<R: Reads>(
     alloc: Global,
     from: &mut R,
@@ -79,9 +81,11 @@ pub fn load<R: Reads>(
     threshold: u32,
 ) -> Result<Loaded, LoadErr>
     requires { (1 ≤ threshold) × (threshold ≤ 250) }
-    ensures loaded { IfOk result (λ l. Told (R.disk from.old) (λ d. IsLoaded keys.now d l)) }
-    ensures no_root { IsErrOf result LoadErr.NoRoot → Told (R.disk from.old) (λ d. ¬ (IsFolder d (root_folder keys.now))) }
-    ensures disk { R.disk from.new ≡ R.disk from.old }
+    ensures loaded { IfOk result (λ l. Told (disk_in (R.log from.old)) (λ d. IsLoaded keys.now d l)) }
+    ensures no_root { IsErrOf result LoadErr.NoRoot
+        → Told (disk_in (R.log from.old)) (λ d. ¬ (IsFolder d (root_folder keys.now))) }
+    ensures log { R.log from.new ≡ R.log from.old }
+    ensures changes { R.changes from.new ≡ R.changes from.old }
     ensures cause { HasCause (R.faults from.old) (R.faults from.new) (IsErrOf result LoadErr.Device) }
 {
     let root = folder_of(keys, b"");
@@ -89,7 +93,7 @@ pub fn load<R: Reads>(
         return Err(LoadErr::NoRoot);
     }
     let names = from.list(alloc, &root)?;
-    let gathered = gather(alloc, from, keys, &root, &names)?;
+    let gathered = gather(alloc, from, keys, &root, names)?;
     let files = in_order(alloc, gathered.files)?;
     Ok(Loaded::new(root, files, gathered.foreign))
 }
@@ -102,7 +106,7 @@ pub fn loading_is_clear()
 // What the entries of the root's folder are.
 #[derive(Drop)]
 struct Gathered {
-    files: BTreeMap<FileName, HostFile>,
+    files: BTreeMap<Name, HostFile>,
     foreign: bool,
 }
 
@@ -111,18 +115,21 @@ fn gather<R: Reads>(
     from: &mut R,
     keys: &VaultKeys,
     root: &VaultPath,
-    names: &[Text],
+    names: Vec<Text>,
 ) -> Result<Gathered, LoadErr>
     requires { root.now ≡ root_folder keys.now }
-    ensures gathered { IfOk result (λ g. Told (R.disk from.old) (λ d. AreThere keys.now d names.now → IsGathered keys.now d names.now g.files.entries g.foreign)) }
+    ensures gathered { IfOk result (λ g. Told (disk_in (R.log from.old))
+        (λ d. AreThere keys.now d names.items
+        → IsGathered keys.now d names.items g.files.entries g.foreign)) }
     ensures root_is_there { IsErrOf result LoadErr.NoRoot → ⊥ }
-    ensures disk { R.disk from.new ≡ R.disk from.old }
+    ensures log { R.log from.new ≡ R.log from.old }
+    ensures changes { R.changes from.new ≡ R.changes from.old }
     ensures cause { HasCause (R.faults from.old) (R.faults from.new) (IsErrOf result LoadErr.Device) }
 {
     let mut files = BTreeMap::new(alloc);
     let mut foreign = false;
     for name in names {
-        match entry_of(alloc, from, keys, root, name.as_bytes())? {
+        match entry_of(alloc, from, keys, root, name)? {
             Entry::File(name, file) => {
                 files.insert(name, file)?;
             }
@@ -136,8 +143,8 @@ fn gather<R: Reads>(
 // The files in the order of the names' bytes.
 fn in_order(
     alloc: Global,
-    files: BTreeMap<FileName, HostFile>,
-) -> Result<Vec<(FileName, HostFile)>, AllocError>
+    files: BTreeMap<Name, HostFile>,
+) -> Result<Vec<(Name, HostFile)>, AllocError>
     ensures same { IfOk result (λ v. v.items ≡ files.entries) }
     ensures sorted { IfOk result (λ v. IsStrictlySortedBy (slice_cmp nat_cmp) (keys_of v.items)) }
 {

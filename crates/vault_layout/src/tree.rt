@@ -6,7 +6,8 @@ ghost use Rattle.std.specs.List.Sorted.{IsStrictlySortedBy};
 ghost use Rattle.std.specs.Map.{keys_of};
 ghost use Rattle.vault_layout.specs.Loaded.{LoadedTree, CanHoldParts, file_at};
 
-use crate::entry::{FileName, HostFile};
+use crate::entry::HostFile;
+use name_cipher::Name;
 use std::marker::Model;
 use vault_path::VaultPath;
 
@@ -15,7 +16,7 @@ use vault_path::VaultPath;
 #[derive(Drop)]
 pub struct Loaded {
     root: VaultPath,
-    files: Vec<(FileName, HostFile)>,
+    files: Vec<(Name, HostFile)>,
     foreign: bool,
 }
 
@@ -34,7 +35,7 @@ impl Model for Loaded {
 }
 
 impl Loaded {
-    pub(crate) fn new(root: VaultPath, files: Vec<(FileName, HostFile)>, foreign: bool) -> Loaded
+    pub(crate) fn new(root: VaultPath, files: Vec<(Name, HostFile)>, foreign: bool) -> Loaded
         requires room { CanHoldParts root }
         requires sorted { IsStrictlySortedBy (slice_cmp nat_cmp) (keys_of files.items) }
         ensures { result ≡ record { root = root; files = files.items; foreign = foreign } }
@@ -102,7 +103,7 @@ impl Loaded {
 }
 
 // The place of the file of this name.
-fn index_of(files: &[(FileName, HostFile)], name: &[u8]) -> Option<usize>
+fn index_of(files: &[(Name, HostFile)], name: &[u8]) -> Option<usize>
     requires { IsStrictlySortedBy (slice_cmp nat_cmp) (keys_of files.now) }
     ensures small { IfSome result (λ index. index < length files.now) }
     ensures found { IfSome result (λ index. IsSomeAnd (slice_get files.now index) (λ file. file.0 ≡ name.now)) }

@@ -1,0 +1,12 @@
+pub mod Paths
+pub mod Lists
+pub mod Change
+pub mod Owner
+pub mod Leaf
+pub mod Directory
+pub mod Unique
+pub mod Queue
+pub mod Prefix
+pub mod Determined
+pub mod Empty
+pub mod Laws

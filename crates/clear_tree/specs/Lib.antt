@@ -1,0 +1,6 @@
+pub mod Walk
+pub mod Places
+pub mod Marks
+pub mod Queue
+pub mod Rows
+pub mod Laws
