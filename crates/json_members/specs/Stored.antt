@@ -1,4 +1,5 @@
--- How the logic stores a JSON value: as the list of its pieces.
+-- How the logic stores a JSON value: as the list of its pieces. It is what `impl Model for Object` needs, and no contract's meaning rests on it:
+-- the lemma `from_pieces-to_pieces` says all that is asked of it.
 use Rattle.std.specs.Prelude.{◌≡◌, ℕ, ℤ, pos, List, [], ◌∷◌, Bool, true, false, cond, ◌==◌, refl}
 use Rattle.std.specs.Float.{Float, nan}
 use Rattle.std.specs.Coded.{Coded, code_by, coded×, coded_ℕ, coded_ℤ, coded_list}

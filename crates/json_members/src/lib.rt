@@ -1,4 +1,14 @@
 //! The objects of JSON (RFC 8259) and their members: texts, and integers however they are written.
+//!
+//! ```
+//! let object = Object::read(alloc, br#"{"alg":"HS256","format":8.0}"#)?;
+//! assert!(object.text("alg") == Some("HS256"));
+//! assert_eq!(object.integer("format"), Some(8));
+//! ```
+//!
+//! A number without a fraction and an exponent is itself where it is from -2^63 to 2^64 - 1; every other number is rounded to the
+//! nearest binary64, as Cryptomator's own reader does, so `8.0000000000000001` is 8. A text with a number that is past binary64
+//! (`1e400`) or with an unpaired surrogate (`"\ud800"`), in whatever member, isn't read, though RFC 8259's grammar has it.
 #![tactic(auto)]
 
 ghost use Rattle.std.specs.Prelude.{◌≡◌, ◌&&◌, pos, Some, None, IfOk, IsErrOf, option_map, if◌then◌else◌};
@@ -17,8 +27,8 @@ use std::num::{nearest_u64_to_f64, saturating_f64_to_u64};
 use std::str;
 use thiserror::Error;
 
-#[cfg(test)]
-mod tests;
+/// The longest key file, in bytes: a longer one isn't looked into.
+pub const FILE_LIMIT: usize = 65536;
 
 // 2^64
 const INTEGER_END: f64 = 18446744073709551616.0;
@@ -26,7 +36,8 @@ const INTEGER_END: f64 = 18446744073709551616.0;
 /// Why bytes are no JSON object.
 #[derive(Clone, Copy, Debug, PartialEq, Eq, Error)]
 pub enum ObjectErr {
-    /// The bytes aren't UTF-8, or no JSON text (RFC 8259), or nest more than 127 deep, or the value is no object.
+    /// The bytes aren't UTF-8, or no JSON text (RFC 8259), or nest more than 127 deep, or have a number past binary64 or an
+    /// unpaired surrogate somewhere, or the value is no object.
     #[error("not a JSON object")]
     NotObject,
     /// Memory ran out.
@@ -53,8 +64,8 @@ impl Model for Object {
 }
 
 impl Object {
-    /// The object that `bytes` are as JSON (RFC 8259) in UTF-8. Where it has a name several times, the last member counts
-    /// (section 4).
+    /// The object that `bytes` are as JSON (RFC 8259) in UTF-8. If a name is repeated, the last member counts (section 4).
+    /// `ObjectErr` tells each error's cause.
     pub fn read(alloc: Global, bytes: &[u8]) -> Result<Object, ObjectErr>
         ensures object { IfOk result (λ o. object_of bytes.now ≡ Some o) }
         ensures none { IsErrOf result ObjectErr.NotObject → object_of bytes.now ≡ None }
@@ -78,7 +89,8 @@ impl Object {
     }
 
     /// The integer from 0 to 2^64 - 1 of the member of this name, if it is one, however it is written (8, 8.0, 80e-1). A number with a
-    /// fraction or an exponent is rounded to the nearest binary64 first (RFC 8259, section 6).
+    /// fraction or an exponent is rounded to the nearest binary64 first (RFC 8259, section 6), and so is an integer of 2^64 and more,
+    /// which is then none.
     pub fn integer(&self, name: &str) -> Option<u64>
         ensures { result ≡ integer_at name.now self.now }
     {

@@ -16,13 +16,15 @@ use Rattle.serde_json.specs.Read.{read}
 use Rattle.serde_json.specs.Written.{compact_text}
 use Rattle.aes_block.specs.Aes.{aes, inverse_aes}
 use Rattle.key_wrap.specs.Wrap.{wrapped, unwrapped}
-use Rattle.scrypt_kdf.specs.Scrypt.{scrypt}
+use Rattle.scrypt_kdf.specs.Scrypt.{IsCost, scrypt}
 use Rattle.siv_mode.specs.Keys.{KeyPair}
 use Rattle.json_members.specs.Members.{object_of, only_object}
 use Rattle.json_members.proofs.Objects.{object_of-read}
-use Rattle.masterkey_file.specs.KeyFile.{Fields, HasGoodCost, OpensTo, fields_in, key_file, not_json, result_and_then, version_mac}
+use Rattle.json_members.specs.Steps.{result_and_then}
+use Rattle.masterkey_file.specs.KeyFile.{Fields, fields_in, is_good_cost, key_file, keys_in, keys_of, not_json, version_mac}
 use Rattle.masterkey_file.specs.Written.{value_of_texts}
-use Rattle.masterkey_file.proofs.Members.{fields_of-short}
+use Rattle.masterkey_file.proofs.Costs.{is_good_cost-unrefused}
+use Rattle.masterkey_file.proofs.Members.{fields_of-short, keys_of-fields}
 
 -- the members of a file with these texts
 abbrev written_fields : List ℕ → List ℕ → List ℕ → Fields
@@ -98,29 +100,31 @@ fields_in-texts : (mac enc salt mac_text enc_text salted version : List ℕ) →
     → fields_in (value_of_texts mac_text enc_text salted version) ≡ Ok (written_fields mac enc salt)
 fields_in-texts mac enc salt mac_text enc_text salted version m e s long_mac long_enc long = rw (s, long, e, long_enc, m, long_mac) refl
 
-good_cost : (mac enc salt : List ℕ) → HasGoodCost (written_fields mac enc salt)
-good_cost mac enc salt = (
-  record { power = 15; above = lit< tt; is_power = refl; block = lit< tt; parts = lit< tt },
-  λ large. elim large [ inl table ↦ absurd (omega arith) | inr parts ↦ absurd (omega arith) ],
-)
+good_cost : is_good_cost 32768 8 ≡ true
+good_cost =
+    let cost : IsCost 32768 8 1 = record { power = 15; above = lit< tt; is_power = refl; block = lit< tt; parts = lit< tt } in
+    is_good_cost-unrefused 32768 8 (λ not. not cost) (λ large. elim large.1 [ inl table ↦ absurd (omega arith) | inr parts ↦ absurd (omega arith) ])
 
-pub OpensTo-texts : (keys : KeyPair) (password salt kek bytes mac enc salted version : List ℕ) → kek ≡ scrypt password salt 32768 8 1 32
+-- the members that are written open to the keys
+keys_in-written : (keys : KeyPair) (password salt kek : List ℕ) → kek ≡ scrypt password salt 32768 8 1 32
+    → unwrapped (inverse_aes kek) (wrapped (aes kek) keys.mac) ≡ Some keys.mac → unwrapped (inverse_aes kek) (wrapped (aes kek) keys.enc) ≡ Some keys.enc
+    → keys_in password (written_fields (wrapped (aes kek) keys.mac) (wrapped (aes kek) keys.enc) salt) ≡ Ok keys
+keys_in-written keys password salt kek key m e = rw (good_cost, ← key, e, m) refl
+
+-- the written file opens to the keys
+pub keys_of-texts : (keys : KeyPair) (password salt kek bytes mac enc salted version : List ℕ) → kek ≡ scrypt password salt 32768 8 1 32
     → IsWrapped kek keys.mac mac → IsWrapped kek keys.enc enc → salted ≡ encode_of standard salt → decode_of standard salted ≡ Ok salt → length salt ≡ 8
     → version ≡ encode_of standard (version_mac keys) → length (version_mac keys) ≡ 32
     → bytes ≡ compact_text (value_of_texts mac enc salted version) → object_of bytes ≡ Some (value_of_texts mac enc salted version)
-    → OpensTo bytes password keys
-OpensTo-texts keys password salt kek bytes mac enc salted version key m e s decodes long v long_mac is reads =
+    → keys_of bytes password ≡ Ok keys
+keys_of-texts keys password salt kek bytes mac enc salted version key m e s decodes long v long_mac is reads =
     let short : length bytes ≤ 65536 = omega (
       arith,
       ap (λ (t : List ℕ). length t) is,
       length-texts-le mac enc salted version (length-wrapped_text kek keys.mac mac m) (length-wrapped_text kek keys.enc enc e)
           (length-encoded salt salted s (omega arith)) (length-encoded (version_mac keys) version v (omega arith)),
     ) in
-    record {
-      fields = written_fields (wrapped (aes kek) keys.mac) (wrapped (aes kek) keys.enc) salt;
-      read = fields_of-short bytes (le-ltb 65536 (length bytes) short) ∙ ap (λ (found : Option Data). result_and_then fields_in (ok_or found not_json)) reads
-          ∙ fields_in-texts (wrapped (aes kek) keys.mac) (wrapped (aes kek) keys.enc) salt mac enc salted version m.decodes e.decodes decodes m.long e.long long;
-      cost = good_cost (wrapped (aes kek) keys.mac) (wrapped (aes kek) keys.enc) salt;
-      enc = ap (λ (k : List ℕ). unwrapped (inverse_aes k) (wrapped (aes kek) keys.enc)) (sym key) ∙ e.opens;
-      mac = ap (λ (k : List ℕ). unwrapped (inverse_aes k) (wrapped (aes kek) keys.mac)) (sym key) ∙ m.opens;
-    }
+    let fields = written_fields (wrapped (aes kek) keys.mac) (wrapped (aes kek) keys.enc) salt in
+    let found = fields_of-short bytes (le-ltb 65536 (length bytes) short) ∙ ap (λ (found : Option Data). result_and_then fields_in (ok_or found not_json)) reads
+    ∙ fields_in-texts (wrapped (aes kek) keys.mac) (wrapped (aes kek) keys.enc) salt mac enc salted version m.decodes e.decodes decodes m.long e.long long in
+    keys_of-fields bytes password fields found ∙ keys_in-written keys password salt kek key m.opens e.opens

@@ -1,7 +1,6 @@
--- The errors of `read` and what they say of the file and the password.
-use Rattle.std.specs.Prelude.{◌≡◌, ℕ, List, Ok, Err, ⊤}
+-- The errors of `read` as faults, and what they are shown as.
+use Rattle.std.specs.Prelude.{◌≡◌, ℕ, List, Result, Err, codes, ⊤}
 use Rattle.masterkey_file.specs.KeyFile as files
-use Rattle.masterkey_file.specs.KeyFile.{fields_of, HasGoodCost, IsRefused}
 use Rattle.masterkey_file.specs.declared.reading.KeyFileErr.{KeyFileErr}
 use Rattle.masterkey_file.specs.declared.reading.KeyFileErr.TheVariants.{TooLong, NotJson, Field, Cost, WrongPassword, Memory}
 use Rattle.masterkey_file.specs.declared.reading.FieldName.{FieldName}
@@ -14,11 +13,20 @@ field_of names.ScryptBlockSize = files.block_size
 field_of names.PrimaryMasterKey = files.encryption_key
 field_of names.HmacMasterKey = files.mac_key
 
--- the error is the first fault; running out of memory says nothing
-abbrev pub IsFault : KeyFileErr → List ℕ → List ℕ → Type 0
-IsFault (TooLong n) bytes password = fields_of bytes ≡ Err (files.too_long n)
-IsFault NotJson bytes password = fields_of bytes ≡ Err files.not_json
-IsFault (Field name) bytes password = fields_of bytes ≡ Err (files.bad_field (field_of name))
-IsFault Cost bytes password = (fields : files.Fields) × (fields_of bytes ≡ Ok fields) × (HasGoodCost fields → ⊥)
-IsFault WrongPassword bytes password = IsRefused bytes password
-IsFault Memory bytes password = ⊤
+-- the error is the fault that was found; running out of memory says nothing
+abbrev pub IsFault : {A : Type 0} → KeyFileErr → Result A files.Fault → Type 0
+IsFault (TooLong n) found = found ≡ Err (files.too_long n)
+IsFault NotJson found = found ≡ Err files.not_json
+IsFault (Field name) found = found ≡ Err (files.bad_field (field_of name))
+IsFault Cost found = found ≡ Err files.bad_cost
+IsFault WrongPassword found = found ≡ Err files.wrong_password
+IsFault Memory found = ⊤
+
+-- an error as it is shown
+abbrev pub error_text : KeyFileErr → List ℕ
+error_text (TooLong n) = files.fault_text (files.too_long n)
+error_text NotJson = files.fault_text files.not_json
+error_text (Field name) = files.fault_text (files.bad_field (field_of name))
+error_text Cost = files.fault_text files.bad_cost
+error_text WrongPassword = files.fault_text files.wrong_password
+error_text Memory = codes "out of memory"

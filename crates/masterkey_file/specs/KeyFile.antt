@@ -1,6 +1,7 @@
 -- The masterkey file of a vault (Cryptomator's vault format 8, `masterkey.cryptomator`): a JSON object with the vault's two keys, each wrapped
 -- (RFC 3394) under a key that scrypt (RFC 7914) makes of the password.
-use Rattle.std.specs.Prelude.{◌≡◌, ◌⊎◌, ℕ, List, length, Bool, Option, Some, None, option_and_then, Result, Ok, Err, codes, nat_lt, nat_le, ◌==◌, if◌then◌else◌}
+use Rattle.std.specs.Prelude.{ℕ, ◌*◌, ◌^◌, List, ◌++◌, length, Bool, ◌&&◌, Option, Some, None, option_and_then, option_map, Result, Ok, Err, codes, decimal, nat_lt, nat_le, ◌==◌, if◌then◌else◌}
+use Rattle.std.specs.Int.{is_power_of_two}
 use Rattle.std.specs.Option.{ok_or}
 use Rattle.std.specs.Result.{result_ok}
 use Rattle.base64.specs.GeneralPurpose.{decode_of, encode_of}
@@ -13,12 +14,10 @@ use Rattle.aes_block.specs.Bytes.{bytes_of}
 use Rattle.siv_mode.specs.Keys.{KeyPair}
 use Rattle.hmac_sha.specs.Hmac.{hmac}
 use Rattle.key_wrap.specs.Wrap.{wrapped, unwrapped}
-use Rattle.scrypt_kdf.specs.Scrypt.{scrypt, IsCost, IsTooLarge}
+use Rattle.scrypt_kdf.specs.Scrypt.{scrypt}
 use Rattle.json_members.specs.Members.{object_of, text_at, integer_at}
-
--- the longest file, in bytes
-abbrev pub file_limit : ℕ
-file_limit = 65536
+use Rattle.json_members.specs.Steps.{result_and_then}
+use Rattle.json_members.specs.declared.TheConstants.{FILE_LIMIT}
 
 -- the members that are read. Every other member, `version` and `versionMac` too, isn't looked at
 pub data Field : Type 0 where
@@ -57,16 +56,21 @@ fits_salt n = nat_le n 1024
 abbrev pub fits_key : ℕ → Bool
 fits_key n = n == 40
 
--- why a file isn't looked into further
+-- why no keys are read from a file
 pub data Fault : Type 0 where
   too_long : ℕ → Fault
   not_json : Fault
   bad_field : Field → Fault
+  bad_cost : Fault
+  wrong_password : Fault
 
--- what follows a step that went well
-abbrev pub result_and_then : {T U E : Type 0} → (T → Result U E) → Result T E → Result U E
-result_and_then f (Ok x) = f x
-result_and_then f (Err e) = Err e
+-- a fault as the report has it
+abbrev pub fault_text : Fault → List ℕ
+fault_text (too_long n) = codes "too long " ++ decimal n
+fault_text not_json = codes "not JSON"
+fault_text (bad_field f) = codes "field " ++ name_of f
+fault_text bad_cost = codes "cost"
+fault_text wrong_password = codes "wrong password"
 
 -- a member's value, or the fault of that field; then the rest
 abbrev pub on_field : {A B : Type 0} → Field → Option A → (A → Result B Fault) → Result B Fault
@@ -85,33 +89,32 @@ fields_in value =
 -- what a file's members hold
 unfoldable pub fields_of : List ℕ → Result Fields Fault
 fields_of bytes =
-    if nat_lt file_limit (length bytes) then Err (too_long (length bytes))
+    if nat_lt FILE_LIMIT (length bytes) then Err (too_long (length bytes))
     else result_and_then fields_in (ok_or (object_of bytes) not_json)
+
+-- scrypt takes this cost and block size with one part: a power of two above 1, and a block size above 0, of which the table has at most
+-- 2^30 bytes
+unfoldable pub is_good_cost : ℕ → ℕ → Bool
+is_good_cost n r = is_power_of_two n && nat_lt 1 n && nat_lt 0 r && nat_le (128 * n * r) (2 ^ 30)
 
 -- the key that wraps the others: scrypt with one part
 abbrev pub wrapping_key : List ℕ → Fields → List ℕ
 wrapping_key password f = scrypt password f.salt_bytes f.n f.r 1 32
 
--- scrypt takes this cost and block size
-abbrev pub HasGoodCost : Fields → Type 0
-HasGoodCost f = IsCost f.n f.r 1 × (IsTooLarge f.n f.r 1 → ⊥)
+-- the two keys under the key that wraps them, and None where the check value of one of them differs
+abbrev pub unwrapped_keys : List ℕ → Fields → Option KeyPair
+unwrapped_keys kek f =
+    option_and_then (λ enc. option_map (λ mac. record { enc = enc; mac = mac }) (unwrapped (inverse_aes kek) f.wrapped_mac_key))
+    (unwrapped (inverse_aes kek) f.wrapped_encryption_key)
+
+-- the cost is looked at once all members are found, and the password once the cost is good
+abbrev pub keys_in : List ℕ → Fields → Result KeyPair Fault
+keys_in password f =
+    if is_good_cost f.n f.r then ok_or (unwrapped_keys (wrapping_key password f) f) wrong_password else Err bad_cost
 
 -- the keys that a password opens in a file
-pub record OpensTo (bytes password : List ℕ) (keys : KeyPair) : Type 0 where
-  pub fields : Fields
-  pub read : fields_of bytes ≡ Ok fields
-  pub cost : HasGoodCost fields
-  pub enc : unwrapped (inverse_aes (wrapping_key password fields)) fields.wrapped_encryption_key ≡ Some keys.enc
-  pub mac : unwrapped (inverse_aes (wrapping_key password fields)) fields.wrapped_mac_key ≡ Some keys.mac
-
--- the password is another: the check value of one of the two keys differs
-pub record IsRefused (bytes password : List ℕ) : Type 0 where
-  pub fields : Fields
-  pub read : fields_of bytes ≡ Ok fields
-  pub cost : HasGoodCost fields
-  pub differs :
-      (unwrapped (inverse_aes (wrapping_key password fields)) fields.wrapped_encryption_key ≡ None)
-      ⊎ (unwrapped (inverse_aes (wrapping_key password fields)) fields.wrapped_mac_key ≡ None)
+unfoldable pub keys_of : List ℕ → List ℕ → Result KeyPair Fault
+keys_of bytes password = result_and_then (keys_in password) (fields_of bytes)
 
 -- ---- what is written
 

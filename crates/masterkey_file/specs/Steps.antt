@@ -1,11 +1,9 @@
 -- The steps of `read`, of which private functions speak.
-use Rattle.std.specs.Prelude.{◌≡◌, Result, Err, ⊤}
+use Rattle.std.specs.Prelude.{◌≡◌, Bool, false, ⊤}
 use Rattle.masterkey_file.specs.KeyFile as files
-use Rattle.masterkey_file.specs.KeyFile.{HasGoodCost}
-use Rattle.masterkey_file.specs.Faults.{field_of}
-use Rattle.masterkey_file.specs.declared.fields.Fields.{Fields}
 use Rattle.masterkey_file.specs.declared.reading.KeyFileErr.{KeyFileErr}
 use Rattle.masterkey_file.specs.declared.reading.KeyFileErr.TheVariants.{TooLong, NotJson, Field, Cost, WrongPassword, Memory}
+use Rattle.masterkey_file.specs.declared.fields.Fields.{Fields}
 
 -- the members as the code has them
 abbrev pub fields_data : Fields → files.Fields
@@ -17,20 +15,11 @@ fields_data f = record {
   wrapped_mac_key = f.wrapped_mac_key;
 }
 
--- the error is the fault that was found in the file
-abbrev pub IsFileFault : {A : Type 0} → KeyFileErr → Result A files.Fault → Type 0
-IsFileFault (TooLong n) found = found ≡ Err (files.too_long n)
-IsFileFault NotJson found = found ≡ Err files.not_json
-IsFileFault (Field name) found = found ≡ Err (files.bad_field (field_of name))
-IsFileFault Cost found = ⊥
-IsFileFault WrongPassword found = ⊥
-IsFileFault Memory found = ⊤
-
 -- the error is that of the cost
-abbrev pub IsCostFault : KeyFileErr → files.Fields → Type 0
-IsCostFault (TooLong n) fields = ⊥
-IsCostFault NotJson fields = ⊥
-IsCostFault (Field name) fields = ⊥
-IsCostFault Cost fields = HasGoodCost fields → ⊥
-IsCostFault WrongPassword fields = ⊥
-IsCostFault Memory fields = ⊤
+abbrev pub IsCostFault : KeyFileErr → Bool → Type 0
+IsCostFault (TooLong n) is_good = ⊥
+IsCostFault NotJson is_good = ⊥
+IsCostFault (Field name) is_good = ⊥
+IsCostFault Cost is_good = is_good ≡ false
+IsCostFault WrongPassword is_good = ⊥
+IsCostFault Memory is_good = ⊤

@@ -4,18 +4,15 @@ ghost use Rattle.std.specs.Result.{result_ok};
 ghost use Rattle.base64.specs.GeneralPurpose.{decode_of};
 ghost use Rattle.base64.specs.Engines.{standard};
 ghost use Rattle.json_members.specs.Members.{object_of, text_at, integer_at};
-ghost use Rattle.masterkey_file.specs.KeyFile.{bad_field, bytes_at, fields_in, fields_of, file_limit, fits_key, fits_salt, name_of, not_json};
-ghost use Rattle.masterkey_file.specs.Faults.{field_of};
-ghost use Rattle.masterkey_file.specs.Steps.{IsFileFault, fields_data};
+ghost use Rattle.masterkey_file.specs.KeyFile.{bad_field, bytes_at, fields_in, fields_of, fits_key, fits_salt, name_of, not_json};
+ghost use Rattle.masterkey_file.specs.Faults.{IsFault, field_of};
+ghost use Rattle.masterkey_file.specs.Steps.{fields_data};
 
 use crate::reading::{FieldName, KeyFileErr};
 use base64::DecodeAllocError;
 use base64::engine::general_purpose::STANDARD;
-use json_members::{Object, ObjectErr};
+use json_members::{FILE_LIMIT, Object, ObjectErr};
 use std::alloc::{AllocError, Global};
-
-// The longest file, in bytes.
-const FILE_LIMIT: usize = 65536;
 
 // The longest salt, in bytes.
 const SALT_LIMIT: usize = 1024;
@@ -33,7 +30,7 @@ pub(crate) struct Fields {
 // The members of a file's object.
 pub(crate) fn read_fields(alloc: Global, bytes: &[u8]) -> Result<Fields, KeyFileErr>
     ensures { MatchResult result
-        (λ fields. fields_of bytes.now ≡ Ok (fields_data fields)) (λ e. IsFileFault e (fields_of bytes.now)) }
+        (λ fields. fields_of bytes.now ≡ Ok (fields_data fields)) (λ e. IsFault e (fields_of bytes.now)) }
 {
     if is_too_long(bytes) {
         return Err(KeyFileErr::TooLong(bytes.len()));
@@ -44,7 +41,7 @@ pub(crate) fn read_fields(alloc: Global, bytes: &[u8]) -> Result<Fields, KeyFile
 
 // Whether a file isn't looked into for its length.
 fn is_too_long(bytes: &[u8]) -> bool
-    ensures { result ≡ nat_lt file_limit (length bytes.now) }
+    ensures { result ≡ nat_lt FILE_LIMIT (length bytes.now) }
 {
     bytes.len() > FILE_LIMIT
 }
@@ -52,7 +49,7 @@ fn is_too_long(bytes: &[u8]) -> bool
 // The object that a file is.
 fn read_object(alloc: Global, bytes: &[u8]) -> Result<Object, KeyFileErr>
     ensures { let found = ok_or (object_of bytes.now) not_json in
-        MatchResult result (λ object. found ≡ Ok object) (λ e. IsFileFault e found) }
+        MatchResult result (λ object. found ≡ Ok object) (λ e. IsFault e found) }
 {
     match Object::read(alloc, bytes) {
         Ok(object) => Ok(object),
@@ -64,7 +61,7 @@ fn read_object(alloc: Global, bytes: &[u8]) -> Result<Object, KeyFileErr>
 // The members of an object, in the order of their tests.
 fn fields_in(alloc: Global, object: &Object) -> Result<Fields, KeyFileErr>
     ensures { MatchResult result
-        (λ fields. fields_in object.now ≡ Ok (fields_data fields)) (λ e. IsFileFault e (fields_in object.now)) }
+        (λ fields. fields_in object.now ≡ Ok (fields_data fields)) (λ e. IsFault e (fields_in object.now)) }
 {
     Ok(Fields {
         salt: salt(alloc, object)?,
@@ -78,7 +75,7 @@ fn fields_in(alloc: Global, object: &Object) -> Result<Fields, KeyFileErr>
 // The salt.
 fn salt(alloc: Global, object: &Object) -> Result<Vec<u8>, KeyFileErr>
     ensures { let found = ok_or (bytes_at (field_of FieldName.ScryptSalt) fits_salt object.now) (bad_field (field_of FieldName.ScryptSalt)) in
-        MatchResult result (λ bytes. found ≡ Ok bytes.items) (λ e. IsFileFault e found) }
+        MatchResult result (λ bytes. found ≡ Ok bytes.items) (λ e. IsFault e found) }
 {
     match decoded(alloc, object, FieldName::ScryptSalt)? {
         Some(bytes) if bytes.len() <= SALT_LIMIT => Ok(bytes),
@@ -89,7 +86,7 @@ fn salt(alloc: Global, object: &Object) -> Result<Vec<u8>, KeyFileErr>
 // The integer of a member.
 fn integer(object: &Object, name: FieldName) -> Result<u64, KeyFileErr>
     ensures { let found = ok_or (integer_at (name_of (field_of name)) object.now) (bad_field (field_of name)) in
-        MatchResult result (λ n. found ≡ Ok n) (λ e. IsFileFault e found) }
+        MatchResult result (λ n. found ≡ Ok n) (λ e. IsFault e found) }
 {
     object
         .integer(name.json_name())
@@ -99,7 +96,7 @@ fn integer(object: &Object, name: FieldName) -> Result<u64, KeyFileErr>
 // The wrapped key of a member.
 fn wrapped_key(alloc: Global, object: &Object, name: FieldName) -> Result<[u8; 40], KeyFileErr>
     ensures { let found = ok_or (bytes_at (field_of name) fits_key object.now) (bad_field (field_of name)) in
-        MatchResult result (λ key. found ≡ Ok key) (λ e. IsFileFault e found) }
+        MatchResult result (λ key. found ≡ Ok key) (λ e. IsFault e found) }
 {
     let Some(bytes) = decoded(alloc, object, name)? else {
         return Err(KeyFileErr::Field(name));

@@ -1,25 +1,22 @@
 ghost use Rattle.std.specs.Prelude.{◌≡◌, ◌==◌, ◌&&◌, nat_le, nat_lt, length, Some, None, IfOk, IsErrOf};
 ghost use Rattle.std.specs.List.{position};
 ghost use Rattle.std.specs.String.{string_bytes};
-ghost use Rattle.tree_model.specs.Names.{nfc_of};
-ghost use Rattle.masterkey_file.specs.Password.{line_limit, line_of, password_of};
+ghost use Rattle.masterkey_file.specs.Password.{line_of, password_of};
 
+use nfc_text::nfc;
 use std::alloc::{AllocError, Global};
-use std::str;
-use thiserror::Error;
-use unicode_normalization::to_nfc;
+use std::error::Error;
+use std::{fmt, str};
 
-// The longest line, in bytes.
-const LINE_LIMIT: usize = 1024;
+/// The longest line of a secret, in bytes.
+pub const LINE_LIMIT: usize = 1024;
 
 /// Why a secret gives no password.
-#[derive(Clone, Copy, Debug, PartialEq, Eq, Error)]
+#[derive(Clone, Copy, Debug, PartialEq, Eq)]
 pub enum PasswordErr {
     /// The first line is empty, has more than 1,024 bytes, or isn't UTF-8.
-    #[error("bad secret")]
     BadSecret,
     /// Memory ran out, which says nothing of the secret.
-    #[error("out of memory")]
     Memory,
 }
 
@@ -34,8 +31,24 @@ impl From<AllocError> for PasswordErr {
     }
 }
 
+impl fmt::Display for PasswordErr {
+    ghost use Rattle.std.specs.Prelude.{Some};
+    ghost use Rattle.masterkey_file.specs.Password.{secret_text};
+
+    ghost output = { λ e. Some (secret_text e) };
+
+    fn fmt<W: fmt::Write>(&self, f: &mut fmt::Formatter<W>) -> fmt::Result {
+        f.write_str(match self {
+            PasswordErr::BadSecret => "bad secret",
+            PasswordErr::Memory => "out of memory",
+        })
+    }
+}
+
+impl Error for PasswordErr {}
+
 /// The password in a secret: its first line, up to the first LF or the end, which has 1 to 1,024 bytes of UTF-8, in the form
-/// NFC (UAX 15).
+/// NFC (UAX 15). A CR in front of the LF is part of it.
 pub fn password(alloc: Global, secret: &[u8]) -> Result<String, PasswordErr>
     ensures password { IfOk result (λ p. password_of secret.now ≡ Some (string_bytes p)) }
     ensures bad { IsErrOf result PasswordErr.BadSecret → password_of secret.now ≡ None }
@@ -47,22 +60,14 @@ pub fn password(alloc: Global, secret: &[u8]) -> Result<String, PasswordErr>
     let Ok(text) = str::from_utf8(line) else {
         return Err(PasswordErr::BadSecret);
     };
-    Ok(normalized(alloc, text)?)
+    Ok(nfc(alloc, text)?)
 }
 
 // Whether a line has 1 to 1,024 bytes.
 fn is_of_good_length(line: &[u8]) -> bool
-    ensures { result ≡ (nat_lt 0 (length line.now) && nat_le (length line.now) line_limit) }
+    ensures { result ≡ (nat_lt 0 (length line.now) && nat_le (length line.now) LINE_LIMIT) }
 {
     !line.is_empty() && line.len() <= LINE_LIMIT
-}
-
-// The form NFC of a text.
-#[tactic(auto, unfolding(tree_model::specs::Names::nfc_of))]
-fn normalized(alloc: Global, text: &str) -> Result<String, AllocError>
-    ensures { IfOk result (λ s. string_bytes s ≡ nfc_of text.now) }
-{
-    to_nfc(alloc, text)
 }
 
 // The bytes up to the first LF, or all of them.

@@ -6,13 +6,13 @@ ghost use Rattle.base64.specs.Engines.{standard};
 ghost use Rattle.key_wrap.specs.Wrap.{unwrapped, wrapped};
 ghost use Rattle.scrypt_kdf.specs.Scrypt.{scrypt};
 ghost use Rattle.serde_json.specs.View.{view};
-ghost use Rattle.masterkey_file.specs.KeyFile.{OpensTo, key_file, version_mac};
+ghost use Rattle.masterkey_file.specs.KeyFile.{key_file, keys_of, version_mac};
 ghost use Rattle.masterkey_file.specs.Written.{value_of_texts};
 
 use aes_block::Key256;
 use base64::engine::general_purpose::STANDARD;
 use hmac_sha::hmac256;
-use key_wrap::{unwrapping_undoes_wrapping, wrap};
+use key_wrap::{unwrapping_is_exact, wrap};
 use scrypt_kdf::scrypt;
 use serde_json::{Value, json};
 use siv_mode::VaultKeys;
@@ -36,7 +36,7 @@ pub fn write(
     salt: &[u8; 8],
 ) -> Result<Vec<u8>, AllocError>
     ensures bytes { IfOk result (λ v. v.items ≡ key_file keys.now password.now salt.now) }
-    ensures reads_back { IfOk result (λ v. OpensTo v.items password.now keys.now) }
+    ensures reads_back { IfOk result (λ v. keys_of v.items password.now ≡ Ok keys.now) }
 {
     let kek = new_wrapping_key(alloc, password, salt)?;
     let mac_key = wrapped_text(alloc, &kek, keys.mac_key())?;
@@ -74,7 +74,7 @@ fn wrapped(kek: &[u8; 32], key: &[u8; 32]) -> [u8; 40]
     ensures wrapped { result ≡ wrapped (aes kek.now) key.now }
     ensures opens { unwrapped (inverse_aes kek.now) (wrapped (aes kek.now) key.now) ≡ Some key.now }
 {
-    unwrapping_undoes_wrapping();
+    unwrapping_is_exact();
     wrap(kek, key)
 }
 

@@ -1,5 +1,6 @@
 pub mod Keys
 pub mod Parts
+pub mod Ranges
 pub mod Reading
 pub mod ReadsBack
 pub mod Symbols

@@ -3,7 +3,9 @@ use Rattle.std.proofs.Common.{◌≡◌, ℕ, zero, suc, ◌+◌, ◌-◌, ◌<�
 use Rattle.std.specs.List.{position, prefix_len, list_all}
 use Rattle.std.proofs.lemmas.List.{append_assoc, length-append, length-drop, take_all, take_at}
 use Rattle.std.proofs.lemmas.Bool.{eqb-true, ltb-false, ltb-true}
-use Rattle.vault_config.specs.Token.{is_space, trimmed, pieces_of, token_of_pieces}
+use Rattle.std.specs.Char.{is_ascii_whitespace}
+use Rattle.std.specs.Str.{IsTrimAsciiEnd}
+use Rattle.vault_config.specs.Token.{trimmed, pieces_of, token_of_pieces}
 
 -- ---- dots
 
@@ -115,21 +117,21 @@ both_true true true h k = refl
 both_true true false h k = cc
 both_true false y h k = cc
 
-all_spaces : (bytes : List ℕ) → ((k : ℕ) → k < length bytes → is_space (get_or bytes k 0) ≡ true) → list_all is_space bytes ≡ true
+all_spaces : (bytes : List ℕ) → ((k : ℕ) → k < length bytes → is_ascii_whitespace (get_or bytes k 0) ≡ true) → list_all is_ascii_whitespace bytes ≡ true
 all_spaces [] h = refl
-all_spaces (b ∷ bytes) h = both_true (is_space b) (list_all is_space bytes) (h 0 (omega arith)) (all_spaces bytes (λ k l. h (suc k) (omega arith)))
+all_spaces (b ∷ bytes) h = both_true (is_ascii_whitespace b) (list_all is_ascii_whitespace bytes) (h 0 (omega arith)) (all_spaces bytes (λ k l. h (suc k) (omega arith)))
 
-not_all_spaces : (bytes : List ℕ) (k : ℕ) → k < length bytes → is_space (get_or bytes k 0) ≡ false → list_all is_space bytes ≡ false
+not_all_spaces : (bytes : List ℕ) (k : ℕ) → k < length bytes → is_ascii_whitespace (get_or bytes k 0) ≡ false → list_all is_ascii_whitespace bytes ≡ false
 not_all_spaces [] k l h = absurd (omega arith)
-not_all_spaces (b ∷ bytes) zero l h = both_false (is_space b) (list_all is_space bytes) h
-not_all_spaces (b ∷ bytes) (suc k) l h = second_false (is_space b) (list_all is_space bytes) (not_all_spaces bytes k (omega arith) h)
+not_all_spaces (b ∷ bytes) zero l h = both_false (is_ascii_whitespace b) (list_all is_ascii_whitespace bytes) h
+not_all_spaces (b ∷ bytes) (suc k) l h = second_false (is_ascii_whitespace b) (list_all is_ascii_whitespace bytes) (not_all_spaces bytes k (omega arith) h)
   where
     second_false : (x y : Bool) → y ≡ false → (x && y) ≡ false
     second_false true y e = e
     second_false false y e = refl
 
-pub take-trimmed : (bytes : List ℕ) (n : ℕ) → n ≤ length bytes → ((k : ℕ) → n ≤ k → k < length bytes → is_space (get_or bytes k 0) ≡ true)
-    → ((m : ℕ) → n ≡ suc m → is_space (get_or bytes m 0) ≡ false) → take n bytes ≡ trimmed bytes
+take-trimmed : (bytes : List ℕ) (n : ℕ) → n ≤ length bytes → ((k : ℕ) → n ≤ k → k < length bytes → is_ascii_whitespace (get_or bytes k 0) ≡ true)
+    → ((m : ℕ) → n ≡ suc m → is_ascii_whitespace (get_or bytes m 0) ≡ false) → take n bytes ≡ trimmed bytes
 unfolding trimmed
 take-trimmed [] zero h spaces last = refl
 take-trimmed [] (suc n) h spaces last = absurd (omega arith)
@@ -140,10 +142,18 @@ take-trimmed (b ∷ bytes) (suc n) h spaces last =
     take-trimmed bytes n (omega arith) (λ k a l. spaces (suc k) (omega arith) (omega arith)) (λ m e. last (suc m) (omega arith)) in
     rw (not_all_spaces (b ∷ bytes) n l (last n refl), ← rest) refl
 
-pub trimmed-spaceless : (bytes : List ℕ) → ((k : ℕ) → k < length bytes → is_space (get_or bytes k 0) ≡ false) → trimmed bytes ≡ bytes
+-- what std trims is the text without the white space at its end
+pub trimmed-std : (bytes text : List ℕ) → IsTrimAsciiEnd bytes text → text ≡ trimmed bytes
+trimmed-std bytes text is =
+    let n = is.0 in
+    is.1 ∙ take-trimmed bytes n is.3 is.4
+    (λ m e. let same : n - 1 ≡ m = omega arith in
+    subst (λ (k : ℕ). is_ascii_whitespace (get_or bytes k 0) ≡ false) same (is.5 (omega arith)))
+
+pub trimmed-spaceless : (bytes : List ℕ) → ((k : ℕ) → k < length bytes → is_ascii_whitespace (get_or bytes k 0) ≡ false) → trimmed bytes ≡ bytes
 unfolding trimmed
 trimmed-spaceless [] h = refl
 trimmed-spaceless (b ∷ bytes) h =
-    let first : is_space b ≡ false = h 0 (omega arith) in
+    let first : is_ascii_whitespace b ≡ false = h 0 (omega arith) in
     let rest : trimmed bytes ≡ bytes = trimmed-spaceless bytes (λ k l. h (suc k) (omega arith)) in
-    rw (both_false (is_space b) (list_all is_space bytes) first, rest) refl
+    rw (both_false (is_ascii_whitespace b) (list_all is_ascii_whitespace bytes) first, rest) refl

@@ -5,7 +5,8 @@ use Rattle.std.specs.Option.{ok_or}
 use Rattle.serde_json.specs.Data.{Data}
 use Rattle.siv_mode.specs.Keys.{KeyPair}
 use Rattle.vault_config.specs.Token.{Token, trimmed, pieces_of, decoded, decoded_object, token_of_pieces, token_of}
-use Rattle.vault_config.specs.Config.{too_long, not_token, result_and_then, token_checked, config_of}
+use Rattle.json_members.specs.Steps.{result_and_then}
+use Rattle.vault_config.specs.Config.{too_long, not_token, token_checked, config_of}
 
 pub token_of-pieces : (bytes text : List ℕ) (pieces : List (List ℕ)) → text ≡ trimmed bytes → pieces_of text ≡ pieces → token_of bytes ≡ token_of_pieces pieces
 unfolding token_of

@@ -4,7 +4,8 @@ use Rattle.std.proofs.lemmas.List.{append-nil}
 use Rattle.std.specs.List.{list_all}
 use Rattle.base64.specs.Rfc4648.{encode_symbols}
 use Rattle.base64.specs.Engines.{url_safe_no_pad}
-use Rattle.vault_config.specs.Token.{is_space, pieces_of}
+use Rattle.std.specs.Char.{is_ascii_whitespace}
+use Rattle.vault_config.specs.Token.{pieces_of}
 use Rattle.vault_config.specs.Config.{piece_of}
 
 -- the symbols
@@ -13,7 +14,7 @@ symbols = url_safe_no_pad.encode_table
 
 -- neither white space nor a dot
 abbrev pub is_plain : ℕ → Bool
-is_plain b = not (is_space b) && not (b == 46)
+is_plain b = not (is_ascii_whitespace b) && not (b == 46)
 
 both : (x y : Bool) → x ≡ true → y ≡ true → (x && y) ≡ true
 both true y h k = k
@@ -64,7 +65,7 @@ not_true true h = cc
 not_true false h = refl
 
 no_dot : (b : ℕ) (bytes : List ℕ) → list_all is_plain (b ∷ bytes) ≡ true → (b == 46) ≡ false
-no_dot b bytes h = not_true (b == 46) (parts (not (is_space b)) (not (b == 46)) (parts (is_plain b) (list_all is_plain bytes) h).0).1
+no_dot b bytes h = not_true (b == 46) (parts (not (is_ascii_whitespace b)) (not (b == 46)) (parts (is_plain b) (list_all is_plain bytes) h).0).1
 
 pub pieces_of-joined : (piece bytes : List ℕ) → list_all is_plain piece ≡ true → pieces_of (piece ++ 46 ∷ bytes) ≡ piece ∷ pieces_of bytes
 unfolding pieces_of
@@ -80,9 +81,9 @@ pieces_of-plain (b ∷ piece) h = rw (no_dot b piece h, pieces_of-plain piece (p
 -- ---- white space
 
 abbrev pub IsSpaceless : List ℕ → Type 0
-IsSpaceless bytes = (k : ℕ) → k < length bytes → is_space (get_or bytes k 0) ≡ false
+IsSpaceless bytes = (k : ℕ) → k < length bytes → is_ascii_whitespace (get_or bytes k 0) ≡ false
 
-spaceless-cons : (b : ℕ) (bytes : List ℕ) → is_space b ≡ false → IsSpaceless bytes → IsSpaceless (b ∷ bytes)
+spaceless-cons : (b : ℕ) (bytes : List ℕ) → is_ascii_whitespace b ≡ false → IsSpaceless bytes → IsSpaceless (b ∷ bytes)
 spaceless-cons b bytes h rest zero l = h
 spaceless-cons b bytes h rest (suc k) l = rest k (omega arith)
 
@@ -93,7 +94,7 @@ pub spaceless-plain : (bytes : List ℕ) → list_all is_plain bytes ≡ true �
 spaceless-plain [] h = λ k l. absurd (omega arith)
 spaceless-plain (b ∷ bytes) h =
     let p = parts (is_plain b) (list_all is_plain bytes) h in
-    spaceless-cons b bytes (not_true (is_space b) (parts (not (is_space b)) (not (b == 46)) p.0).0) (spaceless-plain bytes p.1)
+    spaceless-cons b bytes (not_true (is_ascii_whitespace b) (parts (not (is_ascii_whitespace b)) (not (b == 46)) p.0).0) (spaceless-plain bytes p.1)
 
 pub spaceless-joined : (front back : List ℕ) → IsSpaceless front → IsSpaceless back → IsSpaceless (front ++ 46 ∷ back)
 spaceless-joined [] back f h = spaceless-cons 46 back refl h

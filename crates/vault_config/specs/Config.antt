@@ -1,5 +1,5 @@
 -- The signed configuration of a vault (Cryptomator's vault format 8, `vault.cryptomator`).
-use Rattle.std.specs.Prelude.{ℕ, List, ◌∷◌, ◌++◌, length, Bool, false, ◌&&◌, not, Option, Some, None, option_and_then, Result, Ok, Err, codes, ◌==◌, nat_lt, nat_le, if◌then◌else◌}
+use Rattle.std.specs.Prelude.{ℕ, List, ◌∷◌, ◌++◌, length, Bool, false, ◌&&◌, not, Option, Some, None, option_and_then, Result, Ok, Err, codes, decimal, ◌==◌, nat_lt, nat_le, if◌then◌else◌}
 use Rattle.std.specs.Option.{option_map_or, ok_or}
 use Rattle.std.specs.Str.{bytes_eq}
 use Rattle.base64.specs.GeneralPurpose.{encode_of}
@@ -12,7 +12,21 @@ use Rattle.uuid.specs.declared.Version.TheVariants.{Random}
 use Rattle.uuid.specs.declared.Variant.TheVariants.{RFC4122}
 use Rattle.siv_mode.specs.Keys.{KeyPair}
 use Rattle.json_members.specs.Members.{text_at, integer_at}
+use Rattle.json_members.specs.Steps.{result_and_then}
+use Rattle.json_members.specs.declared.TheConstants.{FILE_LIMIT}
+use Rattle.vault_config.specs.declared.claims.TheConstants.{MAX_THRESHOLD}
 use Rattle.vault_config.specs.Token.{Token, token_of, Algorithm, hs256, algorithm_of, signature_of}
+
+-- the claims that are looked at
+pub data Claim : Type 0 where
+  format : Claim
+  cipher_combo : Claim
+  shortening_threshold : Claim
+
+abbrev pub name_of : Claim → List ℕ
+name_of format = codes "format"
+name_of cipher_combo = codes "cipherCombo"
+name_of shortening_threshold = codes "shorteningThreshold"
 
 -- why a configuration isn't accepted
 pub data Fault : Type 0 where
@@ -21,20 +35,20 @@ pub data Fault : Type 0 where
   algorithm : Fault
   kid : Fault
   bad_signature : Fault
-  no_format : Fault
+  bad_claim : Claim → Fault
   other_format : ℕ → Fault
-  no_combo : Fault
   other_combo : Fault
-  no_threshold : Fault
 
--- what follows a step that went well
-abbrev pub result_and_then : {T U E : Type 0} → (T → Result U E) → Result T E → Result U E
-result_and_then f (Ok x) = f x
-result_and_then f (Err e) = Err e
-
--- the longest file, in bytes
-abbrev pub file_limit : ℕ
-file_limit = 65536
+-- a fault as the report has it
+abbrev pub fault_text : Fault → List ℕ
+fault_text (too_long n) = codes "too long " ++ decimal n
+fault_text not_token = codes "not a token"
+fault_text algorithm = codes "algorithm"
+fault_text kid = codes "kid"
+fault_text bad_signature = codes "signature"
+fault_text (bad_claim c) = codes "claim " ++ name_of c
+fault_text (other_format n) = codes "format " ++ decimal n
+fault_text other_combo = codes "combo"
 
 abbrev pub key_id : List ℕ
 key_id = codes "masterkeyfile:masterkey.cryptomator"
@@ -50,19 +64,19 @@ abbrev pub has_text : List ℕ → List ℕ → Data → Bool
 has_text name text value = option_map_or (λ t. bytes_eq t text) (text_at name value) false
 
 abbrev pub in_range : ℕ → Option ℕ
-in_range n = if nat_lt 0 n && nat_le n 250 then Some n else None
+in_range n = if nat_lt 0 n && nat_le n MAX_THRESHOLD then Some n else None
 
 -- the claims, in the order of their tests: the format, the combination, the threshold from 1 to 250 characters
 abbrev pub threshold_of : Data → Result ℕ Fault
-threshold_of claims = ok_or (option_and_then in_range (integer_at (codes "shorteningThreshold") claims)) no_threshold
+threshold_of claims = ok_or (option_and_then in_range (integer_at (name_of shortening_threshold) claims)) (bad_claim shortening_threshold)
 
 abbrev pub combo_checked : Data → Result ℕ Fault
 combo_checked claims =
-    result_and_then (λ c. if bytes_eq c combo then threshold_of claims else Err other_combo) (ok_or (text_at (codes "cipherCombo") claims) no_combo)
+    result_and_then (λ c. if bytes_eq c combo then threshold_of claims else Err other_combo) (ok_or (text_at (name_of cipher_combo) claims) (bad_claim cipher_combo))
 
 abbrev pub claims_checked : Data → Result ℕ Fault
 claims_checked claims =
-    result_and_then (λ n. if n == 8 then combo_checked claims else Err (other_format n)) (ok_or (integer_at (codes "format") claims) no_format)
+    result_and_then (λ n. if n == 8 then combo_checked claims else Err (other_format n)) (ok_or (integer_at (name_of format) claims) (bad_claim format))
 
 -- the signature is that of the text as it came, and is looked at before any claim
 abbrev pub signature_checked : KeyPair → Token → Algorithm → Result ℕ Fault
@@ -77,7 +91,7 @@ token_checked keys token = result_and_then (signature_checked keys token) (ok_or
 -- the threshold of the configuration that bytes are, signed by these keys
 unfoldable pub config_of : KeyPair → List ℕ → Result ℕ Fault
 config_of keys bytes =
-    if nat_lt file_limit (length bytes) then Err (too_long (length bytes))
+    if nat_lt FILE_LIMIT (length bytes) then Err (too_long (length bytes))
     else result_and_then (token_checked keys) (ok_or (token_of bytes) not_token)
 
 -- ---- what is written

@@ -1,9 +1,10 @@
 -- A JSON Web Token in compact form (RFC 7519; RFC 7515, section 7.1): header, payload and signature, each in base64url without padding
 -- (RFC 4648, section 5), with dots between them.
-use Rattle.std.specs.Prelude.{ℕ, List, [], ◌∷◌, ◌++◌, Bool, ◌||◌, Option, Some, None, option_and_then, option_map, codes, ◌==◌, if◌then◌else◌}
+use Rattle.std.specs.Prelude.{ℕ, List, [], ◌∷◌, ◌++◌, Option, Some, None, option_and_then, option_map, codes, ◌==◌, if◌then◌else◌}
 use Rattle.std.specs.Result.{result_ok}
 use Rattle.std.specs.List.{list_all}
 use Rattle.std.specs.Str.{bytes_eq}
+use Rattle.std.specs.Char.{is_ascii_whitespace}
 use Rattle.base64.specs.GeneralPurpose.{decode_of}
 use Rattle.base64.specs.Engines.{url_safe_no_pad}
 use Rattle.sha2.specs.Sha256.{sha256}
@@ -12,14 +13,10 @@ use Rattle.serde_json.specs.Data.{Data}
 use Rattle.hmac_sha.specs.Hmac.{hmac}
 use Rattle.json_members.specs.Members.{object_of, text_at}
 
--- ASCII white space: tab, line feed, form feed, carriage return, space
-abbrev pub is_space : ℕ → Bool
-is_space b = (b == 9) || (b == 10) || (b == 12) || (b == 13) || (b == 32)
-
--- without the white space at the end
+-- without the ASCII white space at the end: tab, line feed, form feed, carriage return, space
 unfoldable pub trimmed : List ℕ → List ℕ
 trimmed [] = []
-trimmed (b ∷ bytes) = if list_all is_space (b ∷ bytes) then [] else b ∷ trimmed bytes
+trimmed (b ∷ bytes) = if list_all is_ascii_whitespace (b ∷ bytes) then [] else b ∷ trimmed bytes
 
 -- the pieces between the dots
 abbrev pub onto_first : ℕ → List (List ℕ) → List (List ℕ)

@@ -10,11 +10,14 @@ pub(crate) const FORMAT: u64 = 8;
 
 pub(crate) const COMBO: &str = "SIV_GCM";
 
+/// The highest threshold, in characters: a sealed name of the host may have no more.
+pub const MAX_THRESHOLD: u32 = 250;
+
 // The threshold that claims say, tested in the order format, combination, threshold.
 pub(crate) fn check_claims(claims: &Object) -> Result<u32, ConfigErr>
     ensures { MatchResult result (λ n. claims_checked claims.now ≡ Ok n) (λ e. IsFault e (claims_checked claims.now)) }
 {
-    match claims.integer("format") {
+    match claims.integer(ClaimName::Format.json_name()) {
         Some(FORMAT) => check_combo(claims),
         Some(format) => Err(ConfigErr::Format(format)),
         None => Err(ConfigErr::Claim(ClaimName::Format)),
@@ -25,7 +28,7 @@ pub(crate) fn check_claims(claims: &Object) -> Result<u32, ConfigErr>
 fn check_combo(claims: &Object) -> Result<u32, ConfigErr>
     ensures { MatchResult result (λ n. combo_checked claims.now ≡ Ok n) (λ e. IsFault e (combo_checked claims.now)) }
 {
-    match claims.text("cipherCombo") {
+    match claims.text(ClaimName::CipherCombo.json_name()) {
         Some(combo) if combo == COMBO => threshold_of(claims),
         Some(_) => Err(ConfigErr::Combo),
         None => Err(ConfigErr::Claim(ClaimName::CipherCombo)),
@@ -36,7 +39,7 @@ fn check_combo(claims: &Object) -> Result<u32, ConfigErr>
 fn threshold_of(claims: &Object) -> Result<u32, ConfigErr>
     ensures { MatchResult result (λ n. threshold_of claims.now ≡ Ok n) (λ e. IsFault e (threshold_of claims.now)) }
 {
-    match claims.integer("shorteningThreshold") {
+    match claims.integer(ClaimName::ShorteningThreshold.json_name()) {
         Some(threshold @ 1..=250) => Ok(threshold as u32),
         _ => Err(ConfigErr::Claim(ClaimName::ShorteningThreshold)),
     }

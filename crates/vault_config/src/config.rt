@@ -1,69 +1,83 @@
-ghost use Rattle.std.specs.Prelude.{◌≡◌, codes, IfOk, IfErr, Ok, MatchResult};
+ghost use Rattle.std.specs.Prelude.{◌≡◌, ◌≤◌, codes, IfOk, IfErr, Ok, MatchResult};
 ghost use Rattle.std.specs.Option.{ok_or};
-ghost use Rattle.vault_config.specs.Config.{config_of, key_id, has_text, result_and_then, signature_checked, signing_key, token_checked, not_token};
+ghost use Rattle.json_members.specs.Steps.{result_and_then};
+ghost use Rattle.vault_config.specs.Config.{config_of, key_id, has_text, name_of, signature_checked, signing_key, token_checked, not_token};
 ghost use Rattle.vault_config.specs.Token.{token_of};
-ghost use Rattle.vault_config.specs.Faults.{IsFault};
+ghost use Rattle.vault_config.specs.Faults.{IsFault, claim_of};
 ghost use Rattle.vault_config.specs.Algorithms.{algorithm_data};
 
-use crate::claims::check_claims;
+use crate::claims::{MAX_THRESHOLD, check_claims};
 use crate::token::{
-    Algorithm, Pieces, algorithm_of, decoded, decoded_object, is_signature, three_pieces, trimmed,
+    Algorithm, Pieces, algorithm_of, decoded, decoded_object, is_signature, three_pieces,
 };
-use json_members::Object;
+use json_members::{FILE_LIMIT, Object};
 use siv_mode::VaultKeys;
 use std::alloc::{AllocError, Global};
-use thiserror::Error;
-
-// The longest file, in bytes.
-const FILE_LIMIT: usize = 65536;
+use std::error::Error;
+use std::fmt;
 
 // The name by which the header says that the key is the one in the file beside this one.
 pub(crate) const KEY_ID: &str = "masterkeyfile:masterkey.cryptomator";
 
-/// The claims of a configuration.
-#[derive(Clone, Copy, Debug, PartialEq, Eq, Error)]
+/// A claim of a configuration. It is shown as its name in JSON.
+#[derive(Clone, Copy, Debug, PartialEq, Eq)]
 pub enum ClaimName {
     /// The vault format.
-    #[error("format")]
     Format,
     /// The ciphers of names and contents.
-    #[error("cipherCombo")]
     CipherCombo,
     /// The longest sealed name that isn't shortened.
-    #[error("shorteningThreshold")]
     ShorteningThreshold,
 }
 
+impl ClaimName {
+    // The name in JSON.
+    pub(crate) fn json_name(self) -> &'static str
+        ensures { result.now ≡ name_of (claim_of self) }
+    {
+        match self {
+            ClaimName::Format => "format",
+            ClaimName::CipherCombo => "cipherCombo",
+            ClaimName::ShorteningThreshold => "shorteningThreshold",
+        }
+    }
+}
+
+impl fmt::Display for ClaimName {
+    ghost use Rattle.std.specs.Prelude.{Some};
+    ghost use Rattle.vault_config.specs.Config.{name_of};
+    ghost use Rattle.vault_config.specs.Faults.{claim_of};
+
+    ghost output = { λ name. Some (name_of (claim_of name)) };
+
+    fn fmt<W: fmt::Write>(&self, f: &mut fmt::Formatter<W>) -> fmt::Result {
+        f.write_str(self.json_name())
+    }
+}
+
 /// Why a configuration isn't accepted. The tests are made in this order.
-#[derive(Clone, Copy, Debug, PartialEq, Eq, Error)]
+#[derive(Clone, Copy, Debug, PartialEq, Eq)]
 pub enum ConfigErr {
     /// The file has more than 65,536 bytes: this many.
-    #[error("too long {0}")]
     TooLong(usize),
     /// The file is no JSON Web Token in compact form (RFC 7519; RFC 7515, section 7.1): it hasn't three pieces, a piece is no
-    /// base64url without padding (RFC 4648, section 5), or the header or the payload is no JSON object.
-    #[error("not a token")]
+    /// base64url without padding (RFC 4648, section 5), or the header or the payload is no JSON object, has a number past
+    /// binary64 or an unpaired surrogate somewhere, or nests more than 127 deep.
     NotToken,
     /// The header's `alg` is absent, or none of HS256, HS384 and HS512 (RFC 7518, section 3.2).
-    #[error("algorithm")]
     Algorithm,
     /// The header's `kid` (RFC 7515, section 4.1.4) is absent, or isn't that of the masterkey file.
-    #[error("kid")]
     Kid,
     /// The signature isn't that of the text under these keys (RFC 7515, section 5.2).
-    #[error("signature")]
     BadSignature,
-    /// A claim is absent or of another type, or the threshold is out of range.
-    #[error("claim {0}")]
+    /// This claim is absent or of another type, or the threshold isn't from 1 to 250. The format and the threshold are integers from
+    /// 0 to 2^64 - 1; a number with a fraction or an exponent is rounded to the nearest binary64 first.
     Claim(ClaimName),
     /// The vault format is another than 8: this.
-    #[error("format {0}")]
     Format(u64),
     /// The cipher combination is another than SIV_GCM.
-    #[error("combo")]
     Combo,
     /// Memory ran out, which says nothing of the configuration.
-    #[error("out of memory")]
     Memory,
 }
 
@@ -78,6 +92,29 @@ impl From<AllocError> for ConfigErr {
     }
 }
 
+impl fmt::Display for ConfigErr {
+    ghost use Rattle.std.specs.Prelude.{Some};
+    ghost use Rattle.vault_config.specs.Faults.{error_text};
+
+    ghost output = { λ e. Some (error_text e) };
+
+    fn fmt<W: fmt::Write>(&self, f: &mut fmt::Formatter<W>) -> fmt::Result {
+        match self {
+            ConfigErr::TooLong(length) => write!(f, "too long {length}"),
+            ConfigErr::NotToken => f.write_str("not a token"),
+            ConfigErr::Algorithm => f.write_str("algorithm"),
+            ConfigErr::Kid => f.write_str("kid"),
+            ConfigErr::BadSignature => f.write_str("signature"),
+            ConfigErr::Claim(name) => write!(f, "claim {name}"),
+            ConfigErr::Format(format) => write!(f, "format {format}"),
+            ConfigErr::Combo => f.write_str("combo"),
+            ConfigErr::Memory => f.write_str("out of memory"),
+        }
+    }
+}
+
+impl Error for ConfigErr {}
+
 /// What a vault's configuration says.
 #[derive(Clone, Copy, Debug, PartialEq, Eq)]
 pub struct Config {
@@ -86,10 +123,11 @@ pub struct Config {
 }
 
 /// Reads the configuration of the vault with these keys: a JSON Web Token in compact form (RFC 7519), signed by HMAC under
-/// both keys, the encryption key first. White space at the end, other header fields and other claims are ignored. No claim
-/// is looked at before the signature. `ConfigErr` tells each error's cause, in the order of the tests.
+/// both keys, the encryption key first. ASCII white space at the end (tab, LF, FF, CR, space), other header fields (`crit` too) and
+/// other claims (`exp` and `nbf` too) are ignored. No claim is looked at before the signature. `ConfigErr` tells each error's cause, in the order of the tests.
 pub fn read(alloc: Global, bytes: &[u8], keys: &VaultKeys) -> Result<Config, ConfigErr>
     ensures config { IfOk result (λ c. config_of keys.now bytes.now ≡ Ok c.threshold) }
+    ensures range { IfOk result (λ c. (1 ≤ c.threshold) × (c.threshold ≤ MAX_THRESHOLD)) }
     ensures fault { IfErr result (λ e. IsFault e (config_of keys.now bytes.now)) }
 {
     if bytes.len() > FILE_LIMIT {
@@ -104,7 +142,7 @@ fn read_token(alloc: Global, bytes: &[u8], keys: &VaultKeys) -> Result<u32, Conf
     ensures { let checked = result_and_then (token_checked keys.now) (ok_or (token_of bytes.now) not_token) in
         MatchResult result (λ n. checked ≡ Ok n) (λ e. IsFault e checked) }
 {
-    let Some(pieces) = three_pieces(trimmed(bytes)) else {
+    let Some(pieces) = three_pieces(bytes.trim_ascii_end()) else {
         return Err(ConfigErr::NotToken);
     };
     let Some(header) = decoded_object(alloc, pieces.header)? else {

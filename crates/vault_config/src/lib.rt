@@ -1,12 +1,21 @@
 //! The signed configuration of a vault, `vault.cryptomator` (Cryptomator's vault format 8).
+//!
+//! ```
+//! let token = write(alloc, &keys, 220, &jti)?;
+//! let config = read(alloc, &token, &keys)?;
+//! assert_eq!(config.threshold, 220);
+//! ```
+//!
+//! Not promised: constant time, and that keys are wiped from memory.
 #![tactic(auto)]
 
 mod claims;
 mod config;
-#[cfg(test)]
-mod tests;
+mod laws;
 mod token;
 mod written;
 
+pub use claims::MAX_THRESHOLD;
 pub use config::{ClaimName, Config, ConfigErr, read};
+pub use laws::a_long_file_is_too_long;
 pub use written::write;

@@ -2,7 +2,7 @@ ghost use Rattle.std.specs.Prelude.{◌≡◌, [], ◌∷◌, ◌++◌, ◌==◌
 ghost use Rattle.std.specs.List.{position};
 ghost use Rattle.std.specs.Str.{bytes_eq};
 ghost use Rattle.json_members.specs.Members.{text_at};
-ghost use Rattle.vault_config.specs.Token.{is_space, trimmed, pieces_of, token_of_pieces, decoded, decoded_object, algorithm_named, signature_of};
+ghost use Rattle.vault_config.specs.Token.{pieces_of, token_of_pieces, decoded, decoded_object, algorithm_named, signature_of};
 ghost use Rattle.vault_config.specs.Algorithms.{algorithm_data};
 
 use base64::DecodeAllocError;
@@ -26,23 +26,6 @@ pub(crate) struct Pieces<'a> {
     pub(crate) header: &'a [u8],
     pub(crate) payload: &'a [u8],
     pub(crate) signature: &'a [u8],
-}
-
-// The bytes without the ASCII white space at the end.
-pub(crate) fn trimmed(bytes: &[u8]) -> &[u8]
-    ensures { result.now ≡ trimmed bytes.now }
-{
-    let mut end = bytes.len();
-    while end > 0 && is_space(bytes[end - 1]) {
-        end -= 1;
-    }
-    &bytes[..end]
-}
-
-fn is_space(byte: u8) -> bool
-    ensures { result ≡ is_space byte }
-{
-    matches!(byte, b'\t' | b'\n' | b'\x0c' | b'\r' | b' ')
 }
 
 // The pieces of bytes that have three with dots between them.

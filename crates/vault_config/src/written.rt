@@ -8,7 +8,7 @@ ghost use Rattle.json_members.specs.Members.{only_object};
 ghost use Rattle.vault_config.specs.Token.{decoded, decoded_object, hs256, signature_of};
 ghost use Rattle.vault_config.specs.Config.{config_file, config_of, identifier_of, piece_of, signed_text, signing_key, written_header, written_claims};
 
-use crate::claims::{COMBO, FORMAT};
+use crate::claims::{COMBO, FORMAT, MAX_THRESHOLD};
 use crate::config::{KEY_ID, signing_key};
 use base64::engine::general_purpose::URL_SAFE_NO_PAD;
 use hmac_sha::hmac256;
@@ -25,7 +25,7 @@ pub fn write(
     threshold: u32,
     jti: &[u8; 16],
 ) -> Result<Vec<u8>, AllocError>
-    requires { (1 ≤ threshold) × (threshold ≤ 250) }
+    requires { (1 ≤ threshold) × (threshold ≤ MAX_THRESHOLD) }
     ensures bytes { IfOk result (λ v. v.items ≡ config_file keys.now threshold (identifier_of jti.now)) }
     ensures reads_back { IfOk result (λ v. config_of keys.now v.items ≡ Ok threshold) }
 {

@@ -12,5 +12,5 @@ returns-in_default-clause-bad c = λ _. password_of-not_utf8 c.args.secret.now c
 
 pub returns-clause-password : goal.returns-clause-password
 returns-clause-password c =
-    password_of-text c.args.secret.now c.first_line-line.result.now c.in-Ok.text.now (string_bytes c.in_ok-normalized.field-0) c.first_line-line.ensures
-    (sym c.is_of_good_length.ensures ∙ c.if-not-is_of_good_length.false) c.in-Ok.ensures.cases.1 c.in-Ok.ensures.cases.0 c.in_ok-normalized.ensures
+    password_of-text c.args.secret.now c.first_line-line.result.now c.in-Ok.text.now (string_bytes c.in_ok-nfc.field-0) c.first_line-line.ensures
+    (sym c.is_of_good_length.ensures ∙ c.if-not-is_of_good_length.false) c.in-Ok.ensures.cases.1 c.in-Ok.ensures.cases.0 c.in_ok-nfc.ensures

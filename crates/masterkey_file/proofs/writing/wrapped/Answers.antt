@@ -4,5 +4,5 @@ use Rattle.masterkey_file.proofs.writing.wrapped.Goals as goal
 
 pub returns-clause-opens : goal.returns-clause-opens
 returns-clause-opens c =
-    c.unwrapping_undoes_wrapping.ensures c.args.kek.now c.args.key.now c.told-kek (AreBytes-each c.args.kek.now (λ i. omega (arith, c.fits-kek i)))
+    c.unwrapping_is_exact.ensures.undone c.args.kek.now c.args.key.now c.told-kek (AreBytes-each c.args.kek.now (λ i. omega (arith, c.fits-kek i)))
     c.told-key (AreBytes-each c.args.key.now (λ i. omega (arith, c.fits-key i)))

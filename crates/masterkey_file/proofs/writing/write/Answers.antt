@@ -6,7 +6,7 @@ use Rattle.base64.specs.Engines.{standard}
 use Rattle.serde_json.specs.Data.{Data, depth}
 use Rattle.serde_json.specs.View.{view}
 use Rattle.serde_json.specs.Written.{compact_text, has_float}
-use Rattle.masterkey_file.proofs.ReadsBack.{IsWrapped-from, OpensTo-texts, key_file-texts, object_of-texts}
+use Rattle.masterkey_file.proofs.ReadsBack.{IsWrapped-from, keys_of-texts, key_file-texts, object_of-texts}
 use Rattle.masterkey_file.proofs.writing.write.Goals as goal
 
 pub returns-clause-bytes : goal.returns-clause-bytes
@@ -39,7 +39,7 @@ returns-clause-reads_back c =
     let no_float = ap has_float c.in_ok-value.ensures in
     let shallow = subst (λ (d : Data). depth d ≤ 127) (sym c.in_ok-value.ensures) (lit≤ tt) in
     let items = ap (λ (v : Vec ℕ Global). v.items) c.into_bytes.ensures.value in
-    OpensTo-texts keys c.args.password.now c.args.salt.now kek c.into_bytes.result.items c.deref.result.now c.deref-2.result.now c.deref-3.result.now
+    keys_of-texts keys c.args.password.now c.args.salt.now kek c.into_bytes.result.items c.deref.result.now c.deref-2.result.now c.deref-3.result.now
     c.deref-4.result.now c.in_ok-kek.ensures mac enc (c.deref-3.ensures ∙ c.in_ok-salt.ensures.text)
     (ap (decode_of standard) c.deref-3.ensures ∙ c.in_ok-salt.ensures.round_trip refl) c.told-salt version c.version_mac.ensures.long
     (items ∙ c.in_ok-text.ensures.text no_float ∙ ap compact_text c.in_ok-value.ensures)

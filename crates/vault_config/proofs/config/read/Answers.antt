@@ -1,5 +1,6 @@
 use Rattle.std.proofs.Common.{◌∙◌}
 use Rattle.std.proofs.lemmas.Result.{err_from_is_err_and}
+use Rattle.vault_config.proofs.Ranges.{config_of-range}
 use Rattle.vault_config.proofs.Reading.{config_of-long, config_of-short}
 use Rattle.vault_config.proofs.config.read.Goals as goal
 
@@ -14,3 +15,8 @@ returns-in_err-threshold-clause-fault c =
 
 pub returns-clause-config : goal.returns-clause-config
 returns-clause-config c = config_of-short c.args.keys.now c.args.bytes.now c.if-bytes-gt-FILE_LIMIT.false ∙ c.in_ok-threshold.ensures
+
+pub returns-clause-range : goal.returns-clause-range
+returns-clause-range c =
+    config_of-range c.args.keys.now c.args.bytes.now c.in_ok-threshold.threshold
+    (config_of-short c.args.keys.now c.args.bytes.now c.if-bytes-gt-FILE_LIMIT.false ∙ c.in_ok-threshold.ensures)

@@ -1,0 +1,3 @@
+pub mod Unlock
+pub mod Errors
+pub mod Found

@@ -1,0 +1,4 @@
+pub mod Numbers
+pub mod Command
+pub mod Jobs
+pub mod Read
