@@ -1,0 +1,45 @@
+-- Why a step failed, and when it can be made.
+use Rattle.std.proofs.Common.{◌≡◌, ◌⊎◌, ℕ, ◌≤◌, List, Option, Some, None, Err, refl, inl, inr, arith}
+use Rattle.std.specs.Prelude.{IsErrOf, IsNone}
+use Rattle.outside.specs.declared.folder.FolderErr.{FolderErr}
+use Rattle.outside.specs.declared.folder.FolderErr.TheVariants as errors
+use Rattle.outside.specs.Calls.{HasCause, Rose, Told, IsUnfit}
+use Rattle.outside.specs.Disk.{Disk, Node, folder, file, node_at}
+use Rattle.outside.specs.Images.{Log}
+use Rattle.outside.specs.Changes.{IsFree}
+use Rattle.chunk_journal.specs.Journal.{journal_file, IsClosed}
+
+-- what can be done is unfit only where nothing is told
+pub fit_rose : (log : Option Log) (a b : ℕ) (P : Log → Type 0) → Told log P → IsUnfit log a b P → Rose a b
+fit_rose None a b P can unfit = unfit
+fit_rose (Some l) a b P can unfit = absurd (unfit can)
+
+-- a step that could be made failed only where the count rose
+pub err_cause : {T : Type 0} (error : FolderErr) (log : Option Log) (a b : ℕ) (P : Log → Type 0) (F : Type 0) → Told log P
+    → HasCause a b (IsErrOf {T = T} (Err error) errors.Failed) → (IsErrOf {T = T} (Err error) errors.Unfit → IsUnfit log a b P) → (IsErrOf {T = T} (Err error) errors.Memory → ⊥) → HasCause a b F
+err_cause errors.Failed log a b P F can cause unfit memory = record { later = cause.later; rose = λ _. cause.rose refl }
+err_cause errors.Unfit log a b P F can cause unfit memory = record { later = cause.later; rose = λ _. fit_rose log a b P can (unfit refl) }
+err_cause errors.Memory log a b P F can cause unfit memory = absurd (memory refl)
+
+pub sync_cause : {T : Type 0} (error : FolderErr) (a b : ℕ) (F : Type 0) → HasCause a b (IsErrOf {T = T} (Err error) errors.Failed) → (IsErrOf {T = T} (Err error) errors.Unfit → ⊥) → (IsErrOf {T = T} (Err error) errors.Memory → ⊥) → HasCause a b F
+sync_cause errors.Failed a b F cause unfit memory = record { later = cause.later; rose = λ _. cause.rose refl }
+sync_cause errors.Unfit a b F cause unfit memory = absurd (unfit refl)
+sync_cause errors.Memory a b F cause unfit memory = absurd (memory refl)
+
+pub rose_before : (a b c : ℕ) → a ≤ b → Rose b c → Rose a c
+rose_before a b c le (inl lt) = inl (omega arith)
+rose_before a b c le (inr end) = inr end
+
+pub cause_then : (a b c : ℕ) (F : Type 0) → a ≤ b → HasCause b c F → HasCause a c F
+cause_then a b c F le cause = record { later = omega (arith, cause.later); rose = λ failed. rose_before a b c le (cause.rose failed) }
+
+-- where no folder stands, a file can be put
+pub free_put : (o : Option Node) → (o ≡ Some folder → ⊥) → IsNone o ⊎ ((bytes : List ℕ) × (o ≡ Some (file bytes)))
+free_put None none = inl refl
+free_put (Some folder) none = absurd (none refl)
+free_put (Some (file bytes)) none = inr (bytes, refl)
+
+-- a closed journal is free to be moved over
+pub closed_free : (d : Disk) → IsClosed d → IsFree (node_at d journal_file)
+closed_free d (inl none) = inl none
+closed_free d (inr f) = inr (f.0, f.1)

@@ -1,0 +1,5 @@
+pub mod Gate
+pub mod FirstJournal
+pub mod Faults
+pub mod Pieces
+pub mod Commits

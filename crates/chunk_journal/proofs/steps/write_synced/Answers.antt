@@ -1,0 +1,46 @@
+use Rattle.std.proofs.Common.{◌≡◌, Option, sym, subst, arith}
+use Rattle.outside.specs.Calls.{Changes}
+use Rattle.outside.specs.Changes.{Write, CanDo, IsPartOf}
+use Rattle.outside.specs.Images.{Log, Synced, now, adds, IsSteady, HasKept, HasDone, HasBroken, LeavesOnly}
+use Rattle.outside.proofs.Told.{changed_from, told_through}
+use Rattle.outside.proofs.Steady.{kept, part_did, part_broke, part_synced, whole_part}
+use Rattle.chunk_journal.proofs.Faults.{err_cause, sync_cause, cause_then}
+use Rattle.chunk_journal.proofs.steps.write_synced.Goals as goal
+
+pub returns-clause-written : goal.returns-clause-written
+returns-clause-written g c =
+    let w = Write c.args.path.now c.args.at c.args.bytes.now in
+    told_through (g.D.Reads.log c.args.folder.now) (g.D.Reads.log c.write.new.self) (g.D.Reads.log c.sync.new.self) IsSteady (HasDone w) (λ mid new. new ≡ adds mid Synced) (HasKept w)
+    (λ old mid new steady did is. kept old mid new w steady did is) c.requires.steady c.in_ok-write.ensures.done c.in_ok-sync.ensures.synced
+
+pub returns-clause-any_moment : goal.returns-clause-any_moment
+returns-clause-any_moment g c =
+    let w = Write c.args.path.now c.args.at c.args.bytes.now in
+    told_through (g.D.Reads.log c.args.folder.now) (g.D.Reads.log c.write.new.self) (g.D.Reads.log c.sync.new.self) IsSteady (HasDone w) (λ mid new. new ≡ adds mid Synced) (λ old new. LeavesOnly old new (IsPartOf w (now old)))
+    (λ old mid new steady did is. part_synced old mid new w steady did is (whole_part w (now old) did.0)) c.requires.steady c.in_ok-write.ensures.done c.in_ok-sync.ensures.synced
+
+pub returns-in_err-write-clause-any_moment : goal.returns-in_err-write-clause-any_moment
+returns-in_err-write-clause-any_moment g c =
+    let w = Write c.args.path.now c.args.at c.args.bytes.now in
+    changed_from (g.D.Reads.log c.args.folder.now) (g.D.Reads.log c.write.new.self) IsSteady (HasBroken w) (λ old new. LeavesOnly old new (IsPartOf w (now old)))
+    (λ old new steady broke. part_broke old new w steady broke) c.requires.steady c.in_err-write.ensures.broken
+
+pub returns-in_err-sync-clause-any_moment : goal.returns-in_err-sync-clause-any_moment
+returns-in_err-sync-clause-any_moment g c =
+    let w = Write c.args.path.now c.args.at c.args.bytes.now in
+    subst (λ (o : Option Log). Changes (g.D.Reads.log c.args.folder.now) o (λ old new. LeavesOnly old new (IsPartOf w (now old)))) (sym c.in_err-sync.ensures.failed)
+    (changed_from (g.D.Reads.log c.args.folder.now) (g.D.Reads.log c.write.new.self) IsSteady (HasDone w) (λ old new. LeavesOnly old new (IsPartOf w (now old)))
+    (λ old new steady did. part_did old new w steady did) c.requires.steady c.in_ok-write.ensures.done)
+
+pub returns-in_err-write-clause-cause : goal.returns-in_err-write-clause-cause
+returns-in_err-write-clause-cause g c =
+    err_cause c.in_err-write.field-0.0 (g.D.Reads.log c.args.folder.now) (g.D.Reads.faults c.args.folder.now) (g.D.Reads.faults c.write.new.self) (λ log. CanDo (Write c.args.path.now c.args.at c.args.bytes.now) (now log)) _ c.requires.can
+    c.in_err-write.ensures.cause c.in_err-write.ensures.unfit c.in_err-write.ensures.no_memory
+
+pub returns-in_err-sync-clause-cause : goal.returns-in_err-sync-clause-cause
+returns-in_err-sync-clause-cause g c =
+    cause_then (g.D.Reads.faults c.args.folder.now) (g.D.Reads.faults c.write.new.self) (g.D.Reads.faults c.sync.new.self) _ c.in_ok-write.ensures.cause.later
+    (sync_cause c.in_err-sync.field-0.0 (g.D.Reads.faults c.write.new.self) (g.D.Reads.faults c.sync.new.self) _ c.in_err-sync.ensures.cause c.in_err-sync.ensures.fits c.in_err-sync.ensures.no_memory)
+
+pub returns-clause-cause : goal.returns-clause-cause
+returns-clause-cause g c = record { later = omega (arith, c.in_ok-write.ensures.cause.later, c.in_ok-sync.ensures.cause.later); rose = λ failed. absurd cc }

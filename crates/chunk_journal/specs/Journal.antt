@@ -1,0 +1,111 @@
+-- The journal of a folder, and what an image of it recovers to.
+use Rattle.std.specs.Prelude.{◌≡◌, ◌≢◌, ◌⊎◌, ℕ, List, [], ◌∷◌, ◌++◌, get_or, Some, None, refl}
+use Rattle.outside.specs.Disk.{Disk, Path, file, node_at, IsFolder}
+use Rattle.outside.specs.Images.{Log, now, LeavesOnly, IsSteady}
+use Rattle.deeds.specs.Deeds.{PlainDeed, DoesAll, AreApart, Unnamed, IsAlikeBut, in_order}
+use Rattle.deeds.specs.Grammar.{IsBatch, behind_gate}
+
+-- `served.journal`
+pub journal_name : List ℕ
+journal_name = 115 ∷ 101 ∷ 114 ∷ 118 ∷ 101 ∷ 100 ∷ 46 ∷ 106 ∷ 111 ∷ 117 ∷ 114 ∷ 110 ∷ 97 ∷ 108 ∷ []
+
+-- `served.journal.new`
+pub new_name : List ℕ
+new_name = 115 ∷ 101 ∷ 114 ∷ 118 ∷ 101 ∷ 100 ∷ 46 ∷ 106 ∷ 111 ∷ 117 ∷ 114 ∷ 110 ∷ 97 ∷ 108 ∷ 46 ∷ 110 ∷ 101 ∷ 119 ∷ []
+
+pub names_apart : new_name ≢ journal_name
+unfolding journal_name new_name
+names_apart e = cc
+
+abbrev pub journal_file : Path
+journal_file = journal_name ∷ []
+
+abbrev pub new_file : Path
+new_file = new_name ∷ []
+
+-- the bytes of the names are these, and both are paths
+pub journal_spelled : journal_name ≡ 115 ∷ 101 ∷ 114 ∷ 118 ∷ 101 ∷ 100 ∷ 46 ∷ 106 ∷ 111 ∷ 117 ∷ 114 ∷ 110 ∷ 97 ∷ 108 ∷ []
+unfolding journal_name
+journal_spelled = refl
+
+pub new_spelled : new_name ≡ 115 ∷ 101 ∷ 114 ∷ 118 ∷ 101 ∷ 100 ∷ 46 ∷ 106 ∷ 111 ∷ 117 ∷ 114 ∷ 110 ∷ 97 ∷ 108 ∷ 46 ∷ 110 ∷ 101 ∷ 119 ∷ []
+unfolding new_name
+new_spelled = refl
+
+-- ---- what an image recovers to
+
+-- there is no journal, or its gate isn't open
+abbrev pub IsClosed : Disk → Type 0
+IsClosed disk = (node_at disk journal_file ≡ None) ⊎ ((bytes : List ℕ) × (node_at disk journal_file ≡ Some (file bytes)) × (get_or bytes 0 0 ≢ 1))
+
+-- its gate is open before this batch; what follows is ignored
+abbrev pub HoldsBatch : Disk → List PlainDeed → Type 0
+HoldsBatch disk deeds = IsBatch deeds × (rest : List ℕ) × (node_at disk journal_file ≡ Some (file (1 ∷ behind_gate deeds ++ rest)))
+
+abbrev pub RecoversTo : Disk → Disk → Type 0
+RecoversTo image disk = (IsClosed image × (disk ≡ image)) ⊎ ((deeds : List PlainDeed) × HoldsBatch image deeds × DoesAll (in_order deeds) image disk)
+
+-- the same beside the journal's two files
+abbrev pub IsAlike : Disk → Disk → Type 0
+IsAlike a b = IsAlikeBut journal_file new_file a b
+
+-- an image recovers to what was before, or to what is after, and has no folder where the first journal is made
+abbrev pub IsBeforeOrAfter : Disk → Disk → Disk → Type 0
+IsBeforeOrAfter before after image = (disk : Disk) × RecoversTo image disk × (IsAlike before disk ⊎ IsAlike after disk) × (IsFolder image new_file → ⊥)
+
+-- all is on the disk, no journal is open, and no folder stands where the first one is made
+pub record IsQuiet (log : Log) : Type 0 where
+  pub steady : IsSteady log
+  pub closed : IsClosed (now log)
+  pub no_folder : IsFolder (now log) new_file → ⊥
+
+-- besides, the journal is there
+pub record IsReady (log : Log) : Type 0 where
+  pub steady : IsSteady log
+  pub gate : ℕ
+  pub rest : List ℕ
+  pub here : node_at (now log) journal_file ≡ Some (file (gate ∷ rest))
+  pub shut : gate ≢ 1
+  pub no_folder : IsFolder (now log) new_file → ⊥
+
+-- no path is named by two deeds, and none of the journal's by any
+pub record IsRepeatable (deeds : List PlainDeed) : Type 0 where
+  pub apart : AreApart deeds
+  pub beside_journal : Unnamed journal_file deeds
+  pub beside_new : Unnamed new_file deeds
+
+-- at each moment since, whatever the deeds leave in the end, an image recovers to what was before or to that
+abbrev pub AnyMoment : List PlainDeed → Log → Log → Type 0
+AnyMoment deeds old new = (after : Disk) → DoesAll (in_order deeds) (now old) after → LeavesOnly old new (IsBeforeOrAfter (now old) after)
+
+-- the deeds are done and on the disk, and the journal is quiet
+pub record HasCommitted (deeds : List PlainDeed) (old new : Log) : Type 0 where
+  pub at_rest : IsQuiet new
+  pub after : (after : Disk) → DoesAll (in_order deeds) (now old) after → IsAlike after (now new)
+
+-- ---- recovery
+
+-- an image recovers to this beside the journal's files, and has no folder where the first journal is made
+abbrev pub RecoversLike : Disk → Disk → Type 0
+RecoversLike after image = (disk : Disk) × RecoversTo image disk × IsAlike after disk × (IsFolder image new_file → ⊥)
+
+-- a journal with this batch was found open, and all is on the disk
+pub record IsFound (deeds : List PlainDeed) (log : Log) : Type 0 where
+  pub steady : IsSteady log
+  pub open_gate : HoldsBatch (now log) deeds
+  pub no_folder : IsFolder (now log) new_file → ⊥
+
+-- at each moment since an image recovers to what the disk that was found does
+abbrev pub StaysRecovered : List PlainDeed → Log → Log → Type 0
+StaysRecovered deeds old new = (after : Disk) → DoesAll (in_order deeds) (now old) after → LeavesOnly old new (RecoversLike after)
+
+-- the deeds are done and on the disk, and the gate is closed
+pub record HasRecovered (deeds : List PlainDeed) (old new : Log) : Type 0 where
+  pub at_rest : IsQuiet new
+  pub after : (after : Disk) → DoesAll (in_order deeds) (now old) after → IsAlike after (now new)
+
+-- ---- the first journal
+
+-- at each moment since an image recovers to what reads gave
+abbrev pub StaysShut : Log → Log → Type 0
+StaysShut old new = LeavesOnly old new (RecoversLike (now old))

@@ -1,0 +1,37 @@
+-- The stages of a commit, up to the batch that stands behind the closed gate.
+use Rattle.std.specs.Prelude.{◌≡◌, ◌≢◌, ℕ, List, ◌∷◌, ◌++◌, get_or, Some}
+use Rattle.outside.specs.Disk.{Disk, Path, file, node_at}
+use Rattle.outside.specs.Images.{Log, now, LeavesOnly, IsSteady}
+use Rattle.deeds.specs.Deeds.{PlainDeed}
+use Rattle.deeds.specs.Grammar.{behind_gate}
+use Rattle.chunk_journal.specs.Journal.{journal_file}
+
+-- the journal is there and closed, and all else is as it was
+pub record IsShutBeside (disk image : Disk) : Type 0 where
+  pub bytes : List ℕ
+  pub here : node_at image journal_file ≡ Some (file bytes)
+  pub shut : get_or bytes 0 0 ≢ 1
+  pub alike : (q : Path) → q ≢ journal_file → node_at image q ≡ node_at disk q
+
+-- each image at each moment since
+abbrev pub KeepsShut : Log → Log → Type 0
+KeepsShut old new = LeavesOnly old new (IsShutBeside (now old))
+
+-- these bytes stand behind the closed gate, and all else is as it was
+pub record HasFront (front : List ℕ) (disk new : Disk) : Type 0 where
+  pub gate : ℕ
+  pub shut : gate ≢ 1
+  pub rest : List ℕ
+  pub here : node_at new journal_file ≡ Some (file (gate ∷ (front ++ rest)))
+  pub alike : (q : Path) → q ≢ journal_file → node_at new q ≡ node_at disk q
+
+abbrev pub HasWritten : List PlainDeed → Log → Log → Type 0
+HasWritten deeds old new = HasFront (behind_gate deeds) (now old) (now new)
+
+-- besides, all is on the disk
+abbrev pub HasStaged : List PlainDeed → Log → Log → Type 0
+HasStaged deeds old new = IsSteady new × HasFront (behind_gate deeds) (now old) (now new)
+
+-- the journal is there, and isn't empty
+abbrev pub HasGate : Disk → Type 0
+HasGate disk = (gate : ℕ) × (rest : List ℕ) × (node_at disk journal_file ≡ Some (file (gate ∷ rest)))

@@ -1,0 +1,94 @@
+ghost use Rattle.std.specs.Prelude.{◌≡◌, ◌∷◌, [], ℕ, List, Some, OnOk, IfOk, IsErr, IsTrue};
+ghost use Rattle.outside.specs.Calls.{HasCause, Told, Changes};
+ghost use Rattle.outside.specs.Disk.{Disk, file, node_at};
+ghost use Rattle.outside.specs.Images.{now, IsSteady};
+ghost use Rattle.deeds.specs.Deeds.{DoesAll, StaysAmid, in_order};
+ghost use Rattle.deeds.specs.Grammar.{IsBatch};
+ghost use Rattle.chunk_journal.specs.Stages.{HasGate};
+ghost use Rattle.chunk_journal.specs.Journal.{journal_file, IsAlike, IsQuiet, IsReady, IsRepeatable, StaysShut, AnyMoment, HasCommitted};
+
+use crate::fault::Device;
+use crate::first::make_first;
+use crate::stage::stage;
+use crate::steps::{CLOSED, GATE, OPEN, journal_path, new_path, write_synced};
+use deeds::{Batch, do_batch};
+use outside::{Folder, Kind};
+use vault_path::VaultPath;
+
+/// Does the deeds of a batch, each of which can be done.
+pub fn do_deeds<D: Folder>(folder: &mut D, batch: &Batch) -> Result<(), Device>
+    requires steady { Told (D.log folder.old) IsSteady }
+    requires can { Told (D.log folder.old) (λ log. (after : Disk) × DoesAll (in_order batch.now) (now log) after) }
+    ensures done { OnOk result (Changes (D.log folder.old) (D.log folder.new)
+        (λ old new. IsSteady new × DoesAll (in_order batch.now) (now old) (now new))) }
+    ensures amid { Changes (D.log folder.old) (D.log folder.new) (StaysAmid (in_order batch.now)) }
+    ensures cause { HasCause (D.faults folder.old) (D.faults folder.new) (IsErr result) }
+    ensures batch { IsBatch batch.now }
+{
+    match do_batch(folder, batch) {
+        Ok(()) => Ok(()),
+        Err(_) => Err(Device),
+    }
+}
+
+/// Commits a batch to a journal that is there: the batch is put behind the closed gate, the gate is opened, the deeds are
+/// done, and the gate is closed.
+fn commit_ready<D: Folder>(folder: &mut D, journal: &VaultPath, batch: &Batch) -> Result<(), Device>
+    requires journal { journal.now ≡ journal_file }
+    requires ready { Told (D.log folder.old) IsReady }
+    requires repeatable { IsRepeatable batch.now }
+    requires can { Told (D.log folder.old) (λ log. (after : Disk) × DoesAll (in_order batch.now) (now log) after) }
+    ensures committed { OnOk result (Changes (D.log folder.old) (D.log folder.new) (HasCommitted batch.now)) }
+    ensures any_moment { Changes (D.log folder.old) (D.log folder.new) (AnyMoment batch.now) }
+    ensures cause { HasCause (D.faults folder.old) (D.faults folder.new) (IsErr result) }
+{
+    stage(folder, journal, batch)?;
+    write_synced(folder, journal, GATE, &[OPEN])?;
+    do_deeds(folder, batch)?;
+    write_synced(folder, journal, GATE, &[CLOSED])?;
+    Ok(())
+}
+
+/// Whether the journal is there, with a gate.
+fn has_gate<D: Folder>(folder: &mut D, journal: &VaultPath) -> Result<bool, Device>
+    requires { journal.now ≡ journal_file }
+    ensures gate { IfOk result (λ found. Told (D.log folder.old) (λ log. IsTrue found → HasGate (now log))) }
+    ensures log { D.log folder.new ≡ D.log folder.old }
+    ensures cause { HasCause (D.faults folder.old) (D.faults folder.new) (IsErr result) }
+{
+    match folder.kind(journal)? {
+        Some(Kind::File(len)) => Ok(len > 0),
+        _ => Ok(false),
+    }
+}
+
+/// Sees to it that the journal is there.
+fn make_ready<D: Folder>(folder: &mut D, journal: &VaultPath) -> Result<(), Device>
+    requires journal { journal.now ≡ journal_file }
+    requires quiet { Told (D.log folder.old) IsQuiet }
+    ensures ready { OnOk result (Changes (D.log folder.old) (D.log folder.new) (λ old new. IsReady new × IsAlike (now old) (now new))) }
+    ensures any_moment { Changes (D.log folder.old) (D.log folder.new) StaysShut }
+    ensures cause { HasCause (D.faults folder.old) (D.faults folder.new) (IsErr result) }
+{
+    if has_gate(folder, journal)? {
+        return Ok(());
+    }
+    make_first(folder, journal, &new_path())?;
+    Ok(())
+}
+
+/// Commits a batch: it is done wholly or not at all, whenever a stop comes. It takes no memory. After `Device` the folder is
+/// to be opened again.
+pub fn commit<D: Folder>(folder: &mut D, batch: &Batch) -> Result<(), Device>
+    requires quiet { Told (D.log folder.old) IsQuiet }
+    requires repeatable { IsRepeatable batch.now }
+    requires can { Told (D.log folder.old) (λ log. (after : Disk) × DoesAll (in_order batch.now) (now log) after) }
+    ensures committed { OnOk result (Changes (D.log folder.old) (D.log folder.new) (HasCommitted batch.now)) }
+    ensures any_moment { Changes (D.log folder.old) (D.log folder.new) (AnyMoment batch.now) }
+    ensures cause { HasCause (D.faults folder.old) (D.faults folder.new) (IsErr result) }
+{
+    let journal = journal_path();
+    make_ready(folder, &journal)?;
+    commit_ready(folder, &journal, batch)?;
+    Ok(())
+}

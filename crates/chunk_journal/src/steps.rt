@@ -1,0 +1,92 @@
+ghost use Rattle.std.specs.Prelude.{◌≡◌, OnOk, OnErr, IsErr};
+ghost use Rattle.outside.specs.Calls.{HasCause, Told, Changes};
+ghost use Rattle.outside.specs.Changes.{Put, Write, Move, CanDo, IsPartOf};
+ghost use Rattle.outside.specs.Images.{now, IsSteady, HasKept, LeavesOnly};
+ghost use Rattle.chunk_journal.specs.Journal.{journal_file, new_file};
+
+use crate::fault::Device;
+use outside::Folder;
+use vault_path::VaultPath;
+
+/// The gate's byte before a batch that is to be done.
+pub const OPEN: u8 = 1;
+
+/// The gate's byte otherwise. Any byte but `OPEN` is closed.
+pub const CLOSED: u8 = 0;
+
+/// The offset of the gate.
+pub const GATE: u64 = 0;
+
+/// The offset of what stands behind the gate.
+pub const BEHIND_GATE: u64 = 1;
+
+/// `served.journal`
+pub fn journal_path() -> VaultPath
+    ensures { result ≡ journal_file }
+{
+    match VaultPath::root().join(b"served.journal") {
+        Ok(path) => path,
+        Err(_) => unreachable!(),
+    }
+}
+
+/// `served.journal.new`
+pub fn new_path() -> VaultPath
+    ensures { result ≡ new_file }
+{
+    match VaultPath::root().join(b"served.journal.new") {
+        Ok(path) => path,
+        Err(_) => unreachable!(),
+    }
+}
+
+/// Writes bytes over those of a file, and syncs.
+pub fn write_synced<D: Folder>(
+    folder: &mut D,
+    path: &VaultPath,
+    at: u64,
+    bytes: &[u8],
+) -> Result<(), Device>
+    requires steady { Told (D.log folder.old) IsSteady }
+    requires can { Told (D.log folder.old) (λ log. CanDo (Write path.now at bytes.now) (now log)) }
+    ensures written { OnOk result (Changes (D.log folder.old) (D.log folder.new) (HasKept (Write path.now at bytes.now))) }
+    ensures any_moment { Changes (D.log folder.old) (D.log folder.new)
+        (λ old new. LeavesOnly old new (IsPartOf (Write path.now at bytes.now) (now old))) }
+    ensures cause { HasCause (D.faults folder.old) (D.faults folder.new) (IsErr result) }
+{
+    folder.write(path, at, bytes)?;
+    folder.sync()?;
+    Ok(())
+}
+
+/// Puts a file, and syncs.
+pub fn put_synced<D: Folder>(folder: &mut D, path: &VaultPath, bytes: &[u8]) -> Result<(), Device>
+    requires steady { Told (D.log folder.old) IsSteady }
+    requires can { Told (D.log folder.old) (λ log. CanDo (Put path.now bytes.now) (now log)) }
+    ensures put { OnOk result (Changes (D.log folder.old) (D.log folder.new) (HasKept (Put path.now bytes.now))) }
+    ensures any_moment { Changes (D.log folder.old) (D.log folder.new)
+        (λ old new. LeavesOnly old new (IsPartOf (Put path.now bytes.now) (now old))) }
+    ensures cause { HasCause (D.faults folder.old) (D.faults folder.new) (IsErr result) }
+{
+    folder.put(path, bytes)?;
+    folder.sync()?;
+    Ok(())
+}
+
+/// Moves a file, and syncs.
+pub fn move_synced<D: Folder>(
+    folder: &mut D,
+    from: &VaultPath,
+    to: &VaultPath,
+) -> Result<(), Device>
+    requires steady { Told (D.log folder.old) IsSteady }
+    requires can { Told (D.log folder.old) (λ log. CanDo (Move from.now to.now) (now log)) }
+    ensures moved { OnOk result (Changes (D.log folder.old) (D.log folder.new) (HasKept (Move from.now to.now))) }
+    ensures any_moment { Changes (D.log folder.old) (D.log folder.new)
+        (λ old new. LeavesOnly old new (IsPartOf (Move from.now to.now) (now old))) }
+    ensures cause { HasCause (D.faults folder.old) (D.faults folder.new) (IsErr result) }
+{
+    folder.rename(from, to)?;
+    folder.sync()?;
+    Ok(())
+}

@@ -1,0 +1,13 @@
+pub mod Again
+pub mod Amid
+pub mod Frame
+pub mod Reshape
+pub mod Doing
+pub mod Phases
+pub mod Loop
+pub mod Fields
+pub mod DeedBytes
+pub mod BatchBytes
+pub mod Batches
+pub mod Rising
+pub mod Windows

@@ -1,0 +1,6 @@
+pub mod Deeds
+pub mod Reshape
+pub mod Plain
+pub mod Grammar
+pub mod Reading
+pub mod Writing

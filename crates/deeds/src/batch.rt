@@ -1,0 +1,140 @@
+ghost use Rattle.std.specs.Prelude.{◌≡◌, ◌≤◌, ◌<◌, ◌-◌, ◌++◌, ◌+◌, ◌^◌, length, take, drop, min, IfOk, IfErr, OnOk, IsErrOf};
+ghost use Rattle.outside.specs.Calls.{Told, Changes, HasCause};
+ghost use Rattle.outside.specs.Images.{now, IsSteady};
+ghost use Rattle.deeds.specs.Deeds.{DoesAll, StaysAmid, in_order, IsRefusal, IsRefusedAt, IfUnfit};
+ghost use Rattle.std.specs.List.{AllByRecursion};
+ghost use Rattle.deeds.specs.Plain.{plains};
+ghost use Rattle.deeds.specs.Grammar.{IsBatch, IsDeed, IsBadDeed, IsBadAt, IfBad, spelled, spelled_deeds, behind_gate};
+
+use crate::deed::{Deed, do_phase};
+use crate::fault::BatchErr;
+use crate::phase::{DeedErr, Phase};
+use crate::reading::{ReadErr, deed_of, u32_of};
+use crate::window::Window;
+use crate::writing::{pass_deeds, spelled_len};
+use outside::Folder;
+use std::alloc::Global;
+use std::marker::Model;
+
+/// Deeds that the journal can hold: each in its grammar, their counts and lengths within their fields. Clauses see the list
+/// of the deeds.
+#[derive(Debug, Drop)]
+pub struct Batch {
+    deeds: Vec<Deed>,
+    len: usize,
+}
+
+impl Model for Batch {
+    ghost use Rattle.std.specs.Prelude.{◌≡◌, List, length};
+    ghost use Rattle.deeds.specs.Deeds.{PlainDeed};
+
+    ghost Value = { List PlainDeed };
+
+    ghost use Rattle.deeds.specs.Plain.{plains};
+    ghost use Rattle.deeds.specs.Grammar.{IsBatch, spelled};
+
+    ghost view = { λ b. plains b.deeds.items };
+
+    ghost invariant = { λ b. IsBatch (plains b.deeds.items) × (b.len ≡ length (spelled (plains b.deeds.items))) };
+}
+
+impl Batch {
+    /// The batch of these deeds. It takes no memory.
+    pub fn from_deeds(deeds: Vec<Deed>) -> Batch
+        requires { IsBatch (plains deeds.items) }
+        ensures { result ≡ plains deeds.items }
+    {
+        let len = spelled_len(&deeds);
+        Batch { deeds, len }
+    }
+
+    /// The deeds, in their order.
+    pub fn deeds(&self) -> &[Deed]
+        ensures deeds { plains result.now ≡ self.now }
+        ensures batch { IsBatch self.now }
+    {
+        &self.deeds
+    }
+
+    /// How many bytes spell the batch.
+    pub fn byte_len(&self) -> usize
+        ensures count { result ≡ length (spelled self.now) }
+        ensures batch { IsBatch self.now }
+    {
+        self.len
+    }
+}
+
+/// Fills `out` with the bytes that stand behind the journal's gate, from byte `from` of them on: the batch's length and the
+/// batch. Gives the number of bytes, as many as there are and `out` has room for. It takes no memory.
+pub fn write_batch(batch: &Batch, from: usize, out: &mut [u8]) -> usize
+    ensures count { result ≡ min (length out.old) (length (behind_gate batch.now) - from) }
+    ensures bytes { take result out.new ≡ take (length out.old) (drop from (behind_gate batch.now)) }
+{
+    let mut window = Window {
+        skip: from,
+        used: 0,
+    };
+    window.pass(out, &(batch.byte_len() as u64).to_be_bytes());
+    pass_deeds(&mut window, out, batch.deeds());
+    window.used
+}
+
+/// The deeds behind the count, and the bytes behind them.
+fn deeds_of(alloc: Global, count: u32, bytes: &[u8]) -> Result<(Vec<Deed>, &[u8]), BatchErr>
+    ensures found { IfOk result (λ x. (bytes.now ≡ spelled_deeds (plains x.0.items) ++ x.1.now)
+        × (length (plains x.0.items) ≡ count) × AllByRecursion IsDeed (plains x.0.items)) }
+    ensures bad { IfErr result (λ error. IfBad error (IsBadDeed count bytes.now)) }
+{
+    let mut deeds = Vec::new(alloc);
+    let mut rest = bytes;
+    for _ in 0..count {
+        match deed_of(alloc, rest) {
+            Ok((deed, after)) => {
+                deeds.push(deed)?;
+                rest = after;
+            }
+            Err(ReadErr::Bad) => return Err(BatchErr::Bad(4 + (bytes.len() - rest.len()))),
+            Err(ReadErr::Memory) => return Err(BatchErr::Memory),
+        }
+    }
+    Ok((deeds, rest))
+}
+
+/// The batch that the bytes are, all of them. `Bad` names the first place outside of the grammar.
+pub fn read_batch(alloc: Global, bytes: &[u8]) -> Result<Batch, BatchErr>
+    ensures found { IfOk result (λ batch. IsBatch batch × (bytes.now ≡ spelled batch)) }
+    ensures bad { IfErr result (λ error. IfBad error (IsBadAt bytes.now)) }
+{
+    if bytes.len() > usize::MAX - 10 {
+        return Err(BatchErr::Memory);
+    }
+    let (count, behind) = match u32_of(bytes) {
+        Ok(found) => found,
+        Err(ReadErr::Bad) => return Err(BatchErr::Bad(0)),
+        Err(ReadErr::Memory) => return Err(BatchErr::Memory),
+    };
+    let (deeds, rest) = deeds_of(alloc, count, behind)?;
+    if !rest.is_empty() {
+        return Err(BatchErr::Bad(bytes.len() - rest.len()));
+    }
+    Ok(Batch::from_deeds(deeds))
+}
+
+/// Does a batch phase by phase, up to the first deed that isn't done. A sync ends each phase.
+pub fn do_batch<F: Folder>(folder: &mut F, batch: &Batch) -> Result<(), DeedErr>
+    requires { Told (F.log folder.old) IsSteady }
+    ensures done { OnOk result (Changes (F.log folder.old) (F.log folder.new)
+        (λ old new. IsSteady new × DoesAll (in_order batch.now) (now old) (now new))) }
+    ensures amid { Changes (F.log folder.old) (F.log folder.new) (StaysAmid (in_order batch.now)) }
+    ensures unfit { IfErr result (λ error. IfUnfit error (λ index.
+        IsRefusal (F.log folder.old) (F.faults folder.old) (F.faults folder.new) (IsRefusedAt batch.now index))) }
+    ensures cause { HasCause (F.faults folder.old) (F.faults folder.new) (IsErrOf result DeedErr.Failed) }
+    ensures batch { IsBatch batch.now }
+{
+    let deeds = batch.deeds();
+    do_phase(folder, deeds, Phase::Make)?;
+    do_phase(folder, deeds, Phase::Move)?;
+    do_phase(folder, deeds, Phase::Remove)?;
+    Ok(())
+}

@@ -1,0 +1,193 @@
+ghost use Rattle.std.specs.Prelude.{◌≡◌, ◌↔◌, [], ◌∷◌, ◌++◌, IfOk, IfErr, OnOk, OnErr, IsErrOf, IsTrue};
+ghost use Rattle.outside.specs.Calls.{HasCause, Told, Changes, IsUnfit};
+ghost use Rattle.outside.specs.Disk.{Disk};
+ghost use Rattle.outside.specs.Images.{now, IsSteady};
+ghost use Rattle.deeds.specs.Deeds.{MakesDir, Puts, Renames, Removes, RemovesDir, IsDoneAlready, Does, DoesAll, StaysAmid, is_of, of_phase, IsRefusal, IsRefusedIn, IfUnfit, IsWithin, AreWithin};
+ghost use Rattle.deeds.specs.Plain.{plain, plains};
+
+use crate::phase::{DeedErr, Phase};
+use crate::writes::{Range, do_reshape};
+use outside::{Folder, FolderErr, Reads};
+use vault_path::VaultPath;
+
+/// A change of a folder that a batch names.
+#[derive(Debug, Drop)]
+pub enum Deed {
+    /// Makes a folder where there is none yet.
+    MakeDir(VaultPath),
+    /// Puts a file with these bytes.
+    Put(VaultPath, Vec<u8>),
+    /// Moves a file.
+    Rename(VaultPath, VaultPath),
+    /// Removes a file, if one is there.
+    Remove(VaultPath),
+    /// Removes an empty folder, if one is there.
+    RemoveDir(VaultPath),
+    /// Writes ranges of a file in order, and cuts it to a length in bytes.
+    Reshape(VaultPath, u64, Vec<Range>),
+}
+
+impl Deed {
+    /// Whether the deed is done in this phase.
+    pub fn is_of(&self, phase: Phase) -> bool
+        ensures { result ≡ is_of phase (plain self.now) }
+    {
+        match self {
+            Deed::MakeDir(_) | Deed::Put(_, _) | Deed::Reshape(_, _, _) => {
+                matches!(phase, Phase::Make)
+            }
+            Deed::Rename(_, _) => matches!(phase, Phase::Move),
+            Deed::Remove(_) | Deed::RemoveDir(_) => matches!(phase, Phase::Remove),
+        }
+    }
+}
+
+/// Whether nothing is at `from` and something is at `to`.
+fn is_moved<F: Reads>(folder: &mut F, from: &VaultPath, to: &VaultPath) -> Result<bool, FolderErr>
+    ensures moved { IfOk result (λ moved. Told (F.log folder.old) (λ log. IsTrue moved ↔ IsDoneAlready (Renames from.now to.now) (now log))) }
+    ensures log { F.log folder.new ≡ F.log folder.old }
+    ensures fits { IsErrOf result FolderErr.Unfit → ⊥ }
+    ensures no_memory { IsErrOf result FolderErr.Memory → ⊥ }
+    ensures cause { HasCause (F.faults folder.old) (F.faults folder.new) (IsErrOf result FolderErr.Failed) }
+{
+    let gone = folder.kind(from)?.is_none();
+    let there = folder.kind(to)?.is_some();
+    Ok(gone && there)
+}
+
+/// Makes a folder.
+fn do_make_dir<F: Folder>(folder: &mut F, path: &VaultPath) -> Result<(), FolderErr>
+    ensures done { OnOk result (Changes (F.log folder.old) (F.log folder.new) (λ old new. Does (MakesDir path.now) (now old) (now new))) }
+    ensures amid { Changes (F.log folder.old) (F.log folder.new) (StaysAmid (MakesDir path.now ∷ [])) }
+    ensures unfit { IsErrOf result FolderErr.Unfit
+        → IsUnfit (F.log folder.old) (F.faults folder.old) (F.faults folder.new) (λ log. (after : Disk) × Does (MakesDir path.now) (now log) after) }
+    ensures no_memory { IsErrOf result FolderErr.Memory → ⊥ }
+    ensures cause { HasCause (F.faults folder.old) (F.faults folder.new) (IsErrOf result FolderErr.Failed) }
+{
+    folder.make_dir(path)?;
+    Ok(())
+}
+
+/// Puts a file.
+fn do_put<F: Folder>(folder: &mut F, path: &VaultPath, bytes: &[u8]) -> Result<(), FolderErr>
+    ensures done { OnOk result (Changes (F.log folder.old) (F.log folder.new) (λ old new. Does (Puts path.now bytes.now) (now old) (now new))) }
+    ensures amid { Changes (F.log folder.old) (F.log folder.new) (StaysAmid (Puts path.now bytes.now ∷ [])) }
+    ensures unfit { IsErrOf result FolderErr.Unfit
+        → IsUnfit (F.log folder.old) (F.faults folder.old) (F.faults folder.new) (λ log. (after : Disk) × Does (Puts path.now bytes.now) (now log) after) }
+    ensures no_memory { IsErrOf result FolderErr.Memory → ⊥ }
+    ensures cause { HasCause (F.faults folder.old) (F.faults folder.new) (IsErrOf result FolderErr.Failed) }
+{
+    folder.put(path, bytes)?;
+    Ok(())
+}
+
+/// Removes a file.
+fn do_remove<F: Folder>(folder: &mut F, path: &VaultPath) -> Result<(), FolderErr>
+    ensures done { OnOk result (Changes (F.log folder.old) (F.log folder.new) (λ old new. Does (Removes path.now) (now old) (now new))) }
+    ensures amid { Changes (F.log folder.old) (F.log folder.new) (StaysAmid (Removes path.now ∷ [])) }
+    ensures unfit { IsErrOf result FolderErr.Unfit
+        → IsUnfit (F.log folder.old) (F.faults folder.old) (F.faults folder.new) (λ log. (after : Disk) × Does (Removes path.now) (now log) after) }
+    ensures no_memory { IsErrOf result FolderErr.Memory → ⊥ }
+    ensures cause { HasCause (F.faults folder.old) (F.faults folder.new) (IsErrOf result FolderErr.Failed) }
+{
+    folder.remove_file(path)?;
+    Ok(())
+}
+
+/// Removes a folder.
+fn do_remove_dir<F: Folder>(folder: &mut F, path: &VaultPath) -> Result<(), FolderErr>
+    ensures done { OnOk result (Changes (F.log folder.old) (F.log folder.new) (λ old new. Does (RemovesDir path.now) (now old) (now new))) }
+    ensures amid { Changes (F.log folder.old) (F.log folder.new) (StaysAmid (RemovesDir path.now ∷ [])) }
+    ensures unfit { IsErrOf result FolderErr.Unfit
+        → IsUnfit (F.log folder.old) (F.faults folder.old) (F.faults folder.new) (λ log. (after : Disk) × Does (RemovesDir path.now) (now log) after) }
+    ensures no_memory { IsErrOf result FolderErr.Memory → ⊥ }
+    ensures cause { HasCause (F.faults folder.old) (F.faults folder.new) (IsErrOf result FolderErr.Failed) }
+{
+    folder.remove_dir(path)?;
+    Ok(())
+}
+
+/// Moves a file that wasn't moved already.
+fn do_rename<F: Folder>(folder: &mut F, from: &VaultPath, to: &VaultPath) -> Result<(), FolderErr>
+    ensures done { OnOk result (Changes (F.log folder.old) (F.log folder.new) (λ old new. Does (Renames from.now to.now) (now old) (now new))) }
+    ensures amid { Changes (F.log folder.old) (F.log folder.new) (StaysAmid (Renames from.now to.now ∷ [])) }
+    ensures unfit { IsErrOf result FolderErr.Unfit
+        → IsUnfit (F.log folder.old) (F.faults folder.old) (F.faults folder.new) (λ log. (after : Disk) × Does (Renames from.now to.now) (now log) after) }
+    ensures no_memory { IsErrOf result FolderErr.Memory → ⊥ }
+    ensures cause { HasCause (F.faults folder.old) (F.faults folder.new) (IsErrOf result FolderErr.Failed) }
+{
+    if is_moved(folder, from, to)? {
+        return Ok(());
+    }
+    folder.rename(from, to)?;
+    Ok(())
+}
+
+/// Does a deed. Where a file was moved already, nothing is done.
+pub fn do_deed<F: Folder>(folder: &mut F, deed: &Deed) -> Result<(), FolderErr>
+    requires { IsWithin (plain deed.now) }
+    ensures done { OnOk result (Changes (F.log folder.old) (F.log folder.new) (λ old new. Does (plain deed.now) (now old) (now new))) }
+    ensures amid { Changes (F.log folder.old) (F.log folder.new) (StaysAmid (plain deed.now ∷ [])) }
+    ensures unfit { IsErrOf result FolderErr.Unfit
+        → IsUnfit (F.log folder.old) (F.faults folder.old) (F.faults folder.new) (λ log. (after : Disk) × Does (plain deed.now) (now log) after) }
+    ensures no_memory { IsErrOf result FolderErr.Memory → ⊥ }
+    ensures cause { HasCause (F.faults folder.old) (F.faults folder.new) (IsErrOf result FolderErr.Failed) }
+{
+    match deed {
+        Deed::MakeDir(path) => do_make_dir(folder, path),
+        Deed::Put(path, bytes) => do_put(folder, path, bytes),
+        Deed::Rename(from, to) => do_rename(folder, from, to),
+        Deed::Remove(path) => do_remove(folder, path),
+        Deed::RemoveDir(path) => do_remove_dir(folder, path),
+        Deed::Reshape(path, len, ranges) => do_reshape(folder, path, *len, ranges),
+    }
+}
+
+/// Does the deeds of a phase in order, up to the first that isn't done.
+fn do_deeds<F: Folder>(folder: &mut F, deeds: &[Deed], phase: Phase) -> Result<(), DeedErr>
+    requires within { AreWithin (plains deeds.now) }
+    ensures done { OnOk result (Changes (F.log folder.old) (F.log folder.new) (λ old new. DoesAll (of_phase phase (plains deeds.now)) (now old) (now new))) }
+    ensures amid { Changes (F.log folder.old) (F.log folder.new) (StaysAmid (of_phase phase (plains deeds.now))) }
+    ensures unfit { IfErr result (λ error. IfUnfit error (λ index. IsRefusal (F.log folder.old) (F.faults folder.old) (F.faults folder.new) (IsRefusedIn phase (plains deeds.now) index))) }
+    ensures cause { HasCause (F.faults folder.old) (F.faults folder.new) (IsErrOf result DeedErr.Failed) }
+{
+    for (index, deed) in deeds.iter().enumerate() {
+        do_at(folder, deed, index, phase)?;
+    }
+    Ok(())
+}
+
+/// Does a deed where it is of the phase, and names its index where it is refused.
+fn do_at<F: Folder>(folder: &mut F, deed: &Deed, index: usize, phase: Phase) -> Result<(), DeedErr>
+    requires { IsWithin (plain deed.now) }
+    ensures done { OnOk result (Changes (F.log folder.old) (F.log folder.new) (λ old new. DoesAll (of_phase phase (plain deed.now ∷ [])) (now old) (now new))) }
+    ensures amid { Changes (F.log folder.old) (F.log folder.new) (StaysAmid (of_phase phase (plain deed.now ∷ []))) }
+    ensures unfit { IfErr result (λ error. IfUnfit error (λ at. (at ≡ index) × IsTrue (is_of phase (plain deed.now))
+        × IsUnfit (F.log folder.old) (F.faults folder.old) (F.faults folder.new) (λ log. (after : Disk) × Does (plain deed.now) (now log) after))) }
+    ensures cause { HasCause (F.faults folder.old) (F.faults folder.new) (IsErrOf result DeedErr.Failed) }
+{
+    if !deed.is_of(phase) {
+        return Ok(());
+    }
+    match do_deed(folder, deed) {
+        Ok(()) => Ok(()),
+        Err(FolderErr::Unfit) => Err(DeedErr::Unfit(index)),
+        Err(_) => Err(DeedErr::Failed),
+    }
+}
+
+/// Does the deeds of a phase, and syncs.
+pub fn do_phase<F: Folder>(folder: &mut F, deeds: &[Deed], phase: Phase) -> Result<(), DeedErr>
+    requires within { AreWithin (plains deeds.now) }
+    requires steady { Told (F.log folder.old) IsSteady }
+    ensures done { OnOk result (Changes (F.log folder.old) (F.log folder.new) (λ old new. IsSteady new × DoesAll (of_phase phase (plains deeds.now)) (now old) (now new))) }
+    ensures amid { Changes (F.log folder.old) (F.log folder.new) (StaysAmid (of_phase phase (plains deeds.now))) }
+    ensures unfit { IfErr result (λ error. IfUnfit error (λ index. IsRefusal (F.log folder.old) (F.faults folder.old) (F.faults folder.new) (IsRefusedIn phase (plains deeds.now) index))) }
+    ensures cause { HasCause (F.faults folder.old) (F.faults folder.new) (IsErrOf result DeedErr.Failed) }
+{
+    do_deeds(folder, deeds, phase)?;
+    match folder.sync() {
+        Ok(()) => Ok(()),
+        Err(_) => Err(DeedErr::Failed),
+    }
+}

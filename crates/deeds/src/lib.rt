@@ -1,0 +1,66 @@
+//! Deeds: changes of a folder that are done in a batch, their bytes, and what a stop leaves of them.
+//!
+//! ```text
+//! let batch = Batch::from_deeds(deeds);
+//! let len = write_batch(&batch, 0, &mut piece);
+//! let again = read_batch(alloc, bytes)?;
+//! do_batch(&mut folder, &again)?;
+//! ```
+//!
+//! A batch is done in three phases, each ended by a sync: make (`MakeDir`, `Put`, `Reshape`), move (`Rename`), remove
+//! (`Remove`, `RemoveDir`). Deeds that name no path twice can be done again on whatever a stop left of them, and leave the
+//! same disk.
+//!
+//! Bytes of a batch: count\[4\] and that many deeds, numbers most significant byte first.
+//!
+//! | kind\[1\] | deed | fields |
+//! |---|---|---|
+//! | 1 | `MakeDir` | path |
+//! | 2 | `Put` | path, n\[4\], n bytes |
+//! | 3 | `Rename` | path, path |
+//! | 4 | `Remove` | path |
+//! | 5 | `RemoveDir` | path |
+//! | 6 | `Reshape` | path, length\[8\], n\[4\], n times offset\[8\], m\[4\], m bytes |
+//!
+//! A path is its number of parts\[1\] (1 to 6), and each part's length\[1\] and bytes.
+#![tactic(auto)]
+
+mod batch;
+mod deed;
+mod fault;
+mod phase;
+mod reading;
+mod window;
+mod writes;
+mod writing;
+
+ghost use Rattle.std.specs.Prelude.{List, ℕ, [], ◌∷◌};
+ghost use Rattle.outside.specs.Disk.{Disk, Path, IsTree, IsFolder};
+ghost use Rattle.deeds.specs.Deeds.{PlainDeed, DoesAll, AreApart, IsAmid, IsSameDisk, IsOneOf, IsAlikeBut, Unnamed, IsPartOfDeed};
+
+pub use batch::{Batch, do_batch, read_batch, write_batch};
+pub use deed::{Deed, do_deed, do_phase};
+pub use fault::BatchErr;
+pub use phase::{DeedErr, Phase};
+pub use writes::{Range, do_reshape};
+
+/// Deeds that name no path twice, done again on any disk amid their application, leave the same disk.
+pub fn doing_again()
+    ensures { (deeds : List PlainDeed) (old new image : Disk) → DoesAll deeds old new → IsTree new → AreApart deeds → IsAmid deeds old image
+        → (again : Disk) × DoesAll deeds image again × IsSameDisk again new }
+{}
+
+/// What a stop leaves while deeds are done, in whatever order, stays amid their application.
+pub fn staying_amid()
+    ensures stays { (deeds : List PlainDeed) (deed : PlainDeed) (old before image : Disk) → AreApart deeds → IsOneOf deed deeds
+        → IsPartOfDeed deed before image → IsAmid deeds old before → IsAmid deeds old image }
+    ensures begun { (deeds : List PlainDeed) (old : Disk) → IsAmid deeds old old }
+    ensures tree { (deeds : List PlainDeed) (old new : Disk) → IsTree old → DoesAll deeds old new → IsTree new }
+{}
+
+/// Deeds that can be done on a disk can be done on one that differs at two paths in the folder itself which they don't name.
+pub fn doing_beside()
+    ensures { (one two : List ℕ) (deeds : List PlainDeed) (old new other : Disk) → DoesAll deeds old new → Unnamed (one ∷ []) deeds → Unnamed (two ∷ []) deeds
+        → (IsFolder old (one ∷ []) → ⊥) × (IsFolder old (two ∷ []) → ⊥) → IsAlikeBut (one ∷ []) (two ∷ []) old other
+        → (after : Disk) × DoesAll deeds other after × IsAlikeBut (one ∷ []) (two ∷ []) new after }
+{}
