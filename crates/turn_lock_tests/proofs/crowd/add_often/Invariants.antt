@@ -1,0 +1,5 @@
+use Rattle.turn_lock.specs.Seats.{IsIdle}
+use Rattle.turn_lock_tests.proofs.crowd.add_often.Given as goal
+
+abbrev pub invariant-loop : goal.invariant-loop
+invariant-loop g l = IsIdle l.lock.id l.seat
