@@ -8,8 +8,8 @@ use Rattle.std.proofs.lemmas.Str.{IsUtf8-nil}
 use Rattle.tree_model.specs.declared.stat.Qid.{Qid}
 use Rattle.tree_model.specs.Asked.{PlainChange}
 use Rattle.ninep_wire.specs.declared.fault.WireErr.TheVariants.{Long}
-use Rattle.ninep_wire.specs.Fields.{number, string, IsString, qid, IsQid}
-use Rattle.ninep_wire.specs.Call.{optional_number, optional_qid, optional_string, change_fields, change_stat, IsTouchedNumber, IsTouchedString, IsChange}
+use Rattle.tree_model.specs.Wire.{number, string, IsString, qid, IsQid}
+use Rattle.ninep_wire.specs.TMessage.{optional_number, optional_qid, optional_string, change_fields, change_stat, IsTouchedNumber, IsTouchedString, IsChange}
 use Rattle.ninep_wire.specs.Reading.{◌>>=◌, bytes_at, number_at, string_at, qid_at, touched_number, touched_qid, touched_string, optional_number_at, optional_qid_at, optional_string_at, change_at, ended, stat_in, stat_at}
 use Rattle.ninep_wire.proofs.FieldLaws.{IsBytes, IsBytes-front, bind_ok, passed_ok, ok_is, Takes, Takes-then, IsField, step, takes1, bytes_field, number_field, string_field, qid_field}
 
@@ -193,7 +193,7 @@ change_takes bytes x fits e =
     (u10, record { kind = f0; device = f1; qid = f2; mode = f3; accessed = f4; modified = f5; long = f6; name = f7; owner = f8; group = f9; modifier = f10 }))))))))))))
 
 -- eleven texts in a row
-right : (a b c d e f g h i j k rest : List ℕ) → (a ++ b ++ c ++ d ++ e ++ f ++ g ++ h ++ i ++ j ++ k) ++ rest ≡ a ++ (b ++ (c ++ (d ++ (e ++ (f ++ (g ++ (h ++ (i ++ (j ++ (k ++ rest))))))))))
+pub right : (a b c d e f g h i j k rest : List ℕ) → (a ++ b ++ c ++ d ++ e ++ f ++ g ++ h ++ i ++ j ++ k) ++ rest ≡ a ++ (b ++ (c ++ (d ++ (e ++ (f ++ (g ++ (h ++ (i ++ (j ++ (k ++ rest))))))))))
 right a b c d e f g h i j k rest = simp append_assoc
 
 pub change_again : (c : PlainChange) (rest : List ℕ) → AreTouched c → change_at (change_fields c ++ rest) ≡ Ok (c, rest)
@@ -250,7 +250,7 @@ stat_in_takes bytes c fits e =
     let found = whole_stat bytes inner fields a.0.1 after size a.0.0 t0.parts t1.parts f1 taken.0.parts left.0 over.0 in
     subst (λ (y : PlainChange). (bytes ≡ change_stat y) × AreTouched y) is (found, taken.1)))
 
-length_two : (n : ℕ) (text : List ℕ) → length (number 2 n ++ text) ≡ 2 + length text
+pub length_two : (n : ℕ) (text : List ℕ) → length (number 2 n ++ text) ≡ 2 + length text
 length_two n text = omega arith
 
 stat_in_again : (c : PlainChange) → AreTouched c → length (change_stat c) < 2 ^ 16 → stat_in (change_stat c) ≡ Ok c
@@ -280,13 +280,13 @@ stat_field = record {
       let t2 = stat_in_takes b.0.0 d.0 front d.1 in
       let both = Takes-then bytes (number 2 a.0.0) a.0.1 b.0.0 b.0.1 t0.0 t1.0 in
       let sized : Takes bytes (number 2 (length b.0.0) ++ b.0.0) b.0.1 = subst (λ (k : ℕ). Takes bytes (number 2 k ++ b.0.0) b.0.1) (sym t1.1) both in
-      let spelled : Takes bytes (sized_stat d.0) b.0.1 = subst (λ (w : List ℕ). Takes bytes (number 2 (length w) ++ w) b.0.1) t2.0 sized in
+      let whole : Takes bytes (sized_stat d.0) b.0.1 = subst (λ (w : List ℕ). Takes bytes (number 2 (length w) ++ w) b.0.1) t2.0 sized in
       let small : length b.0.0 < 2 ^ 16 = omega (arith, t1.1, t0.1) in
       let size : length (change_stat d.0) < 2 ^ 16 = subst (λ (w : List ℕ). length w < 2 ^ 16) t2.0 small in
       let f = t2.1 in
       let made : PlainChange × List ℕ = (d.0, b.0.1) in
       subst (λ (y : PlainChange × List ℕ). Takes bytes (sized_stat y.0) y.1 × IsChange y.0) (ok_is made x d.2) (
-        spelled,
+        whole,
         record {
           kind = f.kind;
           device = f.device;

@@ -13,7 +13,7 @@ use Rattle.byteorder.specs.Numbers.{little_from-cons, length-bytes_low_first, li
 use Rattle.tree_model.specs.declared.stat.Qid.{Qid}
 use Rattle.ninep_wire.specs.declared.fault.WireErr.{WireErr}
 use Rattle.ninep_wire.specs.declared.fault.WireErr.TheVariants.{Short, Text, Names}
-use Rattle.ninep_wire.specs.Fields.{number, string, IsString, qid, IsQid}
+use Rattle.tree_model.specs.Wire.{number, string, IsString, qid, IsQid}
 use Rattle.ninep_wire.specs.Reading.{◌>>=◌, bytes_at, number_at, string_at, data_at, qid_at, strings_at, names_at}
 
 abbrev pub IsBytes : List ℕ → Type 0

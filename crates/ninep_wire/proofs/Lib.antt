@@ -4,3 +4,5 @@ pub mod MessageLaws
 pub mod FrameLaws
 pub mod NameLaws
 pub mod WroteLaws
+pub mod StatLaws
+pub mod RMessageLaws

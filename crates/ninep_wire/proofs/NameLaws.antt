@@ -6,10 +6,10 @@ use Rattle.std.proofs.lemmas.Bool.{false_from_ne_true}
 use Rattle.std.proofs.lemmas.List.{take_at, drop_at, drop-drop, length-append}
 use Rattle.std.proofs.lemmas.List.Concat.{flat_map-cons}
 use Rattle.std.proofs.lemmas.Str.{IsUtf8-from_is_utf8, is_utf8-from_IsUtf8}
-use Rattle.tree_model.specs.Names.{spelled_name, spelled_names, names_in, AreNames}
+use Rattle.tree_model.specs.Names.{spelled_names, names_in, AreNames}
 use Rattle.ninep_wire.specs.declared.fault.WireErr.{WireErr}
 use Rattle.ninep_wire.specs.declared.fault.WireErr.TheVariants.{Text}
-use Rattle.ninep_wire.specs.Fields.{string, IsString}
+use Rattle.tree_model.specs.Wire.{string, IsString}
 use Rattle.ninep_wire.specs.Reading.{◌>>=◌, rest_of, bytes_at, number_at, string_at, strings_at}
 use Rattle.ninep_wire.proofs.FieldLaws.{IsBytes, bind_ok, ok_is, strings_take}
 
@@ -78,14 +78,6 @@ names_in-strings [] fits = refl
 names_in-strings (n ∷ ns) fits =
     ap (names_in (suc (length ns))) (flat_map-cons string n ns) ∙ names_in-string (length ns) n (flat_map string ns) fits.0.fits ∙ ap (λ (w : List (List ℕ)). n ∷ w) (names_in-strings ns fits.1)
 
-spelled-strings : (ns : List (List ℕ)) → AllByRecursion IsString ns → flat_map string ns ≡ spelled_names ns
-spelled-strings [] fits = refl
-spelled-strings (n ∷ ns) fits =
-    let small : length n < 2 ^ 16 = fits.0.fits in
-    let high : length n / 256 % 256 ≡ length n / 256 = omega arith in
-    let one : string n ≡ spelled_name n = ap (λ (k : ℕ). length n % 256 ∷ k ∷ n) high in
-    flat_map-cons string n ns ∙ ap (λ (w : List ℕ). w ++ flat_map string ns) one ∙ ap (λ (w : List ℕ). spelled_name n ++ w) (spelled-strings ns fits.1) ∙ sym (flat_map-cons spelled_name n ns)
-
 fit : (ns : List (List ℕ)) → AllByRecursion IsString ns → AllByRecursion (λ name. length name < 2 ^ 16) ns
 fit [] fits = tt
 fit (n ∷ ns) fits = (fits.0.fits, fit ns fits.1)
@@ -112,7 +104,7 @@ names_lie count bytes rest fits e =
     record {
       given = a.1 ∙ pair a.0.0 (names_in count (take (length bytes - length rest) bytes)) a.0.1 rest (sym names) after;
       form = record {
-        spelled = taken ∙ spelled-strings a.0.0 t.2 ∙ ap spelled_names (sym names);
+        spelled = taken ∙ ap spelled_names (sym names);
         count = ap (λ (w : List (List ℕ)). length w) names ∙ t.1;
         fit = subst (λ (w : List (List ℕ)). AllByRecursion (λ name. length name < 2 ^ 16) w) (sym names) (fit a.0.0 t.2);
       };

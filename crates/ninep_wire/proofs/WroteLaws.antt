@@ -5,7 +5,7 @@ use Rattle.std.proofs.lemmas.List.{take_at, drop_at, take-append-drop, length-ap
 use Rattle.std.proofs.lemmas.List.Concat.{flat_map-cons, flat_map-append}
 use Rattle.std.proofs.lemmas.Slice.{drop-append-drop}
 use Rattle.tree_model.specs.declared.stat.Qid.{Qid}
-use Rattle.ninep_wire.specs.Fields.{qid}
+use Rattle.tree_model.specs.Wire.{qid}
 use Rattle.ninep_wire.specs.Writing.{Wrote}
 
 -- where a text ends

@@ -1,6 +1,7 @@
-pub mod Fields
-pub mod Call
-pub mod Answer
+pub mod Header
+pub mod TMessage
+pub mod RMessage
+pub mod Stat
 pub mod Plain
 pub mod Reading
 pub mod Writing

@@ -1,52 +1,52 @@
--- Messages and answers without where their names and bytes lie in memory.
-use Rattle.std.specs.Prelude.{ℕ, ◌≤◌, List, take, drop, ⊤}
+-- Messages without where their names and bytes lie in memory.
+use Rattle.std.specs.Prelude.{ℕ, List, take, drop, ⊤}
 use Rattle.tree_model.specs.Asked.{plain_change}
-use Rattle.tree_model.specs.Names.{names_in, AreNames}
-use Rattle.ninep_wire.specs.declared.call.Call.{Call}
-use Rattle.ninep_wire.specs.declared.call.Call.TheVariants as calls
-use Rattle.ninep_wire.specs.declared.call.Message.{Message}
-use Rattle.ninep_wire.specs.declared.answer.Answer.{Answer}
-use Rattle.ninep_wire.specs.declared.answer.Answer.TheVariants as answers
-use Rattle.ninep_wire.specs.Call as plain
-use Rattle.ninep_wire.specs.Call.{PlainCall, PlainMessage}
-use Rattle.ninep_wire.specs.Answer as said
-use Rattle.ninep_wire.specs.Answer.{PlainAnswer}
+use Rattle.tree_model.specs.Names.{names_in, IsWalk}
+use Rattle.ninep_wire.specs.declared.t_message.TMessage.{TMessage}
+use Rattle.ninep_wire.specs.declared.t_message.TMessage.TheVariants as sent
+use Rattle.ninep_wire.specs.declared.t_message.Message.{Message}
+use Rattle.ninep_wire.specs.declared.r_message.RMessage.{RMessage}
+use Rattle.ninep_wire.specs.declared.r_message.RMessage.TheVariants as answered
+use Rattle.ninep_wire.specs.TMessage as t
+use Rattle.ninep_wire.specs.TMessage.{PlainTMessage, PlainMessage}
+use Rattle.ninep_wire.specs.RMessage as r
+use Rattle.ninep_wire.specs.RMessage.{PlainRMessage}
 
-abbrev pub plain_call : Call → PlainCall
-plain_call (calls.Version msize text) = plain.version msize text.now
-plain_call (calls.Auth afid uname aname) = plain.auth afid uname.now aname.now
-plain_call (calls.Attach fid afid uname aname) = plain.attach fid afid uname.now aname.now
-plain_call (calls.Flush oldtag) = plain.flush oldtag
-plain_call (calls.Walk fid newfid names) = plain.walk fid newfid (names_in names.count names.bytes.now)
-plain_call (calls.Open fid mode) = plain.open_fid fid mode
-plain_call (calls.Create fid name perm mode) = plain.create fid name.now perm mode
-plain_call (calls.Read fid offset count) = plain.read fid offset count
-plain_call (calls.Write fid offset bytes) = plain.write fid offset bytes.now
-plain_call (calls.Clunk fid) = plain.clunk fid
-plain_call (calls.Remove fid) = plain.remove fid
-plain_call (calls.Stat fid) = plain.stat fid
-plain_call (calls.Wstat fid change) = plain.wstat fid (plain_change change)
+abbrev pub plain_t : TMessage → PlainTMessage
+plain_t (sent.Version msize text) = t.version msize text.now
+plain_t (sent.Auth afid uname aname) = t.auth afid uname.now aname.now
+plain_t (sent.Attach fid afid uname aname) = t.attach fid afid uname.now aname.now
+plain_t (sent.Flush oldtag) = t.flush oldtag
+plain_t (sent.Walk fid newfid names) = t.walk fid newfid (names_in names.count names.bytes.now)
+plain_t (sent.Open fid mode) = t.open_fid fid mode
+plain_t (sent.Create fid name perm mode) = t.create fid name.now perm mode
+plain_t (sent.Read fid offset count) = t.read fid offset count
+plain_t (sent.Write fid offset bytes) = t.write fid offset bytes.now
+plain_t (sent.Clunk fid) = t.clunk fid
+plain_t (sent.Remove fid) = t.remove fid
+plain_t (sent.Stat fid) = t.stat fid
+plain_t (sent.Wstat fid change) = t.wstat fid (plain_change change)
 
 abbrev pub plain_message : Message → PlainMessage
-plain_message m = record { tag = m.tag; call = plain_call m.call }
+plain_message m = record { tag = m.tag; body = plain_t m.body }
 
 -- the names of a walk have the form that a request wants
-abbrev pub HasNames : Call → Type 0
-HasNames (calls.Walk fid newfid names) = (names.count ≤ 16) × AreNames names.count names.bytes.now
-HasNames call = ⊤
+abbrev pub HasNames : TMessage → Type 0
+HasNames (sent.Walk fid newfid names) = IsWalk names.count names.bytes.now
+HasNames message = ⊤
 
--- an answer that is written into these bytes: those of a read and of a stat stand in them already
-abbrev pub plain_answer : Answer → List ℕ → PlainAnswer
-plain_answer (answers.Version msize text) old = said.version msize text.now
-plain_answer (answers.Attach q) old = said.attach q
-plain_answer (answers.Error text) old = said.error text.now
-plain_answer answers.Flush old = said.flush
-plain_answer (answers.Walk count qids) old = said.walk (take count qids.now)
-plain_answer (answers.Open q iounit) old = said.open_fid q iounit
-plain_answer (answers.Create q iounit) old = said.create q iounit
-plain_answer (answers.Read count) old = said.read (take count (drop 11 old))
-plain_answer (answers.Write count) old = said.write count
-plain_answer answers.Clunk old = said.clunk
-plain_answer answers.Remove old = said.remove
-plain_answer (answers.Stat count) old = said.stat (take count (drop 9 old))
-plain_answer answers.Wstat old = said.wstat
+-- an R-message that is written into these bytes: those of a read and of a stat stand in them already
+abbrev pub plain_r : RMessage → List ℕ → PlainRMessage
+plain_r (answered.Version msize text) old = r.version msize text.now
+plain_r (answered.Attach q) old = r.attach q
+plain_r (answered.Error text) old = r.error text.now
+plain_r answered.Flush old = r.flush
+plain_r (answered.Walk count qids) old = r.walk (take count qids.now)
+plain_r (answered.Open q iounit) old = r.open_fid q iounit
+plain_r (answered.Create q iounit) old = r.create q iounit
+plain_r (answered.Read count) old = r.read (take count (drop 11 old))
+plain_r (answered.Write count) old = r.write count
+plain_r answered.Clunk old = r.clunk
+plain_r answered.Remove old = r.remove
+plain_r (answered.Stat count) old = r.stat (take count (drop 9 old))
+plain_r answered.Wstat old = r.wstat

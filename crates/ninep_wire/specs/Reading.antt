@@ -6,7 +6,7 @@ use Rattle.tree_model.specs.declared.stat.Qid.{Qid}
 use Rattle.tree_model.specs.Asked.{PlainChange}
 use Rattle.ninep_wire.specs.declared.fault.WireErr.{WireErr}
 use Rattle.ninep_wire.specs.declared.fault.WireErr.TheVariants.{Short, Long, Kind, Text, Names}
-use Rattle.ninep_wire.specs.Call.{PlainCall, version, auth, attach, flush, walk, open_fid, create, read, write, clunk, remove, stat, wstat, PlainMessage}
+use Rattle.ninep_wire.specs.TMessage.{PlainTMessage, version, auth, attach, flush, walk, open_fid, create, read, write, clunk, remove, stat, wstat, PlainMessage}
 
 infixl 10 ◌>>=◌
 abbrev pub ◌>>=◌ : {A B : Type 0} → Result A WireErr → (A → Result B WireErr) → Result B WireErr
@@ -150,20 +150,20 @@ stat_at bytes = do
 
 -- ---- messages
 
-unfoldable pub version_at : List ℕ → Result (PlainCall × List ℕ) WireErr
+unfoldable pub version_at : List ℕ → Result (PlainTMessage × List ℕ) WireErr
 version_at bytes = do
   msize ← number_at 4 bytes
   text ← string_at msize.1
   Ok (version msize.0 text.0, text.1)
 
-unfoldable pub auth_at : List ℕ → Result (PlainCall × List ℕ) WireErr
+unfoldable pub auth_at : List ℕ → Result (PlainTMessage × List ℕ) WireErr
 auth_at bytes = do
   afid ← number_at 4 bytes
   uname ← string_at afid.1
   aname ← string_at uname.1
   Ok (auth afid.0 uname.0 aname.0, aname.1)
 
-unfoldable pub attach_at : List ℕ → Result (PlainCall × List ℕ) WireErr
+unfoldable pub attach_at : List ℕ → Result (PlainTMessage × List ℕ) WireErr
 attach_at bytes = do
   fid ← number_at 4 bytes
   afid ← number_at 4 fid.1
@@ -171,25 +171,25 @@ attach_at bytes = do
   aname ← string_at uname.1
   Ok (attach fid.0 afid.0 uname.0 aname.0, aname.1)
 
-unfoldable pub flush_at : List ℕ → Result (PlainCall × List ℕ) WireErr
+unfoldable pub flush_at : List ℕ → Result (PlainTMessage × List ℕ) WireErr
 flush_at bytes = do
   oldtag ← number_at 2 bytes
   Ok (flush oldtag.0, oldtag.1)
 
-unfoldable pub walk_at : List ℕ → Result (PlainCall × List ℕ) WireErr
+unfoldable pub walk_at : List ℕ → Result (PlainTMessage × List ℕ) WireErr
 walk_at bytes = do
   fid ← number_at 4 bytes
   newfid ← number_at 4 fid.1
   names ← names_at newfid.1
   Ok (walk fid.0 newfid.0 names.0, names.1)
 
-unfoldable pub open_at : List ℕ → Result (PlainCall × List ℕ) WireErr
+unfoldable pub open_at : List ℕ → Result (PlainTMessage × List ℕ) WireErr
 open_at bytes = do
   fid ← number_at 4 bytes
   mode ← number_at 1 fid.1
   Ok (open_fid fid.0 mode.0, mode.1)
 
-unfoldable pub create_at : List ℕ → Result (PlainCall × List ℕ) WireErr
+unfoldable pub create_at : List ℕ → Result (PlainTMessage × List ℕ) WireErr
 create_at bytes = do
   fid ← number_at 4 bytes
   name ← string_at fid.1
@@ -197,44 +197,44 @@ create_at bytes = do
   mode ← number_at 1 perm.1
   Ok (create fid.0 name.0 perm.0 mode.0, mode.1)
 
-unfoldable pub read_at : List ℕ → Result (PlainCall × List ℕ) WireErr
+unfoldable pub read_at : List ℕ → Result (PlainTMessage × List ℕ) WireErr
 read_at bytes = do
   fid ← number_at 4 bytes
   offset ← number_at 8 fid.1
   count ← number_at 4 offset.1
   Ok (read fid.0 offset.0 count.0, count.1)
 
-unfoldable pub write_at : List ℕ → Result (PlainCall × List ℕ) WireErr
+unfoldable pub write_at : List ℕ → Result (PlainTMessage × List ℕ) WireErr
 write_at bytes = do
   fid ← number_at 4 bytes
   offset ← number_at 8 fid.1
   written ← data_at offset.1
   Ok (write fid.0 offset.0 written.0, written.1)
 
-unfoldable pub clunk_at : List ℕ → Result (PlainCall × List ℕ) WireErr
+unfoldable pub clunk_at : List ℕ → Result (PlainTMessage × List ℕ) WireErr
 clunk_at bytes = do
   fid ← number_at 4 bytes
   Ok (clunk fid.0, fid.1)
 
-unfoldable pub remove_at : List ℕ → Result (PlainCall × List ℕ) WireErr
+unfoldable pub remove_at : List ℕ → Result (PlainTMessage × List ℕ) WireErr
 remove_at bytes = do
   fid ← number_at 4 bytes
   Ok (remove fid.0, fid.1)
 
-unfoldable pub fstat_at : List ℕ → Result (PlainCall × List ℕ) WireErr
+unfoldable pub fstat_at : List ℕ → Result (PlainTMessage × List ℕ) WireErr
 fstat_at bytes = do
   fid ← number_at 4 bytes
   Ok (stat fid.0, fid.1)
 
-unfoldable pub wstat_at : List ℕ → Result (PlainCall × List ℕ) WireErr
+unfoldable pub wstat_at : List ℕ → Result (PlainTMessage × List ℕ) WireErr
 wstat_at bytes = do
   fid ← number_at 4 bytes
   change ← stat_at fid.1
   Ok (wstat fid.0 change.0, change.1)
 
 -- the fields of a message of this type
-unfoldable pub call_at : ℕ → List ℕ → Result (PlainCall × List ℕ) WireErr
-call_at kind bytes =
+unfoldable pub t_message_at : ℕ → List ℕ → Result (PlainTMessage × List ℕ) WireErr
+t_message_at kind bytes =
     if kind == 100 then version_at bytes
     else if kind == 102 then auth_at bytes
     else if kind == 104 then attach_at bytes
@@ -256,6 +256,6 @@ message_in frame = do
   size ← number_at 4 frame
   kind ← number_at 1 size.1
   tag ← number_at 2 kind.1
-  call ← call_at kind.0 tag.1
+  call ← t_message_at kind.0 tag.1
   whole ← ended call
-  Ok (record { tag = tag.0; call = whole })
+  Ok (record { tag = tag.0; body = whole })

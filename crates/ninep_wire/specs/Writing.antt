@@ -1,32 +1,32 @@
--- What an answer and a stat need to be written, and what a write leaves.
+-- What an R-message and a stat need to be written, and what a write leaves.
 use Rattle.std.specs.Prelude.{◌≡◌, ℕ, ◌+◌, ◌*◌, ◌<◌, ◌≤◌, ◌^◌, List, ◌++◌, length, take, drop, ⊤}
 use Rattle.tree_model.specs.declared.stat.Stat.{Stat}
-use Rattle.ninep_wire.specs.declared.answer.Answer.{Answer}
-use Rattle.ninep_wire.specs.declared.answer.Answer.TheVariants as answers
+use Rattle.ninep_wire.specs.declared.r_message.RMessage.{RMessage}
+use Rattle.ninep_wire.specs.declared.r_message.RMessage.TheVariants as messages
 
--- an answer that has a spelling: a text below 2^16 bytes, at most 16 qids, a size below 2^32
-abbrev pub HasForm : Answer → Type 0
-HasForm (answers.Version msize text) = length text.now < 2 ^ 16
-HasForm (answers.Error text) = length text.now < 2 ^ 16
-HasForm (answers.Walk count qids) = (count ≤ 16) × (count ≤ length qids.now)
-HasForm (answers.Read count) = count + 11 < 2 ^ 32
-HasForm answer = ⊤
+-- an R-message that has a spelling: a text below 2^16 bytes, at most 16 qids, a size below 2^32
+abbrev pub HasForm : RMessage → Type 0
+HasForm (messages.Version msize text) = length text.now < 2 ^ 16
+HasForm (messages.Error text) = length text.now < 2 ^ 16
+HasForm (messages.Walk count qids) = (count ≤ 16) × (count ≤ length qids.now)
+HasForm (messages.Read count) = count + 11 < 2 ^ 32
+HasForm message = ⊤
 
--- how many bytes an answer has
-abbrev pub answer_size : Answer → ℕ
-answer_size (answers.Version msize text) = 13 + length text.now
-answer_size (answers.Attach q) = 20
-answer_size (answers.Error text) = 9 + length text.now
-answer_size answers.Flush = 7
-answer_size (answers.Walk count qids) = 9 + 13 * count
-answer_size (answers.Open q iounit) = 24
-answer_size (answers.Create q iounit) = 24
-answer_size (answers.Read count) = 11 + count
-answer_size (answers.Write count) = 11
-answer_size answers.Clunk = 7
-answer_size answers.Remove = 7
-answer_size (answers.Stat count) = 9 + count
-answer_size answers.Wstat = 7
+-- how many bytes an R-message has
+abbrev pub r_size : RMessage → ℕ
+r_size (messages.Version msize text) = 13 + length text.now
+r_size (messages.Attach q) = 20
+r_size (messages.Error text) = 9 + length text.now
+r_size messages.Flush = 7
+r_size (messages.Walk count qids) = 9 + 13 * count
+r_size (messages.Open q iounit) = 24
+r_size (messages.Create q iounit) = 24
+r_size (messages.Read count) = 11 + count
+r_size (messages.Write count) = 11
+r_size messages.Clunk = 7
+r_size messages.Remove = 7
+r_size (messages.Stat count) = 9 + count
+r_size messages.Wstat = 7
 
 -- how many bytes a stat has after its size
 abbrev pub stat_size : Stat → ℕ

@@ -1,7 +1,7 @@
 //! Readers of fields: each gives a value and the bytes after it.
 
 ghost use Rattle.std.specs.Prelude.{◌≡◌, ◌≤◌, length, IfOk};
-ghost use Rattle.tree_model.specs.Names.{names_in, AreNames};
+ghost use Rattle.tree_model.specs.Names.{names_in, AreNames, IsWalk};
 ghost use Rattle.ninep_wire.specs.Reading.{Gives, rest_of, bytes_at, number_at, string_at, data_at, qid_at, strings_at, names_at};
 
 use crate::fault::WireErr;
@@ -125,7 +125,7 @@ fn strings_of(count: u16, bytes: &[u8]) -> Result<(Names<'_>, &[u8]), WireErr>
 #[tactic(auto, unfolding(crate::specs::Reading::names_at))]
 pub fn names_of(bytes: &[u8]) -> Result<(Names<'_>, &[u8]), WireErr>
     ensures given { Gives (λ x. (names_in x.0.count x.0.bytes.now, x.1.now)) result (names_at bytes.now) }
-    ensures form { IfOk result (λ x. (x.0.count ≤ 16) × AreNames x.0.count x.0.bytes.now) }
+    ensures form { IfOk result (λ x. IsWalk x.0.count x.0.bytes.now) }
 {
     let (count, rest) = u16_of(bytes)?;
     if count > NAMES_LIMIT {

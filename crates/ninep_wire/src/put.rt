@@ -2,7 +2,7 @@
 
 ghost use Rattle.std.specs.Prelude.{◌≡◌, ◌+◌, ◌*◌, ◌<◌, ◌≤◌, ◌^◌, length};
 ghost use Rattle.std.specs.List.{flat_map};
-ghost use Rattle.ninep_wire.specs.Fields.{number, string, qid};
+ghost use Rattle.tree_model.specs.Wire.{number, string, qid};
 ghost use Rattle.ninep_wire.specs.Writing.{Wrote};
 
 use tree_model::Qid;

@@ -1,37 +1,37 @@
-//! Writing answers and stats into a buffer.
+//! Writing R-messages and stats into a buffer.
 
 ghost use Rattle.std.specs.Prelude.{◌≡◌, ℕ, ◌+◌, ◌*◌, ◌<◌, ◌≤◌, ◌^◌, List, ◌++◌, length, take, drop};
 ghost use Rattle.std.specs.List.{flat_map};
-ghost use Rattle.ninep_wire.specs.Fields.{number, string, qid};
-ghost use Rattle.ninep_wire.specs.Answer.{answer_kind, answer_fields, spelled_answer, stat_fields, spelled_stat};
-ghost use Rattle.ninep_wire.specs.Plain.{plain_answer};
-ghost use Rattle.ninep_wire.specs.Writing.{HasForm, answer_size, stat_size, Wrote};
+ghost use Rattle.tree_model.specs.Wire.{number, string, qid, plain_stat, stat_fields, spelled_stat};
+ghost use Rattle.ninep_wire.specs.RMessage.{r_kind, r_fields, spelled_r};
+ghost use Rattle.ninep_wire.specs.Plain.{plain_r};
+ghost use Rattle.ninep_wire.specs.Writing.{HasForm, r_size, stat_size, Wrote};
 
-use crate::answer::Answer;
 use crate::kinds;
 use crate::put::{put_qid, put_qids, put_string, put_u8, put_u16, put_u32, put_u64};
+use crate::r_message::RMessage;
 use tree_model::{Qid, Stat};
 
 /// The bytes of a message before its fields: size[4] type[1] tag[2].
 const HEADER: usize = 7;
 
-fn kind_of(reply: &Answer<'_>) -> u8
-    ensures { (old : List ℕ) → result ≡ answer_kind (plain_answer reply.now old) }
+fn kind_of(reply: &RMessage<'_>) -> u8
+    ensures { (old : List ℕ) → result ≡ r_kind (plain_r reply.now old) }
 {
     match reply {
-        Answer::Version { .. } => kinds::R_VERSION,
-        Answer::Attach { .. } => kinds::R_ATTACH,
-        Answer::Error { .. } => kinds::R_ERROR,
-        Answer::Flush => kinds::R_FLUSH,
-        Answer::Walk { .. } => kinds::R_WALK,
-        Answer::Open { .. } => kinds::R_OPEN,
-        Answer::Create { .. } => kinds::R_CREATE,
-        Answer::Read { .. } => kinds::R_READ,
-        Answer::Write { .. } => kinds::R_WRITE,
-        Answer::Clunk => kinds::R_CLUNK,
-        Answer::Remove => kinds::R_REMOVE,
-        Answer::Stat { .. } => kinds::R_STAT,
-        Answer::Wstat => kinds::R_WSTAT,
+        RMessage::Version { .. } => kinds::R_VERSION,
+        RMessage::Attach { .. } => kinds::R_ATTACH,
+        RMessage::Error { .. } => kinds::R_ERROR,
+        RMessage::Flush => kinds::R_FLUSH,
+        RMessage::Walk { .. } => kinds::R_WALK,
+        RMessage::Open { .. } => kinds::R_OPEN,
+        RMessage::Create { .. } => kinds::R_CREATE,
+        RMessage::Read { .. } => kinds::R_READ,
+        RMessage::Write { .. } => kinds::R_WRITE,
+        RMessage::Clunk => kinds::R_CLUNK,
+        RMessage::Remove => kinds::R_REMOVE,
+        RMessage::Stat { .. } => kinds::R_STAT,
+        RMessage::Wstat => kinds::R_WSTAT,
     }
 }
 
@@ -82,28 +82,28 @@ fn put_stat(out: &mut [u8], count: u16) -> usize
     at + usize::from(count)
 }
 
-/// The fields of an answer, behind its header.
-fn put_fields(reply: &Answer<'_>, out: &mut [u8]) -> usize
+/// The fields of an R-message, behind its header.
+fn put_fields(reply: &RMessage<'_>, out: &mut [u8]) -> usize
     requires form { HasForm reply.now }
-    requires room { answer_size reply.now ≤ length out.old }
-    ensures bytes { Wrote out.old out.new HEADER result (answer_fields (plain_answer reply.now out.old)) }
-    ensures count { result ≡ answer_size reply.now }
+    requires room { r_size reply.now ≤ length out.old }
+    ensures bytes { Wrote out.old out.new HEADER result (r_fields (plain_r reply.now out.old)) }
+    ensures count { result ≡ r_size reply.now }
     ensures small { result < 2 ^ 32 }
 {
     match reply {
-        Answer::Version { msize, version } => put_version(out, *msize, version),
-        Answer::Attach { qid } => put_qid(out, HEADER, qid),
-        Answer::Error { ename } => put_string(out, HEADER, ename),
-        Answer::Flush => HEADER,
-        Answer::Walk { count, qids } => put_walk(out, &qids[..*count]),
-        Answer::Open { qid, iounit } => put_open(out, qid, *iounit),
-        Answer::Create { qid, iounit } => put_open(out, qid, *iounit),
-        Answer::Read { count } => put_read(out, *count),
-        Answer::Write { count } => put_u32(out, HEADER, *count),
-        Answer::Clunk => HEADER,
-        Answer::Remove => HEADER,
-        Answer::Stat { count } => put_stat(out, *count),
-        Answer::Wstat => HEADER,
+        RMessage::Version { msize, version } => put_version(out, *msize, version),
+        RMessage::Attach { qid } => put_qid(out, HEADER, qid),
+        RMessage::Error { ename } => put_string(out, HEADER, ename),
+        RMessage::Flush => HEADER,
+        RMessage::Walk { count, qids } => put_walk(out, &qids[..*count]),
+        RMessage::Open { qid, iounit } => put_open(out, qid, *iounit),
+        RMessage::Create { qid, iounit } => put_open(out, qid, *iounit),
+        RMessage::Read { count } => put_read(out, *count),
+        RMessage::Write { count } => put_u32(out, HEADER, *count),
+        RMessage::Clunk => HEADER,
+        RMessage::Remove => HEADER,
+        RMessage::Stat { count } => put_stat(out, *count),
+        RMessage::Wstat => HEADER,
     }
 }
 
@@ -116,13 +116,12 @@ fn put_header(out: &mut [u8], size: u32, kind: u8, tag: u16) -> usize
     put_u16(out, at, tag)
 }
 
-/// Writes an answer with its tag at the front of `out`, and gives how many bytes it has. No memory is taken.
-pub fn write_reply(reply: &Answer<'_>, tag: u16, out: &mut [u8]) -> usize
+/// Writes an R-message with its tag at the front of `out`, and gives how many bytes it has. No memory is taken.
+pub fn write_reply(reply: &RMessage<'_>, tag: u16, out: &mut [u8]) -> usize
     requires form { HasForm reply.now }
-    requires room { answer_size reply.now ≤ length out.old }
-    ensures count { result ≡ answer_size reply.now }
-    ensures size { result ≡ length (spelled_answer tag (plain_answer reply.now out.old)) }
-    ensures bytes { out.new ≡ spelled_answer tag (plain_answer reply.now out.old) ++ drop (length (spelled_answer tag (plain_answer reply.now out.old))) out.old }
+    requires room { r_size reply.now ≤ length out.old }
+    ensures size { result ≡ r_size reply.now }
+    ensures bytes { out.new ≡ spelled_r tag (plain_r reply.now out.old) ++ drop result out.old }
 {
     let size = put_fields(reply, out);
     put_header(out, size as u32, kind_of(reply), tag);
@@ -147,7 +146,7 @@ fn put_numbers(stat: &Stat<'_>, out: &mut [u8], at: usize) -> usize
 fn put_stat_fields(stat: &Stat<'_>, out: &mut [u8]) -> usize
     requires fits { stat_size stat.now < 2 ^ 16 }
     requires room { stat_size stat.now + 2 ≤ length out.old }
-    ensures bytes { Wrote out.old out.new 2 result (stat_fields stat.now) }
+    ensures bytes { Wrote out.old out.new 2 result (stat_fields (plain_stat stat.now)) }
     ensures count { result ≡ stat_size stat.now + 2 }
 {
     let at = put_numbers(stat, out, 2);
@@ -161,9 +160,8 @@ fn put_stat_fields(stat: &Stat<'_>, out: &mut [u8]) -> usize
 pub fn write_stat(stat: &Stat<'_>, out: &mut [u8]) -> usize
     requires fits { stat_size stat.now < 2 ^ 16 }
     requires room { stat_size stat.now + 2 ≤ length out.old }
-    ensures count { result ≡ stat_size stat.now + 2 }
-    ensures size { result ≡ length (spelled_stat stat.now) }
-    ensures bytes { out.new ≡ spelled_stat stat.now ++ drop (length (spelled_stat stat.now)) out.old }
+    ensures size { result ≡ stat_size stat.now + 2 }
+    ensures bytes { out.new ≡ spelled_stat (plain_stat stat.now) ++ drop result out.old }
 {
     let end = put_stat_fields(stat, out);
     put_u16(out, 0, (end - 2) as u16);

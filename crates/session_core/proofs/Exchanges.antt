@@ -1,45 +1,46 @@
--- The four ways in which a message is answered.
-use Rattle.std.proofs.Common.{◌≡◌, ℕ, Bool, true, false, List, [], ◌∷◌, Result, Ok, refl, sym, ap, subst, ◌∙◌, if◌then◌else◌}
+-- The ways in which a message is answered.
+use Rattle.std.proofs.Common.{◌≡◌, ℕ, ◌-◌, ◌≤◌, List, [], ◌++◌, length, take, drop, Some, None, Result, Ok, refl, sym, ap, subst, ◌∙◌, arith}
+use Rattle.std.proofs.lemmas.List.{append-nil, drop_at, drop_all, take_at, length-take, length-drop, length-append}
+use borrow.Rule.Slice.PartMut.{put_mid, post_of}
 use Rattle.tree_model.specs.Asked.{PlainRequest, Asked}
 use Rattle.ninep_wire.specs.declared.fault.WireErr.{WireErr}
-use Rattle.ninep_wire.specs.Call.{PlainMessage}
-use Rattle.ninep_wire.specs.Answer.{PlainAnswer, error, spelled_answer}
+use Rattle.ninep_wire.specs.TMessage.{PlainMessage}
+use Rattle.ninep_wire.specs.RMessage.{PlainRMessage, spelled_r}
 use Rattle.ninep_wire.specs.Reading.{message_in}
-use Rattle.session_core.specs.declared.stage.Stage.{Stage}
-use Rattle.session_core.specs.Session.{Turn, answers_with, asks, refuses, turn_of, Outcome, outcome_of, is_served, kind_at, tag_at, turn_of_read, turn_at, outcome_of_read, Turns, Exchanged}
-use Rattle.session_core.specs.Texts.{unknown_message}
+use Rattle.session_core.specs.State.{State}
+use Rattle.session_core.specs.Action.{Action, says, asks, action_of}
+use Rattle.session_core.specs.Outcome.{outcome, outcome_of}
+use Rattle.session_core.specs.Session.{action_on, IsDone, tag_at, Exchanged}
 
--- what is said with its tag
-retag : (out : List ℕ) (tag tag' : ℕ) (answer : PlainAnswer) → tag ≡ tag' → out ≡ spelled_answer tag answer → out ≡ spelled_answer tag' answer
-retag out tag tag' answer e h = h ∙ ap (λ (t : ℕ). spelled_answer t answer) e
+pub said : (s next : State) (frame : List ℕ) (given : Result PlainMessage WireErr) (second : ℕ) (out : List ℕ) (tag : ℕ) (answer : PlainRMessage)
+    → message_in frame ≡ given → action_on s given ≡ says answer next → tag ≡ tag_at frame → out ≡ spelled_r tag answer → Exchanged s frame second None out next
+said s next frame given second out tag answer read acts same h = record {
+  answer = answer;
+  spelled = h ∙ ap (λ (k : ℕ). spelled_r k answer) same;
+  is_done = subst (λ (g : Result PlainMessage WireErr). IsDone (action_on s g) s g second None answer next) (sym read)
+      (subst (λ (a : Action). IsDone a s given second None answer next) (sym acts) (refl, refl, refl));
+}
 
-pub said_at_once : (stage : Stage) (frame out : List ℕ) (tag : ℕ) (answer : PlainAnswer) (after : Stage) → turn_at stage frame ≡ answers_with answer after
-    → tag ≡ tag_at frame → out ≡ spelled_answer tag answer → Exchanged stage frame [] out after
-unfolding Exchanged
-said_at_once stage frame out tag answer after at same h =
-    subst (λ (t : Turn). Turns t stage frame [] out after) (sym at) (refl, retag out tag (tag_at frame) answer same h, refl)
+pub asked_for : (s next : State) (frame : List ℕ) (m : PlainMessage) (second : ℕ) (out : List ℕ) (tag : ℕ) (answer : PlainRMessage) (request : PlainRequest) (entry : Asked)
+    → message_in frame ≡ Ok m → action_of s m.body ≡ asks request → entry.request ≡ request → entry.second ≡ second → outcome_of s m.body entry.reply entry.bytes ≡ outcome answer next
+    → tag ≡ tag_at frame → out ≡ spelled_r tag answer → Exchanged s frame second (Some entry) out next
+asked_for s next frame m second out tag answer request entry read acts asked at follows same h =
+    let given : Result PlainMessage WireErr = Ok m in record {
+      answer = answer;
+      spelled = h ∙ ap (λ (k : ℕ). spelled_r k answer) same;
+      is_done = subst (λ (g : Result PlainMessage WireErr). IsDone (action_on s g) s g second (Some entry) answer next) (sym read)
+          (subst (λ (a : Action). IsDone a s given second (Some entry) answer next) (sym acts) (entry, refl, asked, at, follows));
+    }
 
-pub turn_unknown : (stage : Stage) (frame : List ℕ) → is_served (kind_at frame) ≡ false → turn_at stage frame ≡ answers_with (error unknown_message) stage
-turn_unknown stage frame e = ap (λ (b : Bool). if b then turn_of_read stage (message_in frame) else refuses unknown_message stage) e
+-- the end of a list from an offset on, after it was written
+pub put_end : (a : ℕ) (xs ys : List ℕ) → a ≤ length xs → drop a (put_mid a (length xs - a) xs ys) ≡ ys
+put_end a xs ys le =
+    let none : post_of a (length xs - a) xs ≡ [] = drop_all (length xs - a) (drop a xs) (omega (arith, length-drop a xs)) in
+    let front : length (take a xs) ≡ a = omega (arith, length-take a xs) in
+    drop_at (take a xs) (ys ++ post_of a (length xs - a) xs) a front ∙ ap (λ (w : List ℕ). ys ++ w) none ∙ append-nil ys
 
-pub turn_served : (stage : Stage) (frame : List ℕ) (read : Result PlainMessage WireErr) → is_served (kind_at frame) ≡ true → message_in frame ≡ read
-    → turn_at stage frame ≡ turn_of_read stage read
-turn_served stage frame read e r =
-    ap (λ (b : Bool). if b then turn_of_read stage (message_in frame) else refuses unknown_message stage) e ∙ ap (turn_of_read stage) r
-
-pub said_after_asking : (stage : Stage) (frame out : List ℕ) (tag : ℕ) (m : PlainMessage) (request : PlainRequest) (entry : Asked) (after : Stage)
-    → is_served (kind_at frame) ≡ true → message_in frame ≡ Ok m → turn_of stage m.call ≡ asks request → tag ≡ tag_at frame → entry.request ≡ request
-    → out ≡ spelled_answer tag (outcome_of stage m.call entry.reply entry.bytes).answer → after ≡ (outcome_of stage m.call entry.reply entry.bytes).stage
-    → Exchanged stage frame (entry ∷ []) out after
-unfolding Exchanged
-said_after_asking stage frame out tag m request entry after e r t same asked h n =
-    let at : turn_at stage frame ≡ asks request = turn_served stage frame (Ok m) e r ∙ t in
-    let said : outcome_of stage m.call entry.reply entry.bytes ≡ outcome_of_read stage (message_in frame) entry.reply entry.bytes =
-    ap (λ (x : Result PlainMessage WireErr). outcome_of_read stage x entry.reply entry.bytes) (sym r) in
-    subst (λ (x : Turn). Turns x stage frame (entry ∷ []) out after) (sym at) (
-      entry,
-      refl,
-      asked,
-      retag out tag (tag_at frame) (outcome_of stage m.call entry.reply entry.bytes).answer same h ∙ ap (λ (o : Outcome). spelled_answer (tag_at frame) o.answer) said,
-      n ∙ ap (λ (o : Outcome). o.stage) said,
-    )
+-- what was written in front of a rest of this length
+pub written : (text old new : List ℕ) (n : ℕ) → new ≡ text ++ drop n old → length new ≡ length old → n ≤ length old → take n new ≡ text
+written text old new n is same le =
+    let size : length text ≡ n = omega (arith, ap (λ (w : List ℕ). length w) is, length-append text (drop n old), length-drop n old, same, le) in
+    ap (take n) is ∙ take_at text (drop n old) n size

@@ -1,3 +1,13 @@
 pub mod Texts
+pub mod Denial
+pub mod State
+pub mod Stats
+pub mod Slot
+pub mod Entries
+pub mod Table
+pub mod Action
+pub mod Outcome
+pub mod Change
+pub mod Forms
 pub mod Session
-pub mod Turn
+pub mod Inside

@@ -1,131 +1,151 @@
 //! One message and its answer.
 
-ghost use Rattle.std.specs.Prelude.{◌≡◌, ℕ, ◌+◌, ◌≤◌, ◌<◌, ◌++◌, List, [], ◌∷◌, length, take, drop};
-ghost use Rattle.std.specs.List.{AllByRecursion};
-ghost use Rattle.tree_model.specs.Asked.{Asked, plain_request, CanAsk};
-ghost use Rattle.ninep_wire.specs.Answer.{error, spelled_answer};
-ghost use Rattle.ninep_wire.specs.Plain.{plain_call, plain_answer};
+ghost use Rattle.std.specs.Prelude.{◌≡◌, ℕ, ◌≤◌, [], ◌∷◌, List, length, take, drop};
+ghost use Rattle.tree_model.specs.Asked.{Extends, count_limit, CanAsk, IsReplyTo, HasCount, plain_request, plain_reply, asked_of, bytes_put};
+ghost use Rattle.ninep_wire.specs.RMessage.{PlainRMessage, error, spelled_r};
+ghost use Rattle.ninep_wire.specs.Plain.{plain_t, plain_r, HasNames};
 ghost use Rattle.ninep_wire.specs.Reading.{IsFrame};
-ghost use Rattle.ninep_wire.specs.Writing.{HasForm, answer_size};
-ghost use Rattle.session_core.specs.Session.{limit, HasGoodSize, is_served, kind_at, tag_at, turn_of, outcome_of, asks, Exchanged};
-ghost use Rattle.session_core.specs.Turn.{IsAskable};
+ghost use Rattle.ninep_wire.specs.Writing.{HasForm, r_size};
+ghost use Rattle.session_core.specs.State.{State, limit, least_message, most_message, HasGoodSize};
+ghost use Rattle.session_core.specs.Denial.{denial_text};
+ghost use Rattle.session_core.specs.Outcome.{outcome, outcome_of};
+ghost use Rattle.session_core.specs.Action.{refuses};
+ghost use Rattle.session_core.specs.Session.{action_on, tag_at, HasAnswered};
+ghost use Rattle.session_core.specs.Forms.{bytes_offset, IsAnswerable};
 
+use crate::action::{Action, action_of};
 use crate::outcome::outcome_of;
-use crate::stage::Stage;
-use crate::texts::{BAD_MESSAGE, UNKNOWN_MESSAGE};
-use crate::turn::{Turn, turn_of};
+use crate::session::Session;
+use crate::texts::{Denial, denial_text};
 use byteorder::{ByteOrder, LittleEndian};
-use ninep_wire::{Answer, Call, read_message, write_reply};
-use tree_model::{Request, TreeObject};
+use ninep_wire::{RMessage, TMessage, WireErr, read_message, write_reply};
+use tree_model::{Reply, Request, TreeObject};
 
-/// Where the type of a message stands, and where its tag (intro(5)).
-const KIND_PLACE: usize = 4;
+/// Where the tag of a message stands (intro(5)).
+const TAG_OFFSET: usize = 5;
 
-const TAG_PLACE: usize = 5;
+/// Where the bytes of an Rread stand, and where the stat of an Rstat (read(5), stat(5)).
+const READ_OFFSET: usize = 11;
 
-/// Where the bytes of an Rread stand in it (read(5)).
-const READ_PLACE: usize = 11;
-
-/// The types of the six messages that are served (intro(5)).
-const T_VERSION: u8 = 100;
-
-const T_ATTACH: u8 = 104;
-
-const T_WALK: u8 = 110;
-
-const T_OPEN: u8 = 112;
-
-const T_READ: u8 = 116;
-
-const T_CLUNK: u8 = 120;
+const STAT_OFFSET: usize = 9;
 
 fn tag_at(frame: &[u8]) -> u16
     requires { 7 ≤ length frame.now }
     ensures { result ≡ tag_at frame.now }
 {
-    LittleEndian::read_u16(&frame[TAG_PLACE..])
+    LittleEndian::read_u16(&frame[TAG_OFFSET..])
 }
 
-fn is_served(frame: &[u8]) -> bool
-    requires { 7 ≤ length frame.now }
-    ensures { result ≡ is_served (kind_at frame.now) }
+/// What a frame that is no message is refused with.
+fn denial_of(fault: WireErr) -> Denial
+    ensures { (s : State) → action_on s (Err fault) ≡ refuses (denial_text result) s }
 {
-    matches!(
-        frame[KIND_PLACE],
-        T_VERSION | T_ATTACH | T_WALK | T_OPEN | T_READ | T_CLUNK
-    )
+    match fault {
+        WireErr::Kind(_) => Denial::UnknownMessage,
+        WireErr::Short => Denial::BadMessage,
+        WireErr::Long => Denial::BadMessage,
+        WireErr::Text => Denial::BadMessage,
+        WireErr::Names(_) => Denial::BadMessage,
+    }
 }
 
-fn write_answer(answer: &Answer<'_>, tag: u16, out: &mut [u8]) -> usize
-    requires form { HasForm answer.now }
-    requires room { answer_size answer.now ≤ length out.old }
-    ensures bytes { take result out.new ≡ spelled_answer tag (plain_answer answer.now out.old) }
-    ensures size { result ≡ answer_size answer.now }
+fn write_message(message: &RMessage<'_>, tag: u16, out: &mut [u8]) -> usize
+    requires form { HasForm message.now }
+    requires room { r_size message.now ≤ length out.old }
+    ensures bytes { take result out.new ≡ spelled_r tag (plain_r message.now out.old) }
+    ensures size { result ≡ r_size message.now }
 {
-    write_reply(answer, tag, out)
+    write_reply(message, tag, out)
 }
 
-fn write_error(text: &str, tag: u16, out: &mut [u8]) -> usize
-    requires short { length text.now < 32 }
-    requires room { 65560 ≤ length out.old }
-    ensures bytes { take result out.new ≡ spelled_answer tag (error text.now) }
-    ensures size { result ≡ 9 + length text.now }
+fn write_error(denial: Denial, tag: u16, out: &mut [u8]) -> usize
+    requires { most_message ≤ length out.old }
+    ensures bytes { take result out.new ≡ spelled_r tag (error (denial_text denial)) }
+    ensures size { (7 ≤ result) × (result ≤ least_message) }
 {
-    write_answer(&Answer::Error { ename: text }, tag, out)
+    let message = RMessage::Error {
+        ename: denial_text(denial),
+    };
+    write_message(&message, tag, out)
 }
 
-/// Asks the object, whose bytes go straight to their place in the answer.
-fn ask<B: TreeObject>(
-    stage: Stage,
-    call: &Call<'_>,
-    request: &Request<'_>,
+/// Where the bytes of a reply have their place in the R-message.
+fn bytes_offset(request: &Request<'_>) -> usize
+    ensures { result ≡ bytes_offset (plain_request request.now) }
+{
+    match request {
+        Request::StatOf { .. } => STAT_OFFSET,
+        _ => READ_OFFSET,
+    }
+}
+
+/// Asks the object, whose bytes go straight to their place in the R-message.
+fn ask<B: TreeObject>(request: &Request<'_>, object: &mut B, now: u32, out: &mut [u8]) -> Reply
+    requires can { (n : ℕ) → count_limit ≤ n → CanAsk request.now n }
+    requires room { most_message ≤ length out.old }
+    ensures stands { Extends B.stands object.old object.new
+        (asked_of (plain_request request.now) now (plain_reply result) (drop (bytes_offset (plain_request request.now)) out.new) ∷ []) }
+    ensures form { IsReplyTo (plain_request request.now) (plain_reply result)
+        (bytes_put (plain_request request.now) (plain_reply result) (drop (bytes_offset (plain_request request.now)) out.new)) }
+    ensures count { HasCount result }
+{
+    let offset = bytes_offset(request);
+    object.ask(request, now, &mut out[offset..])
+}
+
+/// Answers a message whose request was answered.
+fn finish(
+    session: &mut Session,
+    message: &TMessage<'_>,
+    reply: &Reply,
     tag: u16,
-    object: &mut B,
-    now: u32,
     out: &mut [u8],
-) -> (usize, Stage)
-    requires good { HasGoodSize stage }
-    requires turn { turn_of stage (plain_call call.now) ≡ asks (plain_request request.now) }
-    requires askable { IsAskable (limit stage) (plain_request request.now) (CanAsk request.now) }
-    requires room { 65560 ≤ length out.old }
-    ensures outcome { (entry : Asked) × (entry.request ≡ plain_request request.now) × (entry.moment ≡ now)
-        × (take result.0 out.new ≡ spelled_answer tag (outcome_of stage (plain_call call.now) entry.reply entry.bytes).answer)
-        × (result.1 ≡ (outcome_of stage (plain_call call.now) entry.reply entry.bytes).stage)
-        × ((origin : B) (before : List Asked) → B.stands object.old origin before → B.stands object.new origin (before ++ entry ∷ [])) }
-    ensures size { (7 ≤ result.0) × (result.0 ≤ limit result.1) }
-    ensures good { HasGoodSize result.1 }
+) -> usize
+    requires good { HasGoodSize session.old }
+    requires count { HasCount reply.now }
+    requires names { HasNames message.now }
+    requires room { most_message ≤ length out.old }
+    requires answerable { (bytes : List ℕ) × IsAnswerable session.old (plain_t message.now) (plain_reply reply.now) out.old bytes }
+    ensures answered { (bytes : List ℕ) → IsAnswerable session.old (plain_t message.now) (plain_reply reply.now) out.old bytes
+        → (answer : PlainRMessage) × (take result out.new ≡ spelled_r tag answer)
+        × (outcome_of session.old (plain_t message.now) (plain_reply reply.now) bytes ≡ outcome answer session.new) }
+    ensures size { (7 ≤ result) × (result ≤ limit session.new) }
+    ensures good { HasGoodSize session.new }
 {
-    let reply = object.ask(request, now, &mut out[READ_PLACE..]);
-    let (answer, after) = outcome_of(stage, call, &reply);
-    (write_answer(&answer, tag, out), after)
+    let (answer, change) = outcome_of(session, message, reply);
+    session.change(&change, &out[READ_OFFSET..]);
+    write_message(&answer, tag, out)
 }
 
-/// Answers one whole message in a stage: the answer's size in bytes, and the stage after it.
+/// Answers one whole message: the size of the R-message in bytes.
 pub(crate) fn exchange<B: TreeObject>(
-    stage: Stage,
+    session: &mut Session,
     frame: &[u8],
     object: &mut B,
     now: u32,
     out: &mut [u8],
-) -> (usize, Stage)
-    requires good { HasGoodSize stage }
+) -> usize
+    requires good { HasGoodSize session.old }
     requires frame { IsFrame frame.now }
-    requires room { 65560 ≤ length out.old }
-    ensures exchanged { (asked : List Asked) × Exchanged stage frame.now asked (take result.0 out.new) result.1
-        × AllByRecursion (λ a. a.moment ≡ now) asked
-        × ((origin : B) (before : List Asked) → B.stands object.old origin before → B.stands object.new origin (before ++ asked)) }
-    ensures size { (7 ≤ result.0) × (result.0 ≤ limit result.1) }
-    ensures good { HasGoodSize result.1 }
+    requires size { length frame.now ≤ most_message }
+    requires room { most_message ≤ length out.old }
+    ensures answered { HasAnswered B.stands session.old session.new object.old object.new frame.now now (take result out.new) }
+    ensures size { (7 ≤ result) × (result ≤ limit session.new) }
+    ensures good { HasGoodSize session.new }
 {
     let tag = tag_at(frame);
-    if !is_served(frame) {
-        return (write_error(UNKNOWN_MESSAGE, tag, out), stage);
-    }
-    match read_message(frame) {
-        Ok(message) => match turn_of(stage, &message.call) {
-            Turn::Answer(answer, after) => (write_answer(&answer, tag, out), after),
-            Turn::Ask(request) => ask(stage, &message.call, &request, tag, object, now, out),
-        },
-        Err(_) => (write_error(BAD_MESSAGE, tag, out), stage),
+    let message = match read_message(frame) {
+        Ok(message) => message,
+        Err(fault) => return write_error(denial_of(fault), tag, out),
+    };
+    match action_of(session, &message.body) {
+        Action::Say(answer, change) => {
+            session.change(&change, &[]);
+            write_message(&answer, tag, out)
+        }
+        Action::Ask(request) => {
+            let reply = ask(&request, object, now, out);
+            finish(session, &message.body, &reply, tag, out)
+        }
     }
 }

@@ -1,15 +1,13 @@
-//! A session of 9P2000 over one connection: one message at a time, answered by an object that keeps a file tree.
 #![tactic(auto)]
 
+mod action;
+mod change;
 mod exchange;
+mod fids;
+mod last_name;
 mod outcome;
 mod session;
-mod stage;
+mod slot;
 mod texts;
-mod turn;
 
 pub use session::{MAX_MESSAGE, Session};
-pub use stage::Stage;
-
-#[cfg(test)]
-mod tests;

@@ -1,170 +1,189 @@
-//! What the reply to a request leads to.
+//! What a reply of the tree leads to.
 
-ghost use Rattle.std.specs.Prelude.{◌≡◌, ℕ, ◌≤◌, List, [], length, take};
+ghost use Rattle.std.specs.Prelude.{◌≡◌, ◌≤◌, take};
 ghost use Rattle.tree_model.specs.Asked as asked;
-ghost use Rattle.tree_model.specs.Asked.{plain_reply};
-ghost use Rattle.ninep_wire.specs.Answer.{error};
-ghost use Rattle.ninep_wire.specs.Call.{attach, walk};
-ghost use Rattle.ninep_wire.specs.Plain.{plain_call, plain_answer};
-ghost use Rattle.session_core.specs.declared.stage.Stage.TheVariants.{Agreed, Attached, AtNode, Opened};
-ghost use Rattle.session_core.specs.Session.{outcome, outcome_of, limit, HasGoodSize};
-ghost use Rattle.session_core.specs.Texts.{not_permitted};
-ghost use Rattle.session_core.specs.Turn.{IsWithin, IsSmallReply, AreInPlace};
+ghost use Rattle.tree_model.specs.Asked.{plain_reply, HasCount};
+ghost use Rattle.ninep_wire.specs.Plain.{plain_t, HasNames};
+ghost use Rattle.session_core.specs.State.{closed, open_with, HasGoodSize};
+ghost use Rattle.session_core.specs.Slot.{placed};
+ghost use Rattle.session_core.specs.Forms.{IsWalkChange, AnswersTo, HasSuited};
 
-use crate::stage::Stage;
-use crate::texts::{NOT_PERMITTED, refusal_text};
-use crate::turn::READ_OVERHEAD;
-use ninep_wire::{Answer, Call};
-use tree_model::{Qid, Reply};
+use crate::action::HEADER_ROOM;
+use crate::change::Change;
+use crate::session::Session;
+use crate::slot::Place;
+use crate::texts::refusal_text;
+use ninep_wire::{RMessage, TMessage};
+use tree_model::{Qid, Refusal, Reply};
 
-/// The answer to a call whose request was answered, and the stage after it. After a refusal the same message is still next.
-pub(crate) fn outcome_of<'a>(stage: Stage, call: &Call<'_>, reply: &'a Reply) -> (Answer<'a>, Stage)
-    requires size { HasGoodSize stage }
-    requires small { IsSmallReply (limit stage) (plain_reply reply.now) }
-    ensures outcome { (old bytes : List ℕ) → AreInPlace (plain_reply reply.now) old bytes →
-        outcome (plain_answer result.0 old) result.1 ≡ outcome_of stage (plain_call call.now) (plain_reply reply.now) bytes }
-    ensures form { IsWithin result.0 result.1 }
+/// At the node that a qid tells of, not open.
+fn closed_at(qid: &Qid) -> Place
+    ensures { placed result ≡ closed qid.now }
 {
-    match reply {
-        Reply::Refused(refusal) => {
-            let answer = Answer::Error {
-                ename: refusal_text(refusal),
-            };
-            (answer, stage)
-        }
-        Reply::Qid(found) => qid_outcome(stage, call, *found),
-        Reply::Walked { count, qids } => walk_outcome(stage, call, *count, qids),
-        Reply::Count(count) => count_outcome(stage, call, *count),
-        Reply::Stat(_) => unasked(stage),
-        Reply::Done => unasked(stage),
+    Place {
+        node: qid.path,
+        is_dir: qid.kind == Qid::DIRECTORY,
+        mode: None,
     }
 }
 
-/// No reply has another form than its request asks for.
-fn unasked<'a>(stage: Stage) -> (Answer<'a>, Stage)
-    requires { HasGoodSize stage }
-    ensures outcome { (old : List ℕ) → outcome (plain_answer result.0 old) result.1 ≡ outcome (error not_permitted) stage }
-    ensures form { IsWithin result.0 result.1 }
+/// At the node that a qid tells of, open with a mode.
+fn open_at(qid: &Qid, mode: u8) -> Place
+    ensures { placed result ≡ open_with mode qid.now }
 {
-    let answer = Answer::Error {
-        ename: NOT_PERMITTED,
+    Place {
+        node: qid.path,
+        is_dir: qid.kind == Qid::DIRECTORY,
+        mode: Some(mode),
+    }
+}
+
+/// After a refusal the session is as it was, but that a remove has freed its fid.
+fn refused_outcome<'a>(
+    session: &Session,
+    message: &TMessage<'_>,
+    refusal: &Refusal,
+) -> (RMessage<'a>, Change)
+    requires good { HasGoodSize session.now }
+    ensures { AnswersTo session.now (plain_t message.now) (asked.refused refusal.now) result.0 result.1 }
+{
+    let answer = RMessage::Error {
+        ename: refusal_text(refusal),
     };
-    (answer, stage)
+    match *message {
+        TMessage::Remove { fid } => (answer, Change::Free(fid)),
+        _ => (answer, Change::Nothing),
+    }
 }
 
 /// The root is attached, or a node is open.
-fn qid_outcome<'a>(stage: Stage, call: &Call<'_>, found: Qid) -> (Answer<'a>, Stage)
-    requires { HasGoodSize stage }
-    ensures outcome { (old bytes : List ℕ) →
-        outcome (plain_answer result.0 old) result.1 ≡ outcome_of stage (plain_call call.now) (asked.qid found) bytes }
-    ensures form { IsWithin result.0 result.1 }
+fn qid_outcome<'a>(session: &Session, message: &TMessage<'_>, qid: Qid) -> (RMessage<'a>, Change)
+    requires good { HasGoodSize session.now }
+    requires suited { HasSuited session.now (plain_t message.now) (asked.qid qid) }
+    ensures { AnswersTo session.now (plain_t message.now) (asked.qid qid) result.0 result.1 }
 {
-    match stage {
-        Stage::Agreed { size } => attach_outcome(size, call, found),
-        Stage::AtNode { size, fid, node } => {
-            let answer = Answer::Open {
-                qid: found,
-                iounit: size - READ_OVERHEAD,
-            };
-            (answer, Stage::Opened { size, fid, node })
+    let iounit = session.limit() - HEADER_ROOM;
+    match *message {
+        TMessage::Attach { fid, .. } => {
+            (RMessage::Attach { qid }, Change::Set(fid, closed_at(&qid)))
         }
-        Stage::Fresh | Stage::Attached { .. } | Stage::Opened { .. } | Stage::Clunked { .. } => {
-            unasked(stage)
-        }
-    }
-}
-
-fn attach_outcome<'a>(size: u32, call: &Call<'_>, found: Qid) -> (Answer<'a>, Stage)
-    requires { HasGoodSize (Agreed size) }
-    ensures outcome { (old bytes : List ℕ) →
-        outcome (plain_answer result.0 old) result.1 ≡ outcome_of (Agreed size) (plain_call call.now) (asked.qid found) bytes }
-    ensures form { IsWithin result.0 result.1 }
-{
-    match *call {
-        Call::Attach { fid, .. } => {
+        TMessage::Open { fid, mode } => {
             (
-                Answer::Attach { qid: found },
-                Stage::Attached { size, root: fid },
+                RMessage::Open { qid, iounit },
+                Change::Set(fid, open_at(&qid, mode)),
             )
         }
-        _ => unasked(Stage::Agreed { size }),
+        TMessage::Create { fid, mode, .. } => {
+            (
+                RMessage::Create { qid, iounit },
+                Change::Set(fid, open_at(&qid, mode)),
+            )
+        }
+        _ => unreachable!(),
     }
 }
 
-fn walk_outcome<'a>(
-    stage: Stage,
-    call: &Call<'_>,
-    count: usize,
-    qids: &'a [Qid; 16],
-) -> (Answer<'a>, Stage)
-    requires size { HasGoodSize stage }
-    requires small { length (take count qids.now) ≤ 1 }
-    ensures outcome { (old bytes : List ℕ) →
-        outcome (plain_answer result.0 old) result.1 ≡ outcome_of stage (plain_call call.now) (asked.walked (take count qids.entry.now)) bytes }
-    ensures form { IsWithin result.0 result.1 }
+/// newfid is put at the last node, where all names were walked.
+fn walk_change(newfid: u32, names: u16, count: usize, qids: &[Qid; 16]) -> Change
+    requires count { count ≤ 16 }
+    ensures { IsWalkChange newfid names (take count qids.now) result }
 {
-    match stage {
-        Stage::Attached { size, root } => walked_outcome(size, root, call, count, qids),
-        Stage::Fresh | Stage::Agreed { .. } | Stage::AtNode { .. } => unasked(stage),
-        Stage::Opened { .. } | Stage::Clunked { .. } => unasked(stage),
+    if count == 0 || count != usize::from(names) {
+        return Change::Nothing;
     }
+    Change::Set(newfid, closed_at(&qids[count - 1]))
 }
 
 fn walked_outcome<'a>(
-    size: u32,
-    root: u32,
-    call: &Call<'_>,
+    session: &Session,
+    message: &TMessage<'_>,
     count: usize,
     qids: &'a [Qid; 16],
-) -> (Answer<'a>, Stage)
-    requires size { HasGoodSize (Attached size root) }
-    requires small { length (take count qids.now) ≤ 1 }
-    ensures outcome { (old bytes : List ℕ) →
-        outcome (plain_answer result.0 old) result.1 ≡ outcome_of (Attached size root) (plain_call call.now) (asked.walked (take count qids.entry.now)) bytes }
-    ensures form { IsWithin result.0 result.1 }
+) -> (RMessage<'a>, Change)
+    requires good { HasGoodSize session.now }
+    requires count { count ≤ 16 }
+    requires names { HasNames message.now }
+    requires suited { HasSuited session.now (plain_t message.now) (asked.walked (take count qids.now)) }
+    ensures { AnswersTo session.now (plain_t message.now) (asked.walked (take count qids.entry.now)) result.0 result.1 }
 {
-    match *call {
-        Call::Walk { newfid, .. } => node_outcome(size, root, newfid, count, qids),
-        _ => unasked(Stage::Attached { size, root }),
+    match *message {
+        TMessage::Walk { newfid, names, .. } => {
+            let change = walk_change(newfid, names.count, count, qids);
+            (RMessage::Walk { count, qids }, change)
+        }
+        _ => unreachable!(),
     }
 }
 
-/// A fid walked to a node, where the walk went all the way.
-fn node_outcome<'a>(
-    size: u32,
-    root: u32,
-    newfid: u32,
-    count: usize,
-    qids: &'a [Qid; 16],
-) -> (Answer<'a>, Stage)
-    requires size { HasGoodSize (Attached size root) }
-    requires small { length (take count qids.now) ≤ 1 }
-    ensures outcome { (old bytes : List ℕ) (fid : ℕ) (names : List (List ℕ)) →
-        outcome (plain_answer result.0 old) result.1 ≡ outcome_of (Attached size root) (walk fid newfid names) (asked.walked (take count qids.entry.now)) bytes }
-    ensures form { IsWithin result.0 result.1 }
+fn count_outcome<'a>(
+    session: &Session,
+    message: &TMessage<'_>,
+    count: u32,
+) -> (RMessage<'a>, Change)
+    requires good { HasGoodSize session.now }
+    requires suited { HasSuited session.now (plain_t message.now) (asked.count count) }
+    ensures { AnswersTo session.now (plain_t message.now) (asked.count count) result.0 result.1 }
 {
-    let answer = Answer::Walk { count, qids };
-    if count == 0 {
-        return (answer, Stage::Attached { size, root });
+    match *message {
+        TMessage::Read { fid, offset, .. } => {
+            (
+                RMessage::Read { count },
+                Change::ReadOn { fid, offset, count },
+            )
+        }
+        TMessage::Write { .. } => (RMessage::Write { count }, Change::Nothing),
+        _ => unreachable!(),
     }
-    let stage = Stage::AtNode {
-        size,
-        fid: newfid,
-        node: qids[0].path,
-    };
-    (answer, stage)
 }
 
-fn count_outcome<'a>(stage: Stage, call: &Call<'_>, count: u32) -> (Answer<'a>, Stage)
-    requires size { HasGoodSize stage }
-    requires small { IsSmallReply (limit stage) (asked.count count) }
-    ensures outcome { (old bytes : List ℕ) → AreInPlace (asked.count count) old bytes →
-        outcome (plain_answer result.0 old) result.1 ≡ outcome_of stage (plain_call call.now) (asked.count count) bytes }
-    ensures form { IsWithin result.0 result.1 }
+fn stat_outcome<'a>(session: &Session, message: &TMessage<'_>, count: u32) -> (RMessage<'a>, Change)
+    requires good { HasGoodSize session.now }
+    requires suited { HasSuited session.now (plain_t message.now) (asked.stat count) }
+    ensures { AnswersTo session.now (plain_t message.now) (asked.stat count) result.0 result.1 }
 {
-    match stage {
-        Stage::Opened { .. } => (Answer::Read { count }, stage),
-        Stage::Fresh | Stage::Agreed { .. } | Stage::Attached { .. } => unasked(stage),
-        Stage::AtNode { .. } | Stage::Clunked { .. } => unasked(stage),
+    match *message {
+        TMessage::Stat { .. } => {
+            (
+                RMessage::Stat {
+                    count: count as u16,
+                },
+                Change::Nothing,
+            )
+        }
+        _ => unreachable!(),
+    }
+}
+
+fn done_outcome<'a>(session: &Session, message: &TMessage<'_>) -> (RMessage<'a>, Change)
+    requires good { HasGoodSize session.now }
+    requires suited { HasSuited session.now (plain_t message.now) asked.done }
+    ensures { AnswersTo session.now (plain_t message.now) asked.done result.0 result.1 }
+{
+    match *message {
+        TMessage::Remove { fid } => (RMessage::Remove, Change::Free(fid)),
+        TMessage::Wstat { .. } => (RMessage::Wstat, Change::Nothing),
+        _ => unreachable!(),
+    }
+}
+
+/// The answer to a message whose request was answered, and what changes.
+pub(crate) fn outcome_of<'a>(
+    session: &Session,
+    message: &TMessage<'_>,
+    reply: &'a Reply,
+) -> (RMessage<'a>, Change)
+    requires good { HasGoodSize session.now }
+    requires count { HasCount reply.now }
+    requires names { HasNames message.now }
+    requires suited { HasSuited session.now (plain_t message.now) (plain_reply reply.now) }
+    ensures { AnswersTo session.now (plain_t message.now) (plain_reply reply.now) result.0 result.1 }
+{
+    match reply {
+        Reply::Refused(refusal) => refused_outcome(session, message, refusal),
+        Reply::Qid(qid) => qid_outcome(session, message, *qid),
+        Reply::Walked { count, qids } => walked_outcome(session, message, *count, qids),
+        Reply::Count(count) => count_outcome(session, message, *count),
+        Reply::Stat(count) => stat_outcome(session, message, *count),
+        Reply::Done => done_outcome(session, message),
     }
 }

@@ -1,68 +1,99 @@
-ghost use Rattle.std.specs.Prelude.{◌≡◌, ◌≤◌, ◌++◌, List, length, take};
-ghost use Rattle.std.specs.List.{AllByRecursion};
-ghost use Rattle.tree_model.specs.Asked.{Asked};
-ghost use Rattle.ninep_wire.specs.Reading.{IsFrame};
-ghost use Rattle.session_core.specs.Session.{limit, Exchanged};
-ghost use Rattle.session_core.specs.declared.stage.Stage.TheVariants.{Fresh};
+ghost use Rattle.std.specs.Prelude.{◌≡◌, ◌≤◌, length, take, is_some, IfOk};
 
+use crate::change::Change;
 use crate::exchange::exchange;
-use crate::stage::Stage;
+use crate::fids::FidTable;
+use std::alloc::{AllocError, Global};
 use std::marker::Model;
 use tree_model::TreeObject;
 
-/// The largest message, in bytes: a read of 65,536 bytes and its header.
+/// The largest message, in bytes: a read of 65,536 bytes and 24 bytes for its header.
 pub const MAX_MESSAGE: usize = 65560;
 
-/// One session: how far it has come. Clauses see its `Stage`.
+/// One session: the agreed size of messages and the fids in use. Clauses see its `State`.
 #[derive(Drop)]
 pub struct Session {
-    stage: Stage,
+    size: Option<u32>,
+    fids: FidTable,
 }
 
 impl Model for Session {
-    ghost use Rattle.session_core.specs.declared.stage.Stage.{Stage};
-    ghost use Rattle.session_core.specs.Session.{HasGoodSize};
+    ghost use Rattle.session_core.specs.State.{State, state_code};
 
-    ghost Value = { Stage };
+    ghost Value = { State };
 
-    ghost view = { λ s. s.stage };
+    ghost coded = { state_code };
 
-    ghost invariant = { λ s. HasGoodSize s.stage };
-}
+    ghost use Rattle.session_core.specs.Inside.{session_view, IsSession};
 
-/// The largest message that may come in a stage, in bytes.
-fn limit_of(stage: Stage) -> u32
-    ensures { result ≡ limit stage }
-{
-    match stage {
-        Stage::Fresh => MAX_MESSAGE as u32,
-        Stage::Agreed { size } => size,
-        Stage::Attached { size, .. } => size,
-        Stage::AtNode { size, .. } => size,
-        Stage::Opened { size, .. } => size,
-        Stage::Clunked { size } => size,
-    }
+    ghost view = { session_view };
+
+    ghost invariant = { IsSession };
 }
 
 impl Session {
-    /// A session before its first message.
-    pub fn new() -> Session
-        ensures { result ≡ Fresh }
+    ghost use Rattle.tree_model.specs.Asked.{Asked};
+    ghost use Rattle.ninep_wire.specs.Reading.{IsFrame};
+    ghost use Rattle.session_core.specs.State.{fresh, limit, least_message, most_message, HasGoodSize};
+    ghost use Rattle.session_core.specs.Change.{changed, size_after, CanChange};
+    ghost use Rattle.session_core.specs.Session.{HasAnswered};
+
+    /// A session before its first message, with room for 1,024 fids and a name of 1,024 bytes for each. It is refused where
+    /// memory ran out.
+    pub fn new(alloc: Global) -> Result<Session, AllocError>
+        ensures { IfOk result (λ session. session ≡ fresh) }
     {
-        Session {
-            stage: Stage::Fresh,
-        }
+        Ok(Session {
+            size: None,
+            fids: FidTable::new(alloc)?,
+        })
     }
 
     /// The largest message that may come next, in bytes: the agreed size, or 65,560 before one.
     pub fn limit(&self) -> u32
         ensures value { result ≡ limit self.now }
-        ensures small { (2048 ≤ result) × (result ≤ 65560) }
+        ensures bounds { (least_message ≤ result) × (result ≤ most_message) }
     {
-        limit_of(self.stage)
+        self.size.unwrap_or(MAX_MESSAGE as u32)
     }
 
-    /// Answers one whole message into `out` and gives the answer's size in bytes. It makes at most one request of the object.
+    pub(crate) fn has_size(&self) -> bool
+        ensures { result ≡ is_some self.now.size }
+    {
+        self.size.is_some()
+    }
+
+    pub(crate) fn fids(&self) -> &FidTable
+        ensures { result.now ≡ self.now.fids }
+    {
+        &self.fids
+    }
+
+    /// Changes the session; `bytes` begin with those that were read, if any were.
+    pub(crate) fn change(&mut self, change: &Change, bytes: &[u8])
+        requires { CanChange self.old change.now bytes.now }
+        ensures value { self.new ≡ changed self.old change.now bytes.now }
+        ensures size { self.new.size ≡ size_after self.old change.now }
+        ensures good { HasGoodSize self.new }
+    {
+        match *change {
+            Change::Nothing => {}
+            Change::Version(size) => {
+                self.fids.clear();
+                self.size = size;
+            }
+            Change::Set(fid, place) => self.fids.set(fid, &place),
+            Change::Free(fid) => self.fids.remove(fid),
+            Change::ReadOn { fid, offset, count } => {
+                self.fids.read_on(fid, offset, &bytes[..count as usize]);
+            }
+        }
+    }
+
+    /// Answers one whole message, which came at a second since 1970-01-01: the R-message is put at the front of `out`, and its
+    /// size in bytes is returned. At most one request is made of the object, and no memory is taken.
+    ///
+    /// The frame has at most as many bytes as `limit` says, and `out` has room for 65,560.
     pub fn answer<B: TreeObject>(
         &mut self,
         frame: &[u8],
@@ -72,15 +103,12 @@ impl Session {
     ) -> usize
         requires frame { IsFrame frame.now }
         requires size { length frame.now ≤ limit self.old }
-        requires room { 65560 ≤ length out.old }
-        ensures exchanged { (asked : List Asked) × Exchanged self.old frame.now asked (take result out.new) self.new
-            × AllByRecursion (λ a. a.moment ≡ now) asked
-            × ((origin : B) (before : List Asked) → B.stands object.old origin before → B.stands object.new origin (before ++ asked)) }
+        requires room { most_message ≤ length out.old }
+        ensures answered { HasAnswered B.stands self.old self.new object.old object.new frame.now now (take result out.new) }
         ensures size { (7 ≤ result) × (result ≤ limit self.new) }
-        ensures small { result ≤ 65560 }
+        ensures bounds { limit self.new ≤ most_message }
     {
-        let (size, after) = exchange(self.stage, frame, object, now, out);
-        self.stage = after;
-        size
+        prove!(frame.len() <= self.limit() as usize);
+        exchange(self, frame, object, now, out)
     }
 }

@@ -2,16 +2,53 @@
 
 ghost use Rattle.std.specs.Prelude.{◌≡◌, ◌<◌, length};
 ghost use Rattle.session_core.specs.Texts.{refusal_text};
+ghost use Rattle.session_core.specs.Denial.{denial_text};
 
 use tree_model::Refusal;
 
-pub(crate) const UNKNOWN_MESSAGE: &str = "unknown message";
+/// What a session itself refuses.
+#[derive(Clone, Copy)]
+pub(crate) enum Denial {
+    /// The frame's type is no client's.
+    UnknownMessage,
+    /// The frame is no message.
+    BadMessage,
+    NoVersion,
+    MessageSizeTooSmall,
+    AuthenticationNotRequired,
+    UnknownFid,
+    FidInUse,
+    TooManyFids,
+    FidIsOpen,
+    FidIsNotOpen,
+    BadOffset,
+    NotPermitted,
+    IsADirectory,
+}
 
-pub(crate) const BAD_MESSAGE: &str = "bad message";
+/// The text of a session's refusal.
+pub(crate) fn denial_text(denial: Denial) -> &'static str
+    ensures text { result.now ≡ denial_text denial }
+    ensures short { length result.now < 32 }
+{
+    match denial {
+        Denial::UnknownMessage => "unknown message",
+        Denial::BadMessage => "bad message",
+        Denial::NoVersion => "no version",
+        Denial::MessageSizeTooSmall => "message size too small",
+        Denial::AuthenticationNotRequired => "authentication not required",
+        Denial::UnknownFid => "unknown fid",
+        Denial::FidInUse => "fid in use",
+        Denial::TooManyFids => "too many fids",
+        Denial::FidIsOpen => "fid is open",
+        Denial::FidIsNotOpen => "fid is not open",
+        Denial::BadOffset => "bad offset",
+        Denial::NotPermitted => "not permitted",
+        Denial::IsADirectory => "is a directory",
+    }
+}
 
-pub(crate) const NOT_PERMITTED: &str = "not permitted";
-
-/// The text of a refusal.
+/// The text of the tree's refusal.
 pub(crate) fn refusal_text(refusal: &Refusal) -> &'static str
     ensures text { result.now ≡ refusal_text refusal.now }
     ensures short { length result.now < 32 }
@@ -24,7 +61,7 @@ pub(crate) fn refusal_text(refusal: &Refusal) -> &'static str
         Refusal::NameTooLong => "name too long",
         Refusal::FileDoesNotExist => "file does not exist",
         Refusal::FileExists => "file exists",
-        Refusal::NotPermitted => NOT_PERMITTED,
+        Refusal::NotPermitted => "not permitted",
         Refusal::DirectoryNotEmpty => "directory not empty",
         Refusal::CountTooSmall => "count too small",
         Refusal::FileTooLarge => "file too large",

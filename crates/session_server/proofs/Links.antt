@@ -35,10 +35,6 @@ reads_with P None (Some m) x h p = absurd h
 reads_with P (Some o) None x h p = absurd h
 reads_with P (Some o) (Some m) x h p = (h, p)
 
-pub told_always : (P : List ℕ → Type 0) (b : Option (List ℕ)) → ((x : List ℕ) → P x) → Told b P
-told_always P None h = tt
-told_always P (Some x) h = h x
-
 pub writes_nothing : (taken : Option (List ℕ)) → Writes taken taken []
 writes_nothing None = tt
 writes_nothing (Some xs) = sym (append-nil xs)

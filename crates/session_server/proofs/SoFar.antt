@@ -1,146 +1,161 @@
 -- The talk so far: messages that were answered, and what the link and the object are after them.
 use Rattle.std.proofs.Common.{◌≡◌, ℕ, ◌+◌, ◌^◌, ◌<◌, ◌≤◌, List, [], ◌∷◌, ◌++◌, length, take, drop, Option, Some, None, refl, sym, ap, subst, ◌∙◌, append_assoc, arith}
 use Rattle.std.specs.List.{concat, AllByRecursion}
+use Rattle.std.specs.Option.{option_to_list}
 use Rattle.std.proofs.lemmas.List.{append-nil, take-append-drop, length-append, length-drop}
-use Rattle.outside.specs.Calls.{Told, Changes}
-use Rattle.tree_model.specs.Asked.{Asked}
-use Rattle.ninep_wire.specs.Reading.{IsFrame}
-use Rattle.session_core.specs.declared.stage.Stage.{Stage}
-use Rattle.session_core.specs.declared.stage.Stage.TheVariants.{Fresh}
-use Rattle.session_core.specs.Session.{limit, Exchanged}
+use Rattle.outside.specs.Calls.{HasCause, Told}
+use Rattle.outside.specs.Views.{LinkView}
+use Rattle.outside.proofs.Told.{told_always}
+use Rattle.outside.proofs.Lists.{all_joined}
+use Rattle.tree_model.specs.Asked.{Asked, Extends}
+use Rattle.ninep_wire.specs.Reading.{IsFrame, message_in}
+use Rattle.session_core.specs.State.{State, fresh, limit}
+use Rattle.session_core.specs.Action.{Action, says, asks}
+use Rattle.session_core.specs.Session.{Exchanged, IsDone, action_on}
 use Rattle.session_server.specs.declared.ending.SessionEnd.{SessionEnd}
 use Rattle.session_server.specs.declared.ending.SessionEnd.TheVariants.{Done, Cut, BadFrame, ReadFault, WriteFault, Limit, Memory}
-use Rattle.session_server.specs.Talk.{Answered, EndsAfter, Talk, IsTaken, IsReadUp}
+use Rattle.session_server.specs.Talk.{Answered, EndsAfter, IsTaken, IsReadUp}
+use Rattle.session_server.specs.Served.{HasTalked}
 use Rattle.session_server.specs.Steps.{Reads, Writes, IsReadEnd, StopsAt}
-use Rattle.session_server.proofs.Links.{reads_nothing, reads_then, reads_more, reads_with, told_always, writes_nothing, writes_more}
+use Rattle.session_server.proofs.Links.{reads_nothing, reads_then, reads_more, reads_with, writes_nothing, writes_more, cause_later, no_cause}
 
-abbrev pub Stands : Type 0 → Type 1
-Stands X = X → List Asked → Type 0
+-- all was asked at the clock's second, where it tells
+abbrev pub AtSecond : Option ℕ → List Asked → Type 0
+AtSecond second asked = Told second (λ s. AllByRecursion (λ a. a.second ≡ s) asked)
 
--- what was asked is what the object stands for from then on
-abbrev pub Goes : {X : Type 0} → Stands X → Stands X → List Asked → Type 0
-Goes {X} stands stands' asked = (origin : X) (before : List Asked) → stands origin before → stands' origin (before ++ asked)
-
-abbrev pub At : Option ℕ → List Asked → Type 0
-At second asked = Told second (λ s. AllByRecursion (λ a. a.moment ≡ s) asked)
-
--- what a session says of the talk that it held
-abbrev pub Held : {X : Type 0} → SessionEnd → Option (List ℕ) → Option (List ℕ) → Option (List ℕ) → Option (List ℕ) → Option ℕ → Stands X → Stands X → Type 0
-Held end left left' taken taken' second stands stands' =
-    (input : List ℕ) × (asked : List Asked) × (out : List ℕ) × (given : List ℕ)
-    × Talk input asked out end
-    × Changes left left' (λ old new. (old ≡ input ++ new) × IsReadUp end new)
-    × Changes taken taken' (λ old new. new ≡ old ++ given)
-    × IsTaken end out given
-    × At second asked
-    × Goes stands stands' asked
-
-pub record SoFar {X : Type 0} (n : ℕ) (stage : Stage) (left left' taken taken' : Option (List ℕ)) (second : Option ℕ) (stands stands' : Stands X) : Type 0 where
+-- n messages were answered since the link was as before
+pub record SoFar {B : Type 0} (stands : B → B → List Asked → Type 0) (object object' : B) (before now : LinkView) (second : Option ℕ) (n : ℕ) (s : State) : Type 0 where
   pub frames : List (List ℕ)
   pub asked : List Asked
-  pub out : List ℕ
+  pub answers : List (List ℕ)
   pub count : length frames ≡ n
-  pub answered : Answered Fresh frames asked out stage
-  pub read : Reads left left' (concat frames)
-  pub wrote : Writes taken taken' out
-  pub moments : At second asked
-  pub goes : Goes stands stands' asked
+  pub answered : Answered fresh frames asked answers s
+  pub read : Reads before.left now.left (concat frames)
+  pub wrote : Writes before.taken now.taken (concat answers)
+  pub seconds : AtSecond second asked
+  pub extends : Extends stands object object' asked
+  pub read_faults : before.read_faults ≤ now.read_faults
+  pub write_faults : before.write_faults ≤ now.write_faults
 
 -- one message, answered
-pub record Turn (stage : Stage) (frame : List ℕ) (asked : List Asked) (answer : List ℕ) (next : Stage) : Type 0 where
+pub record OneAnswered (s : State) (frame : List ℕ) (second : ℕ) (request : Option Asked) (answer : List ℕ) (next : State) : Type 0 where
   pub framed : IsFrame frame
-  pub fits : length frame ≤ limit stage
-  pub exchanged : Exchanged stage frame asked answer next
+  pub fits : length frame ≤ limit s
+  pub exchanged : Exchanged s frame second request answer next
 
 -- ---- one more message
 
-concat_more : (frames : List (List ℕ)) (frame : List ℕ) → concat (frames ++ frame ∷ []) ≡ concat frames ++ frame
-concat_more [] frame = append-nil frame
-concat_more (x ∷ frames) frame = ap (λ (w : List ℕ). x ++ w) (concat_more frames frame) ∙ sym (append_assoc x (concat frames) frame)
+-- joined lists with one list more
+concat_more : (xs : List (List ℕ)) (x : List ℕ) → concat (xs ++ x ∷ []) ≡ concat xs ++ x
+concat_more [] x = append-nil x
+concat_more (y ∷ xs) x = ap (λ (w : List ℕ). y ++ w) (concat_more xs x) ∙ sym (append_assoc y (concat xs) x)
 
-answered_more : (first : Stage) (frames : List (List ℕ)) (asked : List Asked) (out : List ℕ) (stage : Stage) (frame : List ℕ) (a : List Asked) (answer : List ℕ) (next : Stage)
-    → Answered first frames asked out stage → Turn stage frame a answer next → Answered first (frames ++ frame ∷ []) (asked ++ a) (out ++ answer) next
-answered_more first [] asked out stage frame a answer next h turn =
-    let same : stage ≡ first = h.2 in (
-      a,
-      [],
-      answer,
-      [],
-      next,
-      turn.framed,
-      subst (λ (s : Stage). length frame ≤ limit s) same turn.fits,
-      subst (λ (s : Stage). Exchanged s frame a answer next) same turn.exchanged,
-      (refl, refl, refl),
-      ap (λ (w : List Asked). w ++ a) h.0 ∙ sym (append-nil a),
-      ap (λ (w : List ℕ). w ++ answer) h.1 ∙ sym (append-nil answer),
-    )
-answered_more first (x ∷ frames) asked out stage frame a answer next h turn = (
-  h.0,
-  h.1 ++ a,
-  h.2,
-  h.3 ++ answer,
-  h.4,
-  h.5,
-  h.6,
-  h.7,
-  answered_more h.4 frames h.1 h.3 stage frame a answer next h.8 turn,
-  ap (λ (w : List Asked). w ++ a) h.9 ∙ append_assoc h.0 h.1 a,
-  ap (λ (w : List ℕ). w ++ answer) h.10 ∙ append_assoc h.2 h.3 answer,
-)
+-- messages that were answered, and one more
+answered_more : (first : State) (frames : List (List ℕ)) (asked : List Asked) (answers : List (List ℕ)) (s : State) (frame : List ℕ) (second : ℕ) (request : Option Asked) (answer : List ℕ) (next : State)
+    → Answered first frames asked answers s → OneAnswered s frame second request answer next
+    → Answered first (frames ++ frame ∷ []) (asked ++ option_to_list request) (answers ++ answer ∷ []) next
+answered_more first [] asked answers s frame second request answer next h one =
+    let same : s ≡ first = h.2 in record {
+      framed = one.framed;
+      fits = subst (λ (t : State). length frame ≤ limit t) same one.fits;
+      second = second;
+      request = request;
+      answer = answer;
+      next = next;
+      exchanged = subst (λ (t : State). Exchanged t frame second request answer next) same one.exchanged;
+      others = [];
+      other_answers = [];
+      rest = (refl, refl, refl);
+      asked_is = ap (λ (w : List Asked). w ++ option_to_list request) h.0 ∙ sym (append-nil (option_to_list request));
+      answers_are = ap (λ (w : List (List ℕ)). w ++ answer ∷ []) h.1;
+    }
+answered_more first (x ∷ frames) asked answers s frame second request answer next h one = record {
+  framed = h.framed;
+  fits = h.fits;
+  second = h.second;
+  request = h.request;
+  answer = h.answer;
+  next = h.next;
+  exchanged = h.exchanged;
+  others = h.others ++ option_to_list request;
+  other_answers = h.other_answers ++ answer ∷ [];
+  rest = answered_more h.next frames h.others h.other_answers s frame second request answer next h.rest one;
+  asked_is = ap (λ (w : List Asked). w ++ option_to_list request) h.asked_is ∙ append_assoc (option_to_list h.request) h.others (option_to_list request);
+  answers_are = ap (λ (w : List (List ℕ)). w ++ answer ∷ []) h.answers_are;
+}
 
-all_more : (s : ℕ) (xs ys : List Asked) → AllByRecursion (λ a. a.moment ≡ s) xs → AllByRecursion (λ a. a.moment ≡ s) ys → AllByRecursion (λ a. a.moment ≡ s) (xs ++ ys)
-all_more s [] ys h k = k
-all_more s (x ∷ xs) ys h k = (h.0, all_more s xs ys h.1 k)
-
-at_more : (second : Option ℕ) (xs ys : List Asked) → At second xs → At second ys → At second (xs ++ ys)
+at_more : (second : Option ℕ) (xs ys : List Asked) → AtSecond second xs → AtSecond second ys → AtSecond second (xs ++ ys)
 at_more None xs ys h k = tt
-at_more (Some s) xs ys h k = all_more s xs ys h k
+at_more (Some s) xs ys h k = all_joined (λ (a : Asked). a.second ≡ s) xs ys h k
 
-all_at : (s moment : ℕ) (xs : List Asked) → moment ≡ s → AllByRecursion (λ a. a.moment ≡ moment) xs → AllByRecursion (λ a. a.moment ≡ s) xs
-all_at s moment xs e h = subst (λ (m : ℕ). AllByRecursion (λ a. a.moment ≡ m) xs) e h
+done_at : (action : Action) (s : State) (frame : List ℕ) (second : ℕ) (request : Option Asked) (answer : List ℕ) (next : State) (e : Exchanged s frame second request answer next)
+    → IsDone action s (message_in frame) second request e.answer next → AllByRecursion (λ a. a.second ≡ second) (option_to_list request)
+done_at (says said after) s frame second request answer next e is = subst (λ (r : Option Asked). AllByRecursion (λ a. a.second ≡ second) (option_to_list r)) (sym is.0) tt
+done_at (asks asked) s frame second request answer next e is = subst (λ (r : Option Asked). AllByRecursion (λ a. a.second ≡ second) (option_to_list r)) (sym is.1) (is.3, tt)
 
-pub at_moment : (second : Option ℕ) (moment : ℕ) (xs : List Asked) → Told second (λ s. moment ≡ s) → AllByRecursion (λ a. a.moment ≡ moment) xs → At second xs
-at_moment None moment xs e h = tt
-at_moment (Some s) moment xs e h = all_at s moment xs e h
+-- what was asked for a message was asked at its second
+asked_at : (s : State) (frame : List ℕ) (second : ℕ) (request : Option Asked) (answer : List ℕ) (next : State) → Exchanged s frame second request answer next
+    → AllByRecursion (λ a. a.second ≡ second) (option_to_list request)
+asked_at s frame second request answer next e = done_at (action_on s (message_in frame)) s frame second request answer next e e.is_done
 
-goes_more : {X : Type 0} → (s s' s'' : Stands X) (xs ys : List Asked) → Goes s s' xs → Goes s' s'' ys → Goes s s'' (xs ++ ys)
-goes_more s s' s'' xs ys h k = λ origin before start. subst (λ (w : List Asked). s'' origin w) (append_assoc before xs ys) (k origin (before ++ xs) (h origin before start))
+-- which is the clock's
+pub at_clock : (told : Option ℕ) (s : State) (frame : List ℕ) (second : ℕ) (request : Option Asked) (answer : List ℕ) (next : State) → Told told (λ t. second ≡ t)
+    → Exchanged s frame second request answer next → AtSecond told (option_to_list request)
+at_clock None s frame second request answer next e h = tt
+at_clock (Some t) s frame second request answer next e h =
+    subst (λ (n : ℕ). AllByRecursion (λ (a : Asked). a.second ≡ n) (option_to_list request)) e (asked_at s frame second request answer next h)
 
-no_change : {X : Type 0} → (s : Stands X) → Goes s s []
-no_change s = λ origin before start. subst (λ (w : List Asked). s origin w) (sym (append-nil before)) start
+extends_more : {B : Type 0} (stands : B → B → List Asked → Type 0) (a b c : B) (xs ys : List Asked) → Extends stands a b xs → Extends stands b c ys → Extends stands a c (xs ++ ys)
+extends_more stands a b c xs ys h k = λ start before stood. subst (λ (w : List Asked). stands c start w) (append_assoc before xs ys) (k start (before ++ xs) (h start before stood))
 
-at_none : (second : Option ℕ) → At second []
+extends_none : {B : Type 0} (stands : B → B → List Asked → Type 0) (a : B) → Extends stands a a []
+extends_none stands a = λ start before stood. subst (λ (w : List Asked). stands a start w) (sym (append-nil before)) stood
+
+at_none : (second : Option ℕ) → AtSecond second []
 at_none None = tt
 at_none (Some s) = tt
 
-pub start : {X : Type 0} → (left taken : Option (List ℕ)) (second : Option ℕ) (stands : Stands X) → SoFar 0 Fresh left left taken taken second stands stands
-start left taken second stands = record {
+-- before the first message
+pub so_far_none : {B : Type 0} (stands : B → B → List Asked → Type 0) (object : B) (link : LinkView) (second : Option ℕ) (s : State) → s ≡ fresh → SoFar stands object object link link second 0 s
+so_far_none stands object link second s is = record {
   frames = [];
   asked = [];
-  out = [];
+  answers = [];
   count = refl;
-  answered = (refl, refl, refl);
-  read = reads_nothing left;
-  wrote = writes_nothing taken;
-  moments = at_none second;
-  goes = no_change stands;
+  answered = (refl, refl, is);
+  read = reads_nothing link.left;
+  wrote = writes_nothing link.taken;
+  seconds = at_none second;
+  extends = extends_none stands object;
+  read_faults = omega arith;
+  write_faults = omega arith;
 }
 
-pub more : {X : Type 0} → (n : ℕ) (stage : Stage) (left left' left'' taken taken' taken'' : Option (List ℕ)) (second : Option ℕ) (stands stands' stands'' : Stands X)
-    (frame : List ℕ) (asked : List Asked) (answer sent : List ℕ) (next : Stage)
-    → SoFar n stage left left' taken taken' second stands stands' → Turn stage frame asked answer next
-    → Reads left' left'' frame → Writes taken' taken'' answer → At second asked → Goes stands' stands'' asked
-    → SoFar (n + 1) next left left'' taken taken'' second stands stands''
-more n stage left left' left'' taken taken' taken'' second stands stands' stands'' frame asked answer sent next so turn read wrote moments goes = record {
+-- a message was read whole, and part of its answer was written
+pub record IsOnLink (now after : LinkView) (frame sent : List ℕ) : Type 0 where
+  pub read : Reads now.left after.left frame
+  pub wrote : Writes now.taken after.taken sent
+  pub read_faults : now.read_faults ≤ after.read_faults
+  pub write_faults : now.write_faults ≤ after.write_faults
+
+-- one message more
+pub so_far_more : {B : Type 0} (stands : B → B → List Asked → Type 0) (object object' object'' : B) (before now after : LinkView) (told : Option ℕ) (n : ℕ) (s : State)
+    (frame : List ℕ) (second : ℕ) (request : Option Asked) (answer : List ℕ) (next : State)
+    → SoFar stands object object' before now told n s → OneAnswered s frame second request answer next → IsOnLink now after frame answer
+    → AtSecond told (option_to_list request) → Extends stands object' object'' (option_to_list request)
+    → SoFar stands object object'' before after told (n + 1) next
+so_far_more stands object object' object'' before now after told n s frame second request answer next so one link at extends = record {
   frames = so.frames ++ frame ∷ [];
-  asked = so.asked ++ asked;
-  out = so.out ++ answer;
+  asked = so.asked ++ option_to_list request;
+  answers = so.answers ++ answer ∷ [];
   count = length-append so.frames (frame ∷ []) ∙ ap (λ (k : ℕ). k + 1) so.count;
-  answered = answered_more Fresh so.frames so.asked so.out stage frame asked answer next so.answered turn;
-  read = subst (λ (w : List ℕ). Reads left left'' w) (sym (concat_more so.frames frame)) (reads_more left left' left'' (concat so.frames) frame so.read read);
-  wrote = writes_more taken taken' taken'' so.out answer so.wrote wrote;
-  moments = at_more second so.asked asked so.moments moments;
-  goes = goes_more stands stands' stands'' so.asked asked so.goes goes;
+  answered = answered_more fresh so.frames so.asked so.answers s frame second request answer next so.answered one;
+  read = subst (λ (w : List ℕ). Reads before.left after.left w) (sym (concat_more so.frames frame)) (reads_more before.left now.left after.left (concat so.frames) frame so.read link.read);
+  wrote = subst (λ (w : List ℕ). Writes before.taken after.taken w) (sym (concat_more so.answers answer)) (writes_more before.taken now.taken after.taken (concat so.answers) answer so.wrote link.wrote);
+  seconds = at_more told so.asked (option_to_list request) so.seconds at;
+  extends = extends_more stands object object' object'' so.asked (option_to_list request) so.extends extends;
+  read_faults = omega (arith, so.read_faults, link.read_faults);
+  write_faults = omega (arith, so.write_faults, link.write_faults);
 }
 
 -- ---- how the talk ends
@@ -154,96 +169,132 @@ before_limit n WriteFault kind lt = absurd kind
 before_limit n Limit kind lt = absurd kind
 before_limit n Memory kind lt = absurd kind
 
-all_taken : (end : SessionEnd) (out : List ℕ) → IsReadEnd end → IsTaken end out out
-all_taken Done out kind = refl
-all_taken (Cut had wanted) out kind = refl
-all_taken (BadFrame size) out kind = refl
-all_taken ReadFault out kind = refl
-all_taken WriteFault out kind = absurd kind
-all_taken Limit out kind = absurd kind
-all_taken Memory out kind = absurd kind
+all_taken : (end : SessionEnd) (answers : List (List ℕ)) → IsReadEnd end → IsTaken end answers (concat answers)
+all_taken Done answers kind = refl
+all_taken (Cut had wanted) answers kind = refl
+all_taken (BadFrame size) answers kind = refl
+all_taken ReadFault answers kind = refl
+all_taken WriteFault answers kind = absurd kind
+all_taken Limit answers kind = absurd kind
+all_taken Memory answers kind = absurd kind
 
-pub held_stop : {X : Type 0} → (n : ℕ) (stage : Stage) (left left' left'' taken taken' taken'' : Option (List ℕ)) (second : Option ℕ) (stands stands' : Stands X) (end : SessionEnd)
-    → SoFar n stage left left' taken taken' second stands stands' → n < 2 ^ 32 → StopsAt [] stage left' left'' end → taken'' ≡ taken'
-    → Held end left left'' taken taken'' second stands stands'
-held_stop n stage left left' left'' taken taken' taken'' second stands stands' end so lt stop same = (
-  concat so.frames ++ stop.more,
-  so.asked,
-  so.out,
-  so.out,
-  record {
-    frames = so.frames;
-    rest = stop.more;
-    last = stage;
-    input_is = refl;
-    answered = so.answered;
-    ended = stop.ends;
-    count = before_limit (length so.frames) end stop.kind (omega (arith, so.count));
-  },
-  reads_then (IsReadUp end) left left' left'' (concat so.frames) stop.more so.read stop.read,
-  subst (λ (t : Option (List ℕ)). Writes taken t so.out) (sym same) so.wrote,
-  all_taken end so.out stop.kind,
-  so.moments,
-  so.goes,
-)
+no_write_fault : (end : SessionEnd) → IsReadEnd end → end ≡ WriteFault → ⊥
+no_write_fault Done kind e = cc
+no_write_fault (Cut had wanted) kind e = cc
+no_write_fault (BadFrame size) kind e = cc
+no_write_fault ReadFault kind e = cc
+no_write_fault WriteFault kind e = kind
+no_write_fault Limit kind e = cc
+no_write_fault Memory kind e = cc
 
-pub held_limit : {X : Type 0} → (stage : Stage) (left left' taken taken' : Option (List ℕ)) (second : Option ℕ) (stands stands' : Stands X)
-    → SoFar (2 ^ 32) stage left left' taken taken' second stands stands' → Held Limit left left' taken taken' second stands stands'
-held_limit stage left left' taken taken' second stands stands' so = (
-  concat so.frames,
-  so.asked,
-  so.out,
-  so.out,
-  record { frames = so.frames; rest = []; last = stage; input_is = sym (append-nil (concat so.frames)); answered = so.answered; ended = refl; count = so.count },
-  reads_with (IsReadUp Limit) left left' (concat so.frames) so.read (told_always (IsReadUp Limit) left' (λ x. tt)),
-  so.wrote,
-  refl,
-  so.moments,
-  so.goes,
-)
+-- the reading of the next message stopped
+pub talked_stop : {B : Type 0} (stands : B → B → List Asked → Type 0) (object object' : B) (before now after : LinkView) (told : Option ℕ) (n : ℕ) (s : State) (end : SessionEnd)
+    → SoFar stands object object' before now told n s → n < 2 ^ 32 → StopsAt [] s now.left after.left end → after.taken ≡ now.taken
+    → HasCause now.read_faults after.read_faults (end ≡ ReadFault) → now.write_faults ≤ after.write_faults
+    → HasTalked stands object object' before after told end
+talked_stop stands object object' before now after told n s end so lt stop same cause writes = record {
+  asked = so.asked;
+  talked = record {
+    input = concat so.frames ++ stop.more;
+    answers = so.answers;
+    sent = concat so.answers;
+    talk = record {
+      frames = so.frames;
+      rest = stop.more;
+      last = s;
+      input_is = refl;
+      answered = so.answered;
+      ended = stop.ends;
+      count = before_limit (length so.frames) end stop.kind (omega (arith, so.count));
+    };
+    read = reads_then (IsReadUp end) before.left now.left after.left (concat so.frames) stop.more so.read stop.read;
+    written = subst (λ (t : Option (List ℕ)). Writes before.taken t (concat so.answers)) (sym same) so.wrote;
+    sent_is = all_taken end so.answers stop.kind;
+    seconds = so.seconds;
+    read_fault = cause_later before.read_faults now.read_faults after.read_faults (end ≡ ReadFault) (end ≡ ReadFault) so.read_faults cause (λ e. e);
+    write_fault = no_cause before.write_faults after.write_faults (end ≡ WriteFault) (omega (arith, so.write_faults)) (no_write_fault end stop.kind);
+  };
+  extends = so.extends;
+}
 
-pub held_memory : {X : Type 0} → (left taken : Option (List ℕ)) (second : Option ℕ) (stands : Stands X) → Held Memory left left taken taken second stands stands
-held_memory left taken second stands = (
-  [],
-  [],
-  [],
-  [],
-  record { frames = []; rest = []; last = Fresh; input_is = refl; answered = (refl, refl, refl); ended = refl; count = refl },
-  reads_with (IsReadUp Memory) left left [] (reads_nothing left) (told_always (IsReadUp Memory) left (λ x. tt)),
-  writes_nothing taken,
-  refl,
-  at_none second,
-  no_change stands,
-)
+-- 2^32 messages were answered
+pub talked_limit : {B : Type 0} (stands : B → B → List Asked → Type 0) (object object' : B) (before now : LinkView) (told : Option ℕ) (s : State)
+    → SoFar stands object object' before now told (2 ^ 32) s → HasTalked stands object object' before now told Limit
+talked_limit stands object object' before now told s so = record {
+  asked = so.asked;
+  talked = record {
+    input = concat so.frames;
+    answers = so.answers;
+    sent = concat so.answers;
+    talk = record { frames = so.frames; rest = []; last = s; input_is = sym (append-nil (concat so.frames)); answered = so.answered; ended = refl; count = so.count };
+    read = reads_with (IsReadUp Limit) before.left now.left (concat so.frames) so.read (told_always now.left (IsReadUp Limit) (λ x. tt));
+    written = so.wrote;
+    sent_is = refl;
+    seconds = so.seconds;
+    read_fault = no_cause before.read_faults now.read_faults (Limit ≡ ReadFault) so.read_faults (λ e. cc);
+    write_fault = no_cause before.write_faults now.write_faults (Limit ≡ WriteFault) so.write_faults (λ e. cc);
+  };
+  extends = so.extends;
+}
 
--- the last message is answered, and only a front of the answer is taken
-pub held_fault : {X : Type 0} → (n : ℕ) (stage : Stage) (left left' left'' taken taken' taken'' : Option (List ℕ)) (second : Option ℕ) (stands stands' stands'' : Stands X)
-    (frame : List ℕ) (asked : List Asked) (answer : List ℕ) (sent : ℕ) (next : Stage)
-    → SoFar n stage left left' taken taken' second stands stands' → n < 2 ^ 32 → Turn stage frame asked answer next
-    → Reads left' left'' frame → sent < length answer → Writes taken' taken'' (take sent answer) → At second asked → Goes stands' stands'' asked
-    → Held WriteFault left left'' taken taken'' second stands stands''
-held_fault n stage left left' left'' taken taken' taken'' second stands stands' stands'' frame asked answer sent next so lt turn read short wrote moments goes =
-    let frames : List (List ℕ) = so.frames ++ frame ∷ [] in
-    let size : length frames ≡ n + 1 = length-append so.frames (frame ∷ []) ∙ ap (λ (k : ℕ). k + 1) so.count in
-    let input : Reads left left'' (concat frames) =
-    subst (λ (w : List ℕ). Reads left left'' w) (sym (concat_more so.frames frame)) (reads_more left left' left'' (concat so.frames) frame so.read read)
-    in (
-      concat frames,
-      so.asked ++ asked,
-      so.out ++ answer,
-      so.out ++ take sent answer,
-      record {
-        frames = frames;
-        rest = [];
-        last = next;
-        input_is = sym (append-nil (concat frames));
-        answered = answered_more Fresh so.frames so.asked so.out stage frame asked answer next so.answered turn;
-        ended = refl;
-        count = (omega (arith, size), omega (arith, size));
-      },
-      reads_with (IsReadUp WriteFault) left left'' (concat frames) input (told_always (IsReadUp WriteFault) left'' (λ x. tt)),
-      writes_more taken taken' taken'' so.out (take sent answer) so.wrote wrote,
-      (drop sent answer, omega (arith, length-drop sent answer), ap (λ (w : List ℕ). so.out ++ w) (sym (take-append-drop sent answer)) ∙ sym (append_assoc so.out (take sent answer) (drop sent answer))),
-      at_more second so.asked asked so.moments moments,
-      goes_more stands stands' stands'' so.asked asked so.goes goes,
-    )
+-- nothing was read for want of memory
+pub talked_memory : {B : Type 0} (stands : B → B → List Asked → Type 0) (object : B) (link : LinkView) (told : Option ℕ) → HasTalked stands object object link link told Memory
+talked_memory stands object link told = record {
+  asked = [];
+  talked = record {
+    input = [];
+    answers = [];
+    sent = [];
+    talk = record { frames = []; rest = []; last = fresh; input_is = refl; answered = (refl, refl, refl); ended = refl; count = refl };
+    read = reads_with (IsReadUp Memory) link.left link.left [] (reads_nothing link.left) (told_always link.left (IsReadUp Memory) (λ x. tt));
+    written = writes_nothing link.taken;
+    sent_is = refl;
+    seconds = at_none told;
+    read_fault = no_cause link.read_faults link.read_faults (Memory ≡ ReadFault) (omega arith) (λ e. cc);
+    write_fault = no_cause link.write_faults link.write_faults (Memory ≡ WriteFault) (omega arith) (λ e. cc);
+  };
+  extends = extends_none stands object;
+}
+
+-- the last message is answered, and only a part of the answer's front is taken
+pub talked_fault : {B : Type 0} (stands : B → B → List Asked → Type 0) (object object' object'' : B) (before now after : LinkView) (told : Option ℕ) (n : ℕ) (s : State)
+    (frame : List ℕ) (second : ℕ) (request : Option Asked) (answer : List ℕ) (sent : ℕ) (next : State)
+    → SoFar stands object object' before now told n s → n < 2 ^ 32 → OneAnswered s frame second request answer next
+    → sent < length answer → IsOnLink now after frame (take sent answer) → HasCause now.write_faults after.write_faults (WriteFault ≡ WriteFault)
+    → AtSecond told (option_to_list request) → Extends stands object' object'' (option_to_list request)
+    → HasTalked stands object object'' before after told WriteFault
+talked_fault stands object object' object'' before now after told n s frame second request answer sent next so lt one short link cause at extends =
+    let size : length (so.frames ++ frame ∷ []) ≡ n + 1 = length-append so.frames (frame ∷ []) ∙ ap (λ (k : ℕ). k + 1) so.count in
+    let input : Reads before.left after.left (concat (so.frames ++ frame ∷ [])) =
+    subst (λ (w : List ℕ). Reads before.left after.left w) (sym (concat_more so.frames frame)) (reads_more before.left now.left after.left (concat so.frames) frame so.read link.read)
+    in record {
+      asked = so.asked ++ option_to_list request;
+      talked = record {
+        input = concat (so.frames ++ frame ∷ []);
+        answers = so.answers ++ answer ∷ [];
+        sent = concat so.answers ++ take sent answer;
+        talk = record {
+          frames = so.frames ++ frame ∷ [];
+          rest = [];
+          last = next;
+          input_is = sym (append-nil (concat (so.frames ++ frame ∷ [])));
+          answered = answered_more fresh so.frames so.asked so.answers s frame second request answer next so.answered one;
+          ended = refl;
+          count = (omega (arith, size), omega (arith, size));
+        };
+        read = reads_with (IsReadUp WriteFault) before.left after.left (concat (so.frames ++ frame ∷ [])) input (told_always after.left (IsReadUp WriteFault) (λ x. tt));
+        written = writes_more before.taken now.taken after.taken (concat so.answers) (take sent answer) so.wrote link.wrote;
+        sent_is = record {
+          earlier = so.answers;
+          part = take sent answer;
+          lost = drop sent answer;
+          answers_are = ap (λ (w : List ℕ). so.answers ++ w ∷ []) (sym (take-append-drop sent answer));
+          some = omega (arith, length-drop sent answer);
+          taken_is = refl;
+        };
+        seconds = at_more told so.asked (option_to_list request) so.seconds at;
+        read_fault = no_cause before.read_faults after.read_faults (WriteFault ≡ ReadFault) (omega (arith, so.read_faults, link.read_faults)) (λ e. cc);
+        write_fault = cause_later before.write_faults now.write_faults after.write_faults (WriteFault ≡ WriteFault) (WriteFault ≡ WriteFault) so.write_faults cause (λ e. e);
+      };
+      extends = extends_more stands object object' object'' so.asked (option_to_list request) so.extends extends;
+    }

@@ -4,12 +4,13 @@ use Rattle.std.proofs.lemmas.List.{take-append-drop, length-take, length-drop, l
 use Rattle.byteorder.specs.Numbers.{little_from-append}
 use borrow.Rule.Slice.PartMut.{put_mid}
 use Rattle.outside.specs.Calls.{Told}
-use Rattle.session_core.specs.declared.stage.Stage.{Stage}
+use Rattle.outside.proofs.Told.{told_always}
+use Rattle.session_core.specs.State.{State}
 use Rattle.session_server.specs.declared.ending.SessionEnd.{SessionEnd}
 use Rattle.session_server.specs.declared.ending.SessionEnd.TheVariants.{Cut, BadFrame, ReadFault}
 use Rattle.session_server.specs.Talk.{size_of, IsSize, IsPart, IsReadUp}
 use Rattle.session_server.specs.Steps.{Reads, StopsAt, Completes}
-use Rattle.session_server.proofs.Links.{reads_then, reads_with, told_always, front_put}
+use Rattle.session_server.proofs.Links.{reads_then, reads_with, front_put}
 
 -- the size stands in the first four bytes
 size_front : (xs rest : List ℕ) → 4 ≤ length xs → size_of (take 4 xs ++ rest) ≡ size_of xs
@@ -17,7 +18,7 @@ size_front xs rest le =
     let long : 4 ≤ length (take 4 xs) = omega (arith, length-take 4 xs) in
     little_from-append 4 (take 4 xs) rest long ∙ sym (little_from-append 4 (take 4 xs) (drop 4 xs) long) ∙ ap size_of (take-append-drop 4 xs)
 
-pub stop_after : (head : List ℕ) (stage : Stage) (a b c : Option (List ℕ)) (end : SessionEnd) → Reads a b head → StopsAt head stage b c end → StopsAt [] stage a c end
+pub stop_after : (head : List ℕ) (stage : State) (a b c : Option (List ℕ)) (end : SessionEnd) → Reads a b head → StopsAt head stage b c end → StopsAt [] stage a c end
 stop_after head stage a b c end h stop = record {
   more = head ++ stop.more;
   read = reads_then (IsReadUp end) a b c head stop.more h stop.read;
@@ -25,7 +26,7 @@ stop_after head stage a b c end h stop = record {
   kind = stop.kind;
 }
 
-pub cut_size : (stage : Stage) (a b : Option (List ℕ)) (k : ℕ) (ys : List ℕ) → 0 < k → k < 4 → k ≤ length ys → Reads a b (take k ys) → Told b (λ x. x ≡ [])
+pub cut_size : (stage : State) (a b : Option (List ℕ)) (k : ℕ) (ys : List ℕ) → 0 < k → k < 4 → k ≤ length ys → Reads a b (take k ys) → Told b (λ x. x ≡ [])
     → StopsAt [] stage a b (Cut k 4)
 cut_size stage a b k ys some few fits h over =
     let len : length (take k ys) ≡ k = omega (arith, length-take k ys) in record {
@@ -35,17 +36,17 @@ cut_size stage a b k ys some few fits h over =
       kind = tt;
     }
 
-pub fault_size : (stage : Stage) (a b : Option (List ℕ)) (k : ℕ) (ys : List ℕ) → k < 4 → k ≤ length ys → Reads a b (take k ys) → StopsAt [] stage a b ReadFault
+pub fault_size : (stage : State) (a b : Option (List ℕ)) (k : ℕ) (ys : List ℕ) → k < 4 → k ≤ length ys → Reads a b (take k ys) → StopsAt [] stage a b ReadFault
 fault_size stage a b k ys few fits h =
     let len : length (take k ys) ≡ k = omega (arith, length-take k ys) in record {
       more = take k ys;
-      read = reads_with (IsReadUp ReadFault) a b (take k ys) h (told_always (IsReadUp ReadFault) b (λ x. tt));
+      read = reads_with (IsReadUp ReadFault) a b (take k ys) h (told_always b (IsReadUp ReadFault) (λ x. tt));
       ends = (4, inl (omega (arith, len), refl));
       kind = tt;
     }
 
 -- a part of a message, from its size on
-part_of : (stage : Stage) (size : ℕ) (xs ys : List ℕ) (k : ℕ) → IsSize stage size → size ≡ size_of xs → 4 ≤ length xs → k < size - 4 → k ≤ length ys
+part_of : (stage : State) (size : ℕ) (xs ys : List ℕ) (k : ℕ) → IsSize stage size → size ≡ size_of xs → 4 ≤ length xs → k < size - 4 → k ≤ length ys
     → (length (take 4 xs ++ take k ys) ≡ 4 + k) × IsPart stage (take 4 xs ++ take k ys) size
 part_of stage size xs ys k good is long few fits =
     let len : length (take 4 xs ++ take k ys) ≡ 4 + k = omega (arith, length-append (take 4 xs) (take k ys), length-take 4 xs, length-take k ys) in
@@ -56,7 +57,7 @@ part_of stage size xs ys k good is long few fits =
     in
     (len, inr (omega (arith, len), fit, less, same))
 
-pub cut_rest : (stage : Stage) (a b : Option (List ℕ)) (size : ℕ) (xs ys : List ℕ) (k : ℕ) → IsSize stage size → size ≡ size_of xs → 4 ≤ length xs → k < size - 4 → k ≤ length ys
+pub cut_rest : (stage : State) (a b : Option (List ℕ)) (size : ℕ) (xs ys : List ℕ) (k : ℕ) → IsSize stage size → size ≡ size_of xs → 4 ≤ length xs → k < size - 4 → k ≤ length ys
     → Reads a b (take k ys) → Told b (λ x. x ≡ []) → StopsAt (take 4 xs) stage a b (Cut (4 + k) size)
 cut_rest stage a b size xs ys k good is long few fits h over =
     let part = part_of stage size xs ys k good is long few fits in record {
@@ -66,24 +67,24 @@ cut_rest stage a b size xs ys k good is long few fits h over =
       kind = tt;
     }
 
-pub fault_rest : (stage : Stage) (a b : Option (List ℕ)) (size : ℕ) (xs ys : List ℕ) (k : ℕ) → IsSize stage size → size ≡ size_of xs → 4 ≤ length xs → k < size - 4 → k ≤ length ys
+pub fault_rest : (stage : State) (a b : Option (List ℕ)) (size : ℕ) (xs ys : List ℕ) (k : ℕ) → IsSize stage size → size ≡ size_of xs → 4 ≤ length xs → k < size - 4 → k ≤ length ys
     → Reads a b (take k ys) → StopsAt (take 4 xs) stage a b ReadFault
 fault_rest stage a b size xs ys k good is long few fits h =
     let part = part_of stage size xs ys k good is long few fits in record {
       more = take k ys;
-      read = reads_with (IsReadUp ReadFault) a b (take k ys) h (told_always (IsReadUp ReadFault) b (λ x. tt));
+      read = reads_with (IsReadUp ReadFault) a b (take k ys) h (told_always b (IsReadUp ReadFault) (λ x. tt));
       ends = (size, part.1);
       kind = tt;
     }
 
-pub bad_frame : (stage : Stage) (a b : Option (List ℕ)) (size : ℕ) (xs : List ℕ) → 4 ≤ length xs → size ≡ size_of xs → (IsSize stage size → ⊥) → Reads a b (take 4 xs)
+pub bad_frame : (stage : State) (a b : Option (List ℕ)) (size : ℕ) (xs : List ℕ) → 4 ≤ length xs → size ≡ size_of xs → (IsSize stage size → ⊥) → Reads a b (take 4 xs)
     → StopsAt [] stage a b (BadFrame size)
 bad_frame stage a b size xs long is bad h =
     let front : size_of (take 4 xs) ≡ size_of xs =
     sym (little_from-append 4 (take 4 xs) (drop 4 xs) (omega (arith, length-take 4 xs))) ∙ ap size_of (take-append-drop 4 xs)
     in record {
       more = take 4 xs;
-      read = reads_with (IsReadUp (BadFrame size)) a b (take 4 xs) h (told_always (IsReadUp (BadFrame size)) b (λ x. tt));
+      read = reads_with (IsReadUp (BadFrame size)) a b (take 4 xs) h (told_always b (IsReadUp (BadFrame size)) (λ x. tt));
       ends = (omega (arith, length-take 4 xs), front ∙ sym is, bad);
       kind = tt;
     }

@@ -1,7 +1,7 @@
 -- What a link's bytes are before and after calls, and where the reading of a message stops.
 use Rattle.std.specs.Prelude.{◌≡◌, ℕ, ◌<◌, List, [], ◌++◌, Option, ⊤}
 use Rattle.outside.specs.Calls.{Told, Changes}
-use Rattle.session_core.specs.declared.stage.Stage.{Stage}
+use Rattle.session_core.specs.State.{State}
 use Rattle.session_server.specs.declared.ending.SessionEnd.{SessionEnd}
 use Rattle.session_server.specs.declared.ending.SessionEnd.TheVariants as ends
 use Rattle.session_server.specs.declared.full.Filled.{Filled}
@@ -41,10 +41,10 @@ IsReadEnd ends.ReadFault = ⊤
 IsReadEnd end = ⊥
 
 -- the reading of a message, whose first bytes were there before, stops so
-pub record StopsAt (first : List ℕ) (stage : Stage) (left left' : Option (List ℕ)) (end : SessionEnd) : Type 0 where
+pub record StopsAt (first : List ℕ) (s : State) (left left' : Option (List ℕ)) (end : SessionEnd) : Type 0 where
   pub more : List ℕ
   pub read : Changes left left' (λ old new. (old ≡ more ++ new) × IsReadUp end new)
-  pub ends : EndsWith stage (first ++ more) end
+  pub ends : EndsWith s (first ++ more) end
   pub kind : IsReadEnd end
 
 -- the rest of a message was read behind its first bytes

@@ -3,8 +3,7 @@
 ghost use Rattle.std.specs.Prelude.{◌≡◌, ◌≤◌, List, [], length, take, IfOk, OnOk, IfErr, IsErrOf};
 ghost use Rattle.outside.specs.Calls.{HasCause};
 ghost use Rattle.ninep_wire.specs.Reading.{IsFrame};
-ghost use Rattle.session_core.specs.declared.stage.Stage.{Stage};
-ghost use Rattle.session_core.specs.Session.{limit};
+ghost use Rattle.session_core.specs.State.{State, limit, most_message};
 ghost use Rattle.session_server.specs.Steps.{Reads, StopsAt, Completes};
 ghost use Rattle.session_server.specs.Talk.{size_of, IsSize};
 
@@ -19,12 +18,12 @@ const SIZE_LEN: usize = 4;
 
 const HEADER_LEN: u32 = 7;
 
-/// Reads a message's size into the front of `frame`.
+// Reads a message's size into the front of `frame`.
 fn read_size<L: Link>(link: &mut L, frame: &mut [u8]) -> Result<u32, SessionEnd>
     requires { 4 ≤ length frame.old }
     ensures size { IfOk result (λ size. size ≡ size_of frame.new) }
     ensures bytes { IfOk result (λ size. Reads (L.left link.old) (L.left link.new) (take 4 frame.new)) }
-    ensures stops { IfErr result (λ end. (stage : Stage) → StopsAt [] stage (L.left link.old) (L.left link.new) end) }
+    ensures stops { IfErr result (λ end. (s : State) → StopsAt [] s (L.left link.old) (L.left link.new) end) }
     ensures cause { HasCause (L.read_faults link.old) (L.read_faults link.new) (IsErrOf result SessionEnd.ReadFault) }
     ensures taken { L.taken link.new ≡ L.taken link.old }
     ensures writes { L.write_faults link.new ≡ L.write_faults link.old }
@@ -40,14 +39,14 @@ fn read_size<L: Link>(link: &mut L, frame: &mut [u8]) -> Result<u32, SessionEnd>
     }
 }
 
-/// Reads the rest of a message behind its size.
+// Reads the rest of a message behind its size.
 fn read_rest<L: Link>(link: &mut L, size: u32, frame: &mut [u8]) -> Result<(), SessionEnd>
     requires low { 7 ≤ size }
     requires high { size ≤ length frame.old }
     requires size { size ≡ size_of frame.old }
     ensures frame { OnOk result (IsFrame (take size frame.new)) }
     ensures bytes { OnOk result (Completes (take 4 frame.old) (L.left link.old) (L.left link.new) (take size frame.new)) }
-    ensures stops { IfErr result (λ end. (stage : Stage) → IsSize stage size → StopsAt (take 4 frame.old) stage (L.left link.old) (L.left link.new) end) }
+    ensures stops { IfErr result (λ end. (s : State) → IsSize s size → StopsAt (take 4 frame.old) s (L.left link.old) (L.left link.new) end) }
     ensures cause { HasCause (L.read_faults link.old) (L.read_faults link.new) (IsErrOf result SessionEnd.ReadFault) }
     ensures taken { L.taken link.new ≡ L.taken link.old }
     ensures writes { L.write_faults link.new ≡ L.write_faults link.old }
@@ -68,24 +67,19 @@ pub(crate) fn read_frame<L: Link>(
     link: &mut L,
     frame: &mut [u8],
 ) -> Result<usize, SessionEnd>
-    requires { 65560 ≤ length frame.old }
+    requires { most_message ≤ length frame.old }
     ensures frame { IfOk result (λ size. IsFrame (take size frame.new)) }
-    ensures size { IfOk result (λ size. (size ≤ limit session.now) × (size ≤ 65560)) }
+    ensures size { IfOk result (λ size. (size ≤ limit session.now) × (size ≤ most_message)) }
     ensures bytes { IfOk result (λ size. Reads (L.left link.old) (L.left link.new) (take size frame.new)) }
     ensures stops { IfErr result (λ end. StopsAt [] session.now (L.left link.old) (L.left link.new) end) }
     ensures cause { HasCause (L.read_faults link.old) (L.read_faults link.new) (IsErrOf result SessionEnd.ReadFault) }
     ensures taken { L.taken link.new ≡ L.taken link.old }
     ensures writes { L.write_faults link.new ≡ L.write_faults link.old }
 {
-    let size = match read_size(link, frame) {
-        Ok(size) => size,
-        Err(end) => return Err(end),
-    };
+    let size = read_size(link, frame)?;
     if size < HEADER_LEN || size > session.limit() {
         return Err(SessionEnd::BadFrame(size));
     }
-    match read_rest(link, size, frame) {
-        Ok(()) => Ok(size as usize),
-        Err(end) => Err(end),
-    }
+    read_rest(link, size, frame)?;
+    Ok(size as usize)
 }

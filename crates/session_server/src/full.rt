@@ -45,10 +45,8 @@ pub(crate) fn write_full<L: Link>(link: &mut L, piece: &[u8]) -> Result<(), Fail
 {
     let mut count = 0;
     while count < piece.len() {
-        match link.write(&piece[count..]) {
-            Ok(more) => count += more,
-            Err(failed) => return Err(failed),
-        }
+        let more = link.write(&piece[count..])?;
+        count += more;
     }
     Ok(())
 }

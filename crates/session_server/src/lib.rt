@@ -1,4 +1,9 @@
 //! Serves a link: reads its messages one at a time and writes each answer whole before the next is read.
+//!
+//! ```
+//! let end = serve_session(rt.alloc(), &mut link, &mut tree, &clock);
+//! println!(rt; "the session ended: {end:?}")?;
+//! ```
 #![tactic(auto)]
 
 mod ending;
@@ -8,6 +13,3 @@ mod server;
 
 pub use ending::SessionEnd;
 pub use server::serve_session;
-
-#[cfg(test)]
-mod tests;

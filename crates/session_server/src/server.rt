@@ -1,10 +1,9 @@
 //! A session over one link.
 
-ghost use Rattle.std.specs.Prelude.{◌≡◌, ◌≤◌, ℕ, List, ◌++◌, length, IfOk, vec_len};
-ghost use Rattle.std.specs.List.{AllByRecursion};
-ghost use Rattle.outside.specs.Calls.{HasCause, Told, Changes};
-ghost use Rattle.tree_model.specs.Asked.{Asked};
-ghost use Rattle.session_server.specs.Talk.{Talk, IsTaken, IsReadUp};
+ghost use Rattle.std.specs.Prelude.{◌≡◌, ◌≤◌, length, IfOk, vec_len};
+ghost use Rattle.outside.specs.Views.{link_view};
+ghost use Rattle.session_core.specs.State.{most_message, fresh};
+ghost use Rattle.session_server.specs.Served.{HasTalked};
 
 use crate::ending::SessionEnd;
 use crate::frame::read_frame;
@@ -14,45 +13,42 @@ use session_core::{MAX_MESSAGE, Session};
 use std::alloc::{AllocError, Global};
 use tree_model::TreeObject;
 
-/// The most messages that one session answers.
+/// The most messages that one session answers. It keeps a session's work finite: at the rate of a million messages a second it
+/// is reached after more than an hour.
 const MESSAGE_LIMIT: u64 = 1 << 32;
 
-/// Room for the largest message.
+// Room for the largest message.
 fn buffer(alloc: Global) -> Result<Vec<u8>, AllocError>
-    ensures { IfOk result (λ v. vec_len v ≡ 65560) }
+    ensures { IfOk result (λ v. vec_len v ≡ most_message) }
 {
     vec![in alloc; 0u8; MAX_MESSAGE]
 }
 
-/// Answers messages until the session ends, over buffers that have room for the largest.
-fn serve<L: Link, B: TreeObject, K: Clock>(
+// Answers messages until the session ends. There are two buffers, as a message's names and bytes are borrowed from its frame while
+// its answer is written.
+fn answer_messages<L: Link, B: TreeObject, K: Clock>(
+    mut session: Session,
     link: &mut L,
     object: &mut B,
     clock: &K,
     frame: &mut [u8],
     out: &mut [u8],
 ) -> SessionEnd
-    requires frame { 65560 ≤ length frame.old }
-    requires out { 65560 ≤ length out.old }
-    ensures talk { (input : List ℕ) × (asked : List Asked) × (said : List ℕ) × (taken : List ℕ)
-        × Talk input asked said result
-        × Changes (L.left link.old) (L.left link.new) (λ old new. (old ≡ input ++ new) × IsReadUp result new)
-        × Changes (L.taken link.old) (L.taken link.new) (λ old new. new ≡ old ++ taken)
-        × IsTaken result said taken
-        × Told (K.second clock.now) (λ second. AllByRecursion (λ a. a.moment ≡ second) asked)
-        × ((origin : B) (before : List Asked) → B.stands object.old origin before → B.stands object.new origin (before ++ asked)) }
-    ensures read_fault { HasCause (L.read_faults link.old) (L.read_faults link.new) (result ≡ SessionEnd.ReadFault) }
-    ensures write_fault { HasCause (L.write_faults link.old) (L.write_faults link.new) (result ≡ SessionEnd.WriteFault) }
+    requires fresh { session ≡ fresh }
+    requires frame { most_message ≤ length frame.old }
+    requires out { most_message ≤ length out.old }
+    ensures talked { HasTalked B.stands object.old object.new
+        (link_view L.left L.taken L.read_faults L.write_faults link.old)
+        (link_view L.left L.taken L.read_faults L.write_faults link.new) (K.second clock.now) result }
 {
-    let mut session = Session::new();
     let mut answered: u64 = 0;
     while answered < MESSAGE_LIMIT {
         let size = match read_frame(&session, link, frame) {
             Ok(size) => size,
             Err(end) => return end,
         };
-        let moment = clock.now();
-        let answer = session.answer(&frame[..size], object, moment, out);
+        let now = clock.now();
+        let answer = session.answer(&frame[..size], object, now, out);
         match write_full(link, &out[..answer]) {
             Ok(()) => answered += 1,
             Err(_) => return SessionEnd::WriteFault,
@@ -61,9 +57,9 @@ fn serve<L: Link, B: TreeObject, K: Clock>(
     SessionEnd::Limit
 }
 
-/// Serves one link until its session ends: reads a message, has the object answer it, and writes the whole answer before it
-/// reads the next. Two buffers of 65,560 bytes are taken at the start and nothing after them. `clock` gives the moments of the
-/// requests, in seconds since 1970-01-01.
+/// Serves one link until its session ends. Each answer is written whole before a byte of the next message is read, so a client
+/// that waits for an answer always gets it. The session's fids and two buffers of 65,560 bytes are taken at the start, and no
+/// memory after them; where it is refused, nothing was read. `clock` gives the seconds of the requests, since 1970-01-01.
 pub fn serve_session<L: Link, B: TreeObject, K: Clock>(
     alloc: Global,
     link: &mut L,
@@ -71,21 +67,18 @@ pub fn serve_session<L: Link, B: TreeObject, K: Clock>(
     clock: &K,
 ) -> SessionEnd
     // There is one talk that was held: what was asked in it is what the object stands for from now on.
-    ensures talk { (input : List ℕ) × (asked : List Asked) × (out : List ℕ) × (taken : List ℕ)
-        × Talk input asked out result
-        × Changes (L.left link.old) (L.left link.new) (λ old new. (old ≡ input ++ new) × IsReadUp result new)
-        × Changes (L.taken link.old) (L.taken link.new) (λ old new. new ≡ old ++ taken)
-        × IsTaken result out taken
-        × Told (K.second clock.now) (λ second. AllByRecursion (λ a. a.moment ≡ second) asked)
-        × ((origin : B) (before : List Asked) → B.stands object.old origin before → B.stands object.new origin (before ++ asked)) }
-    ensures read_fault { HasCause (L.read_faults link.old) (L.read_faults link.new) (result ≡ SessionEnd.ReadFault) }
-    ensures write_fault { HasCause (L.write_faults link.old) (L.write_faults link.new) (result ≡ SessionEnd.WriteFault) }
+    ensures talked { HasTalked B.stands object.old object.new
+        (link_view L.left L.taken L.read_faults L.write_faults link.old)
+        (link_view L.left L.taken L.read_faults L.write_faults link.new) (K.second clock.now) result }
 {
+    let Ok(session) = Session::new(alloc) else {
+        return SessionEnd::Memory;
+    };
     let Ok(mut frame) = buffer(alloc) else {
         return SessionEnd::Memory;
     };
     let Ok(mut out) = buffer(alloc) else {
         return SessionEnd::Memory;
     };
-    serve(link, object, clock, &mut frame, &mut out)
+    answer_messages(session, link, object, clock, &mut frame, &mut out)
 }

@@ -1,6 +1,6 @@
 use Rattle.std.proofs.Common.{◌≡◌, ◌+◌, ◌*◌, take}
 use Rattle.std.specs.List.{flat_map}
-use Rattle.ninep_wire.specs.Fields.{qid}
+use Rattle.tree_model.specs.Wire.{qid}
 use Rattle.ninep_wire.specs.Writing.{Wrote}
 use Rattle.ninep_wire.proofs.put.put_qids.Given as goal
 

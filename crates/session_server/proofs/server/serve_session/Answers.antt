@@ -1,10 +1,18 @@
-use Rattle.session_server.proofs.SoFar.{held_memory}
+use Rattle.outside.specs.Views.{link_view}
+use Rattle.session_server.proofs.SoFar.{talked_memory}
 use Rattle.session_server.proofs.server.serve_session.Goals as goal
 
-pub returns-in_default-clause-talk : goal.returns-in_default-clause-talk
-returns-in_default-clause-talk g c =
-    held_memory (g.L.Link.left c.args.link.now) (g.L.Link.taken c.args.link.now) (g.K.Clock.second c.args.clock.now) (g.B.TreeObject.stands c.args.object.now)
+pub returns-in_default : goal.returns-in_default
+returns-in_default g c = record {
+  talked = talked_memory g.B.TreeObject.stands c.args.object.now (link_view g.L.Link.left g.L.Link.taken g.L.Link.read_faults g.L.Link.write_faults c.args.link.now) (g.K.Clock.second c.args.clock.now);
+}
 
-pub returns-in_default-buffer-clause-talk : goal.returns-in_default-buffer-clause-talk
-returns-in_default-buffer-clause-talk g c =
-    held_memory (g.L.Link.left c.args.link.now) (g.L.Link.taken c.args.link.now) (g.K.Clock.second c.args.clock.now) (g.B.TreeObject.stands c.args.object.now)
+pub returns-in_default-buffer : goal.returns-in_default-buffer
+returns-in_default-buffer g c = record {
+  talked = talked_memory g.B.TreeObject.stands c.args.object.now (link_view g.L.Link.left g.L.Link.taken g.L.Link.read_faults g.L.Link.write_faults c.args.link.now) (g.K.Clock.second c.args.clock.now);
+}
+
+pub returns-in_default-buffer-2 : goal.returns-in_default-buffer-2
+returns-in_default-buffer-2 g c = record {
+  talked = talked_memory g.B.TreeObject.stands c.args.object.now (link_view g.L.Link.left g.L.Link.taken g.L.Link.read_faults g.L.Link.write_faults c.args.link.now) (g.K.Clock.second c.args.clock.now);
+}

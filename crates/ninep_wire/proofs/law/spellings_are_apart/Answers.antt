@@ -1,5 +1,0 @@
-use Rattle.ninep_wire.proofs.FrameLaws.{apart}
-use Rattle.ninep_wire.proofs.law.spellings_are_apart.Goals as goal
-
-pub returns : goal.returns
-returns c = apart

@@ -1,0 +1,5 @@
+use Rattle.ninep_wire.proofs.StatLaws.{apart}
+use Rattle.ninep_wire.proofs.law.stats_are_apart.Goals as goal
+
+pub returns : goal.returns
+returns c = apart

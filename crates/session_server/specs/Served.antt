@@ -1,0 +1,58 @@
+-- What was done on a link, and on the links of a listener.
+use Rattle.std.specs.Prelude.{◌≡◌, ◌⊎◌, ℕ, ◌≤◌, List, [], ◌∷◌, ◌++◌, length, map, Option}
+use Rattle.std.specs.List.{AllByRecursion}
+use Rattle.outside.specs.Calls.{HasCause, Told, Changes}
+use Rattle.outside.specs.Views.{LinkView, ListenerView}
+use Rattle.tree_model.specs.Asked.{Asked, Extends}
+use Rattle.session_server.specs.declared.ending.SessionEnd.{SessionEnd}
+use Rattle.session_server.specs.declared.ending.SessionEnd.TheVariants as ends
+use Rattle.session_server.specs.Talk.{Talk, IsTaken, IsReadUp}
+
+-- There is a talk that was held on a link, which ended so and in which this was asked: the bytes that were read are its input, and those
+-- that the link took are its answers. Where the clock tells its second, all was asked then.
+pub record TalkedOn (before after : LinkView) (second : Option ℕ) (end : SessionEnd) (asked : List Asked) : Type 0 where
+  pub input : List ℕ
+  pub answers : List (List ℕ)
+  pub sent : List ℕ
+  pub talk : Talk input asked answers end
+  pub read : Changes before.left after.left (λ old new. (old ≡ input ++ new) × IsReadUp end new)
+  pub written : Changes before.taken after.taken (λ old new. new ≡ old ++ sent)
+  pub sent_is : IsTaken end answers sent
+  pub seconds : Told second (λ s. AllByRecursion (λ a. a.second ≡ s) asked)
+  pub read_fault : HasCause before.read_faults after.read_faults (end ≡ ends.ReadFault)
+  pub write_fault : HasCause before.write_faults after.write_faults (end ≡ ends.WriteFault)
+
+-- a session was held on a link: what was asked in it is what the object stands for from now on
+pub record HasTalked {B : Type 0} (stands : B → B → List Asked → Type 0) (object object' : B) (before after : LinkView) (second : Option ℕ) (end : SessionEnd) : Type 0 where
+  pub asked : List Asked
+  pub talked : TalkedOn before after second end asked
+  pub extends : Extends stands object object' asked
+
+-- ---- the links of a listener
+
+-- a link that was served: as it came, as it was given back, and how its session ended
+pub record ServedLink (C : Type 0) : Type 0 where
+  pub came : C
+  pub given : C
+  pub end : SessionEnd
+
+-- the talk on the first link, and Rest of what was asked on the others
+pub record FirstTalked {C : Type 0} (view : C → LinkView) (second : Option ℕ) (link : ServedLink C) (asked : List Asked) (Rest : List Asked → Type 0) : Type 0 where
+  pub first : List Asked
+  pub others : List Asked
+  pub talked : TalkedOn (view link.came) (view link.given) second link.end first
+  pub rest : Rest others
+  pub asked_is : asked ≡ first ++ others
+
+-- the talks on links, one after the other, in which this was asked
+abbrev pub TalkedOnEach : {C : Type 0} → (C → LinkView) → Option ℕ → List (ServedLink C) → List Asked → Type 0
+TalkedOnEach view second [] asked = asked ≡ []
+TalkedOnEach view second (link ∷ links) asked = FirstTalked view second link asked (λ others. TalkedOnEach view second links others)
+
+-- A listener gave the first of its links and got them back: as many as its share of the sessions, or all where there were fewer, or, where
+-- it failed, up to then.
+pub record GaveBack {C : Type 0} (share : ℕ) (failed : Type 0) (before after : ListenerView C) (links : List (ServedLink C)) : Type 0 where
+  pub few : length links ≤ share
+  pub came : Changes before.to_come after.to_come (λ old new.
+      (old ≡ map (λ link. link.came) links ++ new) × ((length links ≡ share) ⊎ (new ≡ []) ⊎ failed))
+  pub given : Changes before.given_back after.given_back (λ old new. new ≡ old ++ map (λ link. link.given) links)
