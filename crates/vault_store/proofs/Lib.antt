@@ -1,9 +1,7 @@
 pub mod RowLemmas
 pub mod StepLemmas
 pub mod WalkLemmas
-pub mod Telling
 pub mod ReadLemmas
 pub mod SliceLemmas
 pub mod AnswerLemmas
-pub mod HistoryLemmas
 pub mod StoreLemmas

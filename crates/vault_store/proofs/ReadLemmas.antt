@@ -1,15 +1,17 @@
 -- What the reads of a header and of a chunk give.
-use Rattle.std.proofs.Common.{◌≡◌, ℕ, ◌-◌, ◌≤◌, min, List, length, take, drop, Option, Some, sym, ap, ◌∙◌, arith, inl, inr, length-drop}
+use Rattle.std.proofs.Common.{◌≡◌, ℕ, ◌-◌, ◌≤◌, min, List, length, take, drop, Option, Some, None, Err, IsErrOf, refl, sym, ap, ◌∙◌, arith, inl, inr, length-drop}
 use Rattle.std.proofs.lemmas.Bool.{cases_lt}
 use Rattle.std.proofs.lemmas.List.{take_all}
 use Rattle.siv_mode.specs.Keys.{KeyPair}
 use Rattle.outside.specs.Disk.{Disk, Path, node_at, file}
-use Rattle.outside.specs.Calls.{Told}
+use Rattle.outside.specs.Calls.{HasCause, IsUnfit, Told}
+use Rattle.outside.specs.declared.folder.FolderErr.{FolderErr}
+use Rattle.outside.specs.declared.folder.FolderErr.TheVariants as folder_errs
 use Rattle.file_chunks.specs.Header.{Head, header_opens}
 use Rattle.file_chunks.specs.Chunk.{chunk_opens}
 use Rattle.file_chunks.specs.File.{sealed_at}
-use Rattle.vault_store.specs.Reading.{HasChunk}
-use Rattle.vault_store.proofs.Telling.{told_then}
+use Rattle.vault_store.specs.Reading.{HasChunk, RoseUntold}
+use Rattle.outside.proofs.Told.{told_then}
 
 -- a read of a file into this room gave n bytes from a place on
 abbrev pub Gives : Option Disk → Path → ℕ → ℕ → List ℕ → ℕ → Type 0
@@ -52,3 +54,13 @@ pub chunk_told : (contents : Option Disk) (path : Path) (head : Head) (n room : 
 chunk_told contents path head n room new part clear is_room gives read e =
     told_then contents (λ d. (bytes : List ℕ) → HasChunk d path bytes → sealed_at bytes 0 ≡ take n new) (λ d. (bytes : List ℕ) → HasChunk d path bytes → chunk_opens head 0 (sealed_at bytes 0) ≡ clear)
     (chunk_read contents path n room new is_room gives) (λ d same bytes is. ap (chunk_opens head 0) (same bytes is ∙ sym read) ∙ e)
+
+-- ---- faults
+
+-- the error of a read of a host file, where nothing is told
+pub untold_fault : {T : Type 0} (contents : Option Disk) (e : FolderErr) (before now : ℕ) (P : Disk → Type 0) → HasCause before now (IsErrOf {T = T} (Err e) folder_errs.Failed)
+    → (IsErrOf {T = T} (Err e) folder_errs.Unfit → IsUnfit contents before now P) → (IsErrOf {T = T} (Err e) folder_errs.Memory → ⊥) → RoseUntold contents before now
+untold_fault (Some disk) e before now P cause unfit memory = tt
+untold_fault None folder_errs.Failed before now P cause unfit memory = cause.rose refl
+untold_fault None folder_errs.Unfit before now P cause unfit memory = unfit refl
+untold_fault None folder_errs.Memory before now P cause unfit memory = absurd (memory refl)

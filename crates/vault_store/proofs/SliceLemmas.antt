@@ -11,8 +11,8 @@ use Rattle.tree_model.specs.Rows.{slice_of}
 use Rattle.file_chunks.specs.Header.{Head, header_opens}
 use Rattle.file_chunks.specs.Chunk.{chunk_opens}
 use Rattle.file_chunks.specs.File.{is_bad_size, chunk_count, clear_length, content_of, sealed_at}
-use Rattle.vault_store.specs.declared.room.ReadErr.{ReadErr}
-use Rattle.vault_store.specs.declared.room.ReadErr.TheVariants.{Device, Damaged}
+use Rattle.vault_store.specs.declared.chunk_buffers.ReadErr.{ReadErr}
+use Rattle.vault_store.specs.declared.chunk_buffers.ReadErr.TheVariants.{Device, Damaged}
 use Rattle.vault_store.specs.Reading.{Ends, HasChunk, IsShownFile}
 
 -- ---- sizes

@@ -1,35 +1,48 @@
 -- What the rows of a loaded tree answer.
-use Rattle.std.proofs.Common.{rules, ◌≡◌, ◌≢◌, ℕ, suc, ◌≤◌, ◌<◌, Bool, true, false, cond, not, List, [], ◌∷◌, length, map, Option, Some, None, IfSome, IfNone, IsSomeAnd, ok_or, Result, Ok, Err, refl, sym, ap, subst, ◌∙◌, arith, inl, inr}
+use Rattle.std.proofs.Common.{◌≡◌, ◌≢◌, ℕ, suc, ◌*◌, ◌%◌, ◌/◌, ◌≤◌, ◌<◌, Bool, true, false, cond, eq-eqb, bit_and, ◌&&◌, List, [], ◌∷◌, length, map, Option, Some, None, IfSome, IfNone, IsSomeAnd, MatchOption, ok_or, Result, Ok, Err, refl, sym, ap, subst, ◌∙◌, arith, inl, inr}
 use Rattle.std.specs.FinMap as finmap
-use Rattle.std.specs.Option.{option_map_or}
-use Rattle.std.specs.Str.{bytes_eq, is_utf8}
+use Rattle.std.specs.Str.{bytes_eq}
 use Rattle.std.proofs.lemmas.Bool.{ne_eqb, cases_lt}
+use Rattle.std.proofs.lemmas.Nat.Bits.{and_pow}
 use Rattle.std.proofs.lemmas.Option.{same_Some}
-use Rattle.std.proofs.lemmas.Str.{IsUtf8-from_ascii, is_utf8-from_IsUtf8}
-use Rattle.std.proofs.lemmas.Slice.Eq.{bytes_eq-Decides}
 use Rattle.siv_mode.specs.Keys.{KeyPair}
 use Rattle.tree_model.specs.declared.refusal.Refusal.{Refusal}
 use Rattle.tree_model.specs.declared.refusal.Refusal.TheVariants as refusals
 use Rattle.tree_model.specs.declared.stat.Qid.{Qid}
-use Rattle.tree_model.specs.Names.{NameFault, not_utf8, empty, dots, forbidden, too_long, nfc_of, checked_name, clear_name}
-use Rattle.tree_model.specs.Rows.{dir, Row, Rows, is_dir, row_of, child_of, qid_of}
-use Rattle.tree_model.specs.Asked.{PlainRequest, look, walk, open_node, PlainReply, qid, walked, refused}
-use Rattle.tree_model.specs.Step.{Answer, says, refuses, found, found_by_name, walked_by, walk_on, walk_from, walk_answer, open_refusal, step, early, answer_at, node_of}
-use Rattle.vault_layout.specs.Clear.{Files, rows_of, root_row}
+use Rattle.tree_model.specs.Names.{clear_name}
+use Rattle.tree_model.specs.Rows.{Row, Rows, is_dir, row_of, child_of, qid_of}
+use Rattle.tree_model.specs.Asked.{PlainRequest, look, walk, open_node, sync, PlainReply, qid, done, refused}
+use Rattle.tree_model.specs.Step.{Answer, Stepped, stepped, says, refuses, dot_dot, found, found_by_name, walked_by, walk_on, walk_from, walk_answer, open_refusal, is_bad_size, open_step, truncates, early, work, node_of}
+use Rattle.tree_model.specs.NotBuilt.{not_built, withheld}
+use Rattle.tree_model.proofs.Steps.{step_removed, step_worked, step_walk, walk_not_removed, withheld_at, withheld_past}
+use Rattle.vault_layout.specs.Clear.{Files, rows_of, root_row, file_row}
 use Rattle.vault_layout.specs.Loaded.{LoadedTree, loaded_file, file_at}
-use Rattle.vault_store.specs.Tree.{ForRows, IsStepReply, IsWalkReply, StandsFor, IsWay, qid_at}
+use Rattle.vault_store.specs.Answers.{MayAnswer, IsAnswerIn, IsNotBuilt}
+use Rattle.vault_store.specs.Tree.{ForRows, IsReplyIn, StandsFor, IsWay, qid_at}
 use Rattle.vault_store.proofs.RowLemmas.{row_cases, row_within, row_past, child_found, child_absent}
 
-pub step_removed : (rows : Rows) (request : PlainRequest) → row_of rows (node_of request) ≡ None → step rows request ≡ refuses refusals.Removed
-unfolding step
-step_removed rows request none =
-    ap (λ (o : Option Row). option_map_or refuses (option_map_or (λ row. early row request) o (Some refusals.Removed)) (option_map_or (λ row. answer_at rows row request) o (refuses refusals.Removed))) none
+-- ---- what isn't built
 
-pub step_at : (rows : Rows) (request : PlainRequest) (row : Row) → row_of rows (node_of request) ≡ Some row
-    → step rows request ≡ option_map_or refuses (early row request) (answer_at rows row request)
-unfolding step
-step_at rows request row is =
-    ap (λ (o : Option Row). option_map_or refuses (option_map_or (λ row. early row request) o (Some refusals.Removed)) (option_map_or (λ row. answer_at rows row request) o (refuses refusals.Removed))) is
+-- a request that is built is answered as it may be
+pub built : (rows : Rows) (request : PlainRequest) (second : ℕ) (answer : Answer) → withheld rows request ≡ None → MayAnswer rows request second answer → IsAnswerIn rows request second answer
+built rows request second answer free may =
+    subst (λ (o : Option Refusal). MatchOption o (MayAnswer rows request second answer) (λ refusal. answer ≡ refuses refusal)) (sym free) may
+
+-- and one that isn't is refused
+pub unbuilt : (rows : Rows) (request : PlainRequest) (second : ℕ) (refusal : Refusal) → withheld rows request ≡ Some refusal → IsAnswerIn rows request second (refuses refusal)
+unbuilt rows request second refusal is =
+    subst (λ (o : Option Refusal). MatchOption o (MayAnswer rows request second (refuses refusal)) (λ r. refuses refusal ≡ refuses r)) (sym is) refl
+
+-- the same of a node that is there, whose request is built
+pub built_at : (rows : Rows) (request : PlainRequest) (second : ℕ) (answer : Answer) (row : Row) → row_of rows (node_of request) ≡ Some row → not_built row request ≡ None
+    → MayAnswer rows request second answer → IsAnswerIn rows request second answer
+built_at rows request second answer row is free may = built rows request second answer (withheld_at rows request row is ∙ free) may
+
+-- the answers of equal steps
+pub answer_of : {a b : Stepped} → a ≡ b → a.answer ≡ b.answer
+answer_of e = ap (λ (s : Stepped). s.answer) e
+
+-- ---- qids
 
 file_qid : (i : ℕ) → qid_at (suc i) ≡ record { kind = 0; version = 0; path = suc i }
 file_qid i = ap (λ (b : Bool). record { kind = cond b 128 0; version = 0; path = suc i }) (ne_eqb (suc i) 0 (λ same. omega arith))
@@ -44,48 +57,78 @@ module _ (tree : LoadedTree) (keys : KeyPair) (now : ℕ) (files : Files) (liste
     | inr other ↦ ap qid_of other.is ∙ sym (file_qid other.index) ∙ ap qid_at (sym other.number)
   ]
 
-  step_look : (n : ℕ) → n ≤ length tree.files → says (qid (qid_at n)) ≡ step rows (look n)
-  step_look n few =
-      let found = row_within tree keys now files listed n few in
-      sym (step_at rows (look n) found.0 found.1 ∙ ap (λ (q : Qid). says (qid q)) (qid_row n found.0 found.1))
+pub look_there : (tree : LoadedTree) (n : ℕ) (q : Qid) → n ≤ length tree.files → q ≡ qid_at n → IsReplyIn tree (look n) (qid q)
+look_there tree n q few is keys now files listed second =
+    let rows : Rows = rows_of keys now tree.foreign files in
+    let row = row_within tree keys now files listed n few in
+    built_at rows (look n) second (says (qid q)) row.0 row.1 refl
+    (inl (ap (λ (q : Qid). says (qid q)) is ∙ ap (λ (q : Qid). says (qid q)) (sym (qid_row tree keys now files listed n row.0 row.1)) ∙ sym (answer_of (step_worked rows (look n) second row.0 row.1 refl))))
 
-pub look_there : (tree : LoadedTree) (n : ℕ) (q : Qid) → n ≤ length tree.files → q ≡ qid_at n → IsStepReply tree (look n) (qid q)
-look_there tree n q few is keys now files listed = ap (λ (q : Qid). says (qid q)) is ∙ step_look tree keys now files listed n few
+pub sync_there : (tree : LoadedTree) (n : ℕ) → n ≤ length tree.files → IsReplyIn tree (sync n) done
+sync_there tree n few keys now files listed second =
+    let rows : Rows = rows_of keys now tree.foreign files in
+    let row = row_within tree keys now files listed n few in
+    built_at rows (sync n) second (says done) row.0 row.1 refl (inl (sym (answer_of (step_worked rows (sync n) second row.0 row.1 refl))))
 
-pub request_past : (tree : LoadedTree) (request : PlainRequest) → length tree.files < node_of request → ForRows tree (λ rows. refuses refusals.Removed ≡ step rows request)
-request_past tree request past keys now files listed = sym (step_removed (rows_of keys now tree.foreign files) request (row_past tree keys now files listed (node_of request) past))
+pub request_past : (tree : LoadedTree) (request : PlainRequest) → length tree.files < node_of request → IsReplyIn tree request (refused refusals.Removed)
+request_past tree request past keys now files listed second =
+    let rows : Rows = rows_of keys now tree.foreign files in
+    let none : row_of (rows_of keys now tree.foreign files) (node_of request) ≡ None = row_past tree keys now files listed (node_of request) past in
+    built rows request second (refuses refusals.Removed) (withheld_past rows request none) (inl (sym (answer_of (step_removed rows request second none))))
+
+pub not_built_there : (tree : LoadedTree) (request : PlainRequest) → IsNotBuilt request → node_of request ≤ length tree.files → IsReplyIn tree request (refused refusals.NotPermitted)
+not_built_there tree request other few keys now files listed second =
+    let rows : Rows = rows_of keys now tree.foreign files in
+    let row = row_within tree keys now files listed (node_of request) few in
+    unbuilt rows request second refusals.NotPermitted (withheld_at rows request row.0 row.1 ∙ other row.0)
 
 -- ---- opening
 
-open_row : (rows : Rows) (n mode : ℕ) (row : Row) → row_of rows n ≡ Some row → open_refusal row.kind mode ≡ None → step rows (open_node n mode) ≡ step rows (look n)
-open_row rows n mode row is free =
-    step_at rows (open_node n mode) row is ∙ ap (λ (o : Option Refusal). option_map_or refuses o (says (qid (qid_of row)))) free ∙ sym (step_at rows (look n) row is)
+-- the bit that truncates is set, or not
+pub truncates_set : (mode : ℕ) → (bit_and mode 16 ≡ 0 → ⊥) → truncates mode ≡ true
+truncates_set mode set =
+    let bit : bit_and mode 16 ≡ mode / 16 % 2 * 16 = and_pow mode 4 in
+    eq-eqb (mode / 16 % 2) 1 (elim (cases_lt (mode / 16 % 2) 1) [ inl low ↦ absurd (set (omega arith)) | inr high ↦ omega arith ])
 
--- where only a directory could be refused, opening a node answers as a look does
-pub open_as_look : (tree : LoadedTree) (n mode : ℕ) (reply : PlainReply) → (n ≡ 0 → mode ≡ 0) → IsStepReply tree (look n) reply → IsStepReply tree (open_node n mode) reply
-open_as_look tree n mode reply to_read is keys now files listed =
+pub truncates_clear : (mode : ℕ) → bit_and mode 16 ≡ 0 → truncates mode ≡ false
+truncates_clear mode clear =
+    let bit : bit_and mode 16 ≡ mode / 16 % 2 * 16 = and_pow mode 4 in
+    ne_eqb (mode / 16 % 2) 1 (λ one. omega arith)
+
+pub open_truncating : (tree : LoadedTree) (n mode : ℕ) → truncates mode ≡ true → n ≤ length tree.files → IsReplyIn tree (open_node n mode) (refused refusals.NotPermitted)
+open_truncating tree n mode cuts few keys now files listed second =
     let rows : Rows = rows_of keys now tree.foreign files in
-    is keys now files listed ∙ sym (elim (cases_lt (length tree.files) n) [
-      | inl past ↦
-          let none : row_of (rows_of keys now tree.foreign files) n ≡ None = row_past tree keys now files listed n past in
-          step_removed rows (open_node n mode) none ∙ sym (step_removed rows (look n) none)
-      | inr within ↦
-          let found = row_within tree keys now files listed n within in
-          open_row rows n mode found.0 found.1 (elim (row_cases tree keys now files listed n found.0 found.1) [
-            | inl root ↦ ap (λ (r : Row). open_refusal r.kind mode) root.1 ∙ ap (λ (m : ℕ). open_refusal dir m) (to_read root.0)
-            | inr other ↦ ap (λ (r : Row). open_refusal r.kind mode) other.is
-          ])
-    ])
+    let row = row_within tree keys now files listed n few in
+    unbuilt rows (open_node n mode) second refusals.NotPermitted
+    (withheld_at rows (open_node n mode) row.0 row.1 ∙ ap (λ (b : Bool). cond b (Some refusals.NotPermitted) (cond (is_dir row.0.kind) (Some refusals.IsADirectory) None)) cuts)
 
-pub open_root : (tree : LoadedTree) (mode : ℕ) → (mode ≡ 0 → ⊥) → ForRows tree (λ rows. refuses refusals.IsADirectory ≡ step rows (open_node 0 mode))
-open_root tree mode other keys now files listed =
-    sym (step_at (rows_of keys now tree.foreign files) (open_node 0 mode) (root_row tree.foreign now) refl
-    ∙ ap (λ (b : Bool). option_map_or refuses (cond b None (Some refusals.IsADirectory)) (says (qid (qid_of (root_row tree.foreign now))))) (ne_eqb mode 0 other))
+pub open_root : (tree : LoadedTree) (n mode : ℕ) → truncates mode ≡ false → n ≡ 0 → IsReplyIn tree (open_node n mode) (refused refusals.IsADirectory)
+open_root tree n mode keeps root keys now files listed second =
+    let rows : Rows = rows_of keys now tree.foreign files in
+    subst (λ (n : ℕ). IsAnswerIn (rows_of keys now tree.foreign files) (open_node n mode) second (refuses refusals.IsADirectory)) (sym root)
+    (unbuilt rows (open_node 0 mode) second refusals.IsADirectory
+    (withheld_at rows (open_node 0 mode) (root_row tree.foreign now) refl ∙ ap (λ (b : Bool). cond b (Some refusals.NotPermitted) (Some refusals.IsADirectory)) keeps))
+
+pub open_file : (tree : LoadedTree) (n mode : ℕ) (q : Qid) → truncates mode ≡ false → (n ≡ 0 → ⊥) → n ≤ length tree.files → q ≡ qid_at n → IsReplyIn tree (open_node n mode) (qid q)
+open_file tree n mode q keeps other few is keys now files listed second =
+    let rows : Rows = rows_of keys now tree.foreign files in
+    let row = row_within tree keys now files listed n few in
+    elim (row_cases tree keys now files listed n row.0 row.1) [
+      | inl root ↦ absurd (other root.0)
+      | inr file ↦
+          let free : not_built row.0 (open_node n mode) ≡ None =
+          ap (λ (r : Row). cond (truncates mode) (Some refusals.NotPermitted) (cond (is_dir r.kind) (Some refusals.IsADirectory) None)) file.is
+          ∙ ap (λ (b : Bool). cond b (Some refusals.NotPermitted) None) keeps in
+          let early_free : early rows row.0 (open_node n mode) ≡ None =
+          ap (λ (r : Row). open_refusal r.kind r.content mode) file.is
+          ∙ ap (λ (b : Bool). cond (b && is_bad_size (file_row keys now (suc file.index) file.file.0 file.file.1).content) (Some refusals.Damaged) None) keeps in
+          let worked : (work rows row.0 (open_node n mode) second).answer ≡ says (qid (qid_of row.0)) =
+          ap (λ (b : Bool). (cond b (open_step rows row.0 16 second) (stepped rows (says (qid (qid_of row.0))))).answer) keeps in
+          built_at rows (open_node n mode) second (says (qid q)) row.0 row.1 free
+          (inl (ap (λ (q : Qid). says (qid q)) (is ∙ sym (qid_row tree keys now files listed n row.0 row.1)) ∙ sym worked ∙ sym (answer_of (step_worked rows (open_node n mode) second row.0 row.1 early_free))))
+    ]
 
 -- ---- one name
-
-abbrev dots_name : List ℕ
-dots_name = 46 ∷ 46 ∷ []
 
 abbrev pub Next : LoadedTree → ℕ → List ℕ → Result ℕ Refusal → Type 0
 Next tree from name next = ForRows tree (λ rows. (row : Row) → row_of rows from ≡ Some row → StandsFor rows (walked_by rows row name) next)
@@ -98,7 +141,7 @@ next_from_file tree from name other keys now files listed row is =
     ]
 
 -- from the root by a name that isn't `..`
-by_name : (tree : LoadedTree) (keys : KeyPair) (now : ℕ) (files : Files) (name : List ℕ) (row : Row) → row_of (rows_of keys now tree.foreign files) 0 ≡ Some row → bytes_eq name dots_name ≡ false
+by_name : (tree : LoadedTree) (keys : KeyPair) (now : ℕ) (files : Files) (name : List ℕ) (row : Row) → row_of (rows_of keys now tree.foreign files) 0 ≡ Some row → bytes_eq name dot_dot ≡ false
     → walked_by (rows_of keys now tree.foreign files) row name ≡ found_by_name (rows_of keys now tree.foreign files) 0 (clear_name name)
 by_name tree keys now files name row is other =
     let rows : Rows = rows_of keys now tree.foreign files in
@@ -112,7 +155,7 @@ stands_found tree keys now files listed name None some none = ap found (child_ab
 stands_found tree keys now files listed name (Some n) some none =
     let row = child_found tree keys now files listed name n some in (row.0, row.1, ap found row.2)
 
-pub next_named : (tree : LoadedTree) (from : ℕ) (name clear : List ℕ) (o : Option ℕ) (r : Result ℕ Refusal) → from ≡ 0 → bytes_eq name dots_name ≡ false → clear_name name ≡ Ok clear
+pub next_named : (tree : LoadedTree) (from : ℕ) (name clear : List ℕ) (o : Option ℕ) (r : Result ℕ Refusal) → from ≡ 0 → bytes_eq name dot_dot ≡ false → clear_name name ≡ Ok clear
     → IfSome o (λ n. IsSomeAnd (file_at tree n) (λ f. f.0 ≡ clear)) → IfNone o ((n : ℕ) → IfSome (file_at tree n) (λ f. f.0 ≢ clear)) → r ≡ ok_or o refusals.FileDoesNotExist
     → Next tree from name r
 next_named tree from name clear o r root other valid some none is keys now files listed row at =
@@ -143,88 +186,17 @@ way_more tree n m name names qids end next way keys now files listed row is =
     ∙ ap (λ (w : List Qid × Option Refusal). (qid_of to.0 ∷ w.0, w.1)) (way keys now files listed to.0 to.1)
     ∙ ap (λ (q : Qid). (q ∷ qids, end)) (qid_row tree keys now files listed m to.0 to.1)
 
-not_text : (name : List ℕ) → is_utf8 name ≡ false → clear_name name ≡ Err not_utf8
-unfolding clear_name
-not_text name bad = ap (λ (b : Bool). cond b (checked_name (nfc_of name)) (Err not_utf8)) bad
-
-not_dots : (name : List ℕ) → is_utf8 name ≡ false → (b : Bool) → bytes_eq name dots_name ≡ b → b ≡ false
-not_dots name bad false is = refl
-not_dots name bad true is =
-    let dots : name ≡ dots_name = (bytes_eq-Decides name dots_name).0 is in
-    let good : is_utf8 dots_name ≡ true = is_utf8-from_IsUtf8 dots_name (IsUtf8-from_ascii dots_name (search rules)) in
-    absurd (cc (bad, dots, good))
-
--- from the root, a first name that isn't UTF-8 is refused before the work, as it would be in it
-walk_root : (tree : LoadedTree) (keys : KeyPair) (now : ℕ) (files : Files) (name : List ℕ) (names : List (List ℕ)) (row : Row)
-    → row_of (rows_of keys now tree.foreign files) 0 ≡ Some row → (b : Bool) → is_utf8 name ≡ b
-    → option_map_or refuses (cond b None (Some refusals.BadName)) (walk_answer (walk_from (rows_of keys now tree.foreign files) row (name ∷ names)))
-    ≡ walk_answer (walk_from (rows_of keys now tree.foreign files) row (name ∷ names))
-unfolding walk_from
-walk_root tree keys now files name names row is true text = refl
-walk_root tree keys now files name names row is false bad =
-    let rows : Rows = rows_of keys now tree.foreign files in
-    let other : bytes_eq name dots_name ≡ false = not_dots name bad (bytes_eq name dots_name) refl in
-    sym (ap (λ (w : Result Row Refusal). walk_answer (walk_on (λ row. walk_from rows row names) w))
-    (by_name tree keys now files name row is other ∙ ap (found_by_name rows 0) (not_text name bad)))
-
-step_walk : (tree : LoadedTree) (keys : KeyPair) (now : ℕ) (files : Files) (listed : tree.files ≡ map (loaded_file keys) (finmap.entries files)) (n : ℕ) (names : List (List ℕ)) (row : Row)
-    → row_of (rows_of keys now tree.foreign files) n ≡ Some row
-    → step (rows_of keys now tree.foreign files) (walk n names) ≡ walk_answer (walk_from (rows_of keys now tree.foreign files) row names)
-unfolding walk_from
-step_walk tree keys now files listed n [] row is = step_at (rows_of keys now tree.foreign files) (walk n []) row is
-step_walk tree keys now files listed n (name ∷ names) row is =
-    let rows : Rows = rows_of keys now tree.foreign files in
-    step_at rows (walk n (name ∷ names)) row is ∙ elim (row_cases tree keys now files listed n row is) [
-      | inl root ↦
-          ap (λ (r : Row). option_map_or refuses (early r (walk n (name ∷ names))) (answer_at rows row (walk n (name ∷ names)))) root.1
-          ∙ walk_root tree keys now files name names row (ap (row_of rows) (sym root.0) ∙ is) (is_utf8 name) refl
-      | inr file ↦
-          ap (λ (r : Row). option_map_or refuses (early r (walk n (name ∷ names))) (answer_at rows row (walk n (name ∷ names)))) file.is
-          ∙ sym (ap (λ (r : Row). walk_answer (walk_from rows r (name ∷ names))) file.is)
-    ]
-
 pub walk_reached : (tree : LoadedTree) (n : ℕ) (names : List (List ℕ)) (qids : List Qid) (end : Option Refusal) (reply : PlainReply)
-    → n ≤ length tree.files → IsWay tree n names qids end → says reply ≡ walk_answer (qids, end) → IsWalkReply tree n names reply
-walk_reached tree n names qids end reply within way is keys now files listed =
+    → n ≤ length tree.files → IsWay tree n names qids end → says reply ≡ walk_answer (qids, end) → IsReplyIn tree (walk n names) reply
+walk_reached tree n names qids end reply within way is keys now files listed second =
+    let rows : Rows = rows_of keys now tree.foreign files in
     let row = row_within tree keys now files listed n within in
-    inl (is ∙ ap walk_answer (sym (way keys now files listed row.0 row.1)) ∙ sym (step_walk tree keys now files listed n names row.0 row.1))
+    built_at rows (walk n names) second (says reply) row.0 row.1 refl
+    (inl (is ∙ ap walk_answer (sym (way keys now files listed row.0 row.1)) ∙ sym (step_walk rows n second names row.0 row.1)))
 
-pub walk_past : (tree : LoadedTree) (n : ℕ) (names : List (List ℕ)) → length tree.files < n → IsWalkReply tree n names (refused refusals.Removed)
-walk_past tree n names past keys now files listed = inl (request_past tree (walk n names) past keys now files listed)
-
--- ---- a walk is never answered by `Removed` where its node is there
-
-found_refusal : (o : Option Row) → found o ≡ Err refusals.Removed → ⊥
-found_refusal None e = cc
-found_refusal (Some row) e = cc
-
-named_refusal : (rows : Rows) (n : ℕ) (r : Result (List ℕ) NameFault) → found_by_name rows n r ≡ Err refusals.Removed → ⊥
-named_refusal rows n (Ok name) e = found_refusal (child_of rows n name) e
-named_refusal rows n (Err not_utf8) e = cc
-named_refusal rows n (Err empty) e = cc
-named_refusal rows n (Err dots) e = cc
-named_refusal rows n (Err forbidden) e = cc
-named_refusal rows n (Err (too_long k)) e = cc
-
-either_refusal : (b c : Bool) (x y : Result Row Refusal) → (x ≡ Err refusals.Removed → ⊥) → (y ≡ Err refusals.Removed → ⊥)
-    → cond b (Err refusals.NotADirectory) (cond c x y) ≡ Err refusals.Removed → ⊥
-either_refusal true c x y p q e = cc
-either_refusal false true x y p q e = p e
-either_refusal false false x y p q e = q e
-
-answer_refusal : (rest : Row → List Qid × Option Refusal) (w : Result Row Refusal) → (w ≡ Err refusals.Removed → ⊥) → walk_answer (walk_on rest w) ≡ refuses refusals.Removed → ⊥
-answer_refusal rest (Ok row) other e = let same : walked (qid_of row ∷ (rest row).0) ≡ refused refusals.Removed = ap (λ (a : Answer). a.reply) e in cc
-answer_refusal rest (Err refusal) other e = other (let same : refused refusal ≡ refused refusals.Removed = ap (λ (a : Answer). a.reply) e in cc)
-
-walk_refusal : (rows : Rows) (row : Row) (names : List (List ℕ)) → walk_answer (walk_from rows row names) ≡ refuses refusals.Removed → ⊥
-unfolding walk_from
-walk_refusal rows row [] e = let same : walked [] ≡ refused refusals.Removed = ap (λ (a : Answer). a.reply) e in cc
-walk_refusal rows row (name ∷ names) e =
-    answer_refusal (λ row. walk_from rows row names) (walked_by rows row name)
-    (either_refusal (not (is_dir row.kind)) (bytes_eq name dots_name) (found (row_of rows row.parent)) (found_by_name rows row.number (clear_name name))
-    (found_refusal (row_of rows row.parent)) (named_refusal rows row.number (clear_name name))) e
-
-pub walk_lacks_memory : (tree : LoadedTree) (n : ℕ) (names : List (List ℕ)) → n ≤ length tree.files → IsWalkReply tree n names (refused refusals.OutOfMemory)
-walk_lacks_memory tree n names within keys now files listed =
+pub walk_lacks_memory : (tree : LoadedTree) (n : ℕ) (names : List (List ℕ)) → n ≤ length tree.files → IsReplyIn tree (walk n names) (refused refusals.OutOfMemory)
+walk_lacks_memory tree n names within keys now files listed second =
+    let rows : Rows = rows_of keys now tree.foreign files in
     let row = row_within tree keys now files listed n within in
-    inr (refl, λ e. walk_refusal (rows_of keys now tree.foreign files) row.0 names (sym (step_walk tree keys now files listed n names row.0 row.1) ∙ e))
+    built_at rows (walk n names) second (refuses refusals.OutOfMemory) row.0 row.1 refl
+    (inr (inr (refl, λ e. walk_not_removed rows row.0 names (sym (step_walk rows n second names row.0 row.1) ∙ e))))

@@ -1,27 +1,37 @@
 -- What a store stands for, when it is opened and after an answer.
-use Rattle.std.proofs.Common.{◌≡◌, ℕ, ◌+◌, ◌-◌, ◌^◌, ◌≤◌, min, false, eqb, List, [], ◌∷◌, ◌++◌, length, Option, Some, None, IsSome, refl, sym, subst, ◌∙◌, arith, inl, inr, length-append, append_assoc}
-use Rattle.std.specs.List.{AllByRecursion}
+use Rattle.std.proofs.Common.{◌≡◌, ℕ, suc, ◌+◌, ◌-◌, ◌^◌, ◌≤◌, min, Bool, false, true, cond, not, ◌&&◌, eqb, eq-eqb, MatchOption, List, [], ◌∷◌, ◌++◌, length, Option, Some, None, IsNone, refl, sym, ap, subst, ◌∙◌, arith, inl, inr, length-append, append_assoc}
+use Rattle.std.specs.Option.{option_map_or}
 use Rattle.std.proofs.lemmas.Bool.{false≢true}
 use Rattle.std.proofs.lemmas.List.{map-append}
 use Rattle.std.proofs.lemmas.List.Elements.{filter-append}
 use Rattle.siv_mode.specs.Keys.{KeyPair}
-use Rattle.outside.specs.Disk.{Disk}
+use Rattle.outside.specs.Disk.{Disk, Path}
 use Rattle.outside.specs.Calls.{Told}
+use Rattle.outside.specs.Images.{Log, disk_in}
+use Rattle.outside.specs.Views.{FolderView, EntropyView}
+use Rattle.outside.proofs.Told.{told_always, told_then, told_both}
+use Rattle.outside.proofs.Lists.{all_more}
+use Rattle.tree_model.specs.declared.refusal.Refusal.{Refusal}
+use Rattle.tree_model.specs.declared.refusal.Refusal.TheVariants as refusals
 use Rattle.tree_model.specs.Rows.{Rows}
-use Rattle.tree_model.specs.Asked.{PlainRequest, PlainReply, Asked, look, walk, open_node, asked_of}
-use Rattle.tree_model.specs.Step.{step}
-use Rattle.tree_model.specs.History.{Entry, IsAnswered, IsLegal, rows_after, entries_of}
+use Rattle.tree_model.specs.Asked.{PlainRequest, look, walk, open_node, create, read, list, write, remove, stat_of, change, sync, PlainReply, qid, walked, count, stat, done, refused, Asked, asked_of, bytes_put, is_exhausted, entered}
+use Rattle.tree_model.specs.Step.{Answer, step, refuses}
+use Rattle.tree_model.specs.NotBuilt.{withheld}
+use Rattle.tree_model.specs.History.{Made, Entry, entry_of, Origin, Tally, next as next_tally, after, tally_at, tally_of, IsCaused, HasCause, is_stopped, IsAnswered, IsTreeAnswer, answer_where, places, is_refusal, is_stable, AreAnswered, rows_after}
+use Rattle.tree_model.proofs.Histories.{after_more, caused_more, answered_more, rows_after_more, after_count, after_stable}
+use Rattle.tree_model.proofs.Steps.{step_reads}
 use Rattle.vault_layout.specs.Clear.{IsClear, rows_of}
 use Rattle.vault_layout.specs.Loaded.{LoadedTree, IsLoaded}
 use Rattle.vault_store.specs.declared.store.Store.{Store}
-use Rattle.vault_store.specs.declared.alone.Alone.{Alone}
-use Rattle.vault_store.specs.Store.{HasTree, IsStoreOf, IsOpened, FitsCaller, AddsEntry}
-use Rattle.vault_store.specs.Served.{HasAnswered}
-use Rattle.vault_store.specs.Tree.{IsStepReply, IsWalkReply}
-use Rattle.vault_store.specs.Reading.{MayAnswer}
-use Rattle.vault_store.specs.Answers.{answer_with, IsAnswerOf}
-use Rattle.vault_store.proofs.Telling.{told_always, told_then, told_both}
-use Rattle.vault_store.proofs.HistoryLemmas.{all_more, all_joined, all_weaker, all_filtered, rows_after_more, IsRunning, IsLegal-more}
+use Rattle.vault_store.specs.declared.sole_caller.SoleCaller.{SoleCaller}
+use Rattle.vault_store.specs.Store.{HasTree, IsOpened, IsOnlyRead, AddsEntry, moment_of}
+use Rattle.vault_store.specs.Served.{HasAnswered, IsStoreFor, IsUndrawn, sole}
+use Rattle.vault_store.specs.Tree.{IsReplyIn}
+use Rattle.vault_store.specs.Answers.{answer_with, IsAnswerIn, IsAnswerOf, MayAnswer, ReplyCause, CausedOf, KeepsRows}
+
+none_is_not_some : (o : Option ℕ) (n : ℕ) → IsNone o → o ≡ Some n → ⊥
+none_is_not_some None n none is = cc
+none_is_not_some (Some m) n none is = let no : true ≡ false = none in cc
 
 -- ---- opening
 
@@ -39,177 +49,329 @@ first_rows (Some disk) keys now tree is = record {
   loaded = (is, refl);
 }
 
-pub IsOpened-loaded : {D : Type 0} (disk_of : D → Option Disk) (faults_of : D → ℕ) (folder : D) (keys : KeyPair) (now : ℕ) (store : Store D)
-    → disk_of store.folder ≡ disk_of folder → faults_of folder ≤ faults_of store.folder → store.keys ≡ keys → store.opened_at ≡ now → store.entries ≡ 0
-    → Told (disk_of folder) (λ d. IsLoaded keys d store.loaded) → IsOpened disk_of faults_of folder keys now store
-IsOpened-loaded disk_of faults_of folder keys now store disk faults same at none told =
-    let first = first_rows (disk_of folder) store.keys store.opened_at store.loaded (subst (λ (k : KeyPair). Told (disk_of folder) (λ d. IsLoaded k d store.loaded)) (sym same) told) in
-    subst (λ (k : KeyPair). IsOpened disk_of faults_of folder k now store) same
-    (subst (λ (n : ℕ). IsOpened disk_of faults_of folder store.keys n store) at (record {
+-- a store over a tree that was loaded stands for no entries from its rows on
+pub IsOpened-loaded : {D : Type 0} (view : D → FolderView) (folder : D) (keys : KeyPair) (now : ℕ) (store : Store D)
+    → IsOnlyRead (view folder) (view store.folder) → store.keys ≡ keys → store.opened_at ≡ now → store.entries ≡ 0
+    → Told (disk_in (view folder).log) (λ d. IsLoaded keys d store.loaded) → IsOpened view folder keys now store
+IsOpened-loaded view folder keys now store only same at none told =
+    let contents : Option Disk = disk_in (view folder).log in
+    let first = first_rows (disk_in (view folder).log) store.keys store.opened_at store.loaded (subst (λ (k : KeyPair). Told (disk_in (view folder).log) (λ d. IsLoaded k d store.loaded)) (sym same) told) in
+    subst (λ (k : KeyPair). IsOpened view folder k now store) same
+    (subst (λ (n : ℕ). IsOpened view folder store.keys n store) at (record {
       rows = first.rows;
       clear = first.clear;
-      stands = record {
-        tree = subst (λ (o : Option Disk). Told o (λ d. HasTree store d first.rows [])) (sym disk)
-            (told_then (disk_of folder) (λ d. (is : IsLoaded store.keys d store.loaded) × (first.rows ≡ rows_of store.keys store.opened_at store.loaded.foreign is.files)) (λ d. HasTree store d first.rows []) first.loaded
-            (λ d is. record {
-              loaded = is.0;
-              current = is.1;
-              legal = record { each = tt; folder = tt; entropy = λ caller. tt; one_stop = λ i j stop. absurd stop };
-            }));
-        folder = tt;
-        running = tt;
+      stands = λ origin faults moment. record {
+        tree = subst (λ (l : Option Log). Told (disk_in l) (λ d. HasTree store d first.rows origin [])) (sym only.log)
+            (told_then (disk_in (view folder).log) (λ d. (is : IsLoaded store.keys d store.loaded) × (first.rows ≡ rows_of store.keys store.opened_at store.loaded.foreign is.files)) (λ d. HasTree store d first.rows origin [])
+            first.loaded (λ d is. record { loaded = is.0; current = is.1; answered = tt }));
+        caused = tt;
+        running = refl;
+        folder = faults;
+        moment = moment;
         count = omega (arith, none);
       };
-      disk = disk;
-      faults = faults;
+      read = only;
     }))
 
 -- ---- replies that put no bytes
 
-pub look_answer : (contents : Option Disk) (keys : KeyPair) (tree : LoadedTree) (request : PlainRequest) (n before now : ℕ) (reply : PlainReply) (buffer : List ℕ) → request ≡ look n
-    → IsStepReply tree (look n) reply → IsAnswerOf contents keys tree request before now (answer_with request reply buffer)
-look_answer contents keys tree request n before now reply buffer same is =
-    subst (λ (r : PlainRequest). IsAnswerOf contents keys tree r before now (answer_with r reply buffer)) (sym same)
+-- what a loaded tree answers in all rows that it may be of, the rows of its disk allow
+pub answer_of_reply : (contents : Option Disk) (keys : KeyPair) (tree : LoadedTree) (request : PlainRequest) (reply : PlainReply) (answer : Answer)
+    → answer ≡ record { reply = reply; bytes = [] } → IsReplyIn tree request reply → IsAnswerOf contents keys tree request answer
+answer_of_reply contents keys tree request reply answer same is =
+    subst (λ (a : Answer). IsAnswerOf contents keys tree request a) (sym same)
     (told_always contents
-    (λ d. (loaded : IsLoaded keys d tree) (at : ℕ) → MayAnswer (rows_of keys at tree.foreign loaded.files) (look n) before now (answer_with (look n) reply buffer))
-    (λ d loaded at. inl (is keys at loaded.files loaded.listed)))
-
-pub open_answer : (contents : Option Disk) (keys : KeyPair) (tree : LoadedTree) (request : PlainRequest) (n mode before now : ℕ) (reply : PlainReply) (buffer : List ℕ) → request ≡ open_node n mode
-    → IsStepReply tree (open_node n mode) reply → IsAnswerOf contents keys tree request before now (answer_with request reply buffer)
-open_answer contents keys tree request n mode before now reply buffer same is =
-    subst (λ (r : PlainRequest). IsAnswerOf contents keys tree r before now (answer_with r reply buffer)) (sym same)
-    (told_always contents
-    (λ d. (loaded : IsLoaded keys d tree) (at : ℕ) → MayAnswer (rows_of keys at tree.foreign loaded.files) (open_node n mode) before now (answer_with (open_node n mode) reply buffer))
-    (λ d loaded at. inl (is keys at loaded.files loaded.listed)))
-
-pub walk_answered : (contents : Option Disk) (keys : KeyPair) (tree : LoadedTree) (request : PlainRequest) (n : ℕ) (names : List (List ℕ)) (before now : ℕ) (reply : PlainReply) (buffer : List ℕ)
-    → request ≡ walk n names → IsWalkReply tree n names reply → IsAnswerOf contents keys tree request before now (answer_with request reply buffer)
-walk_answered contents keys tree request n names before now reply buffer same is =
-    subst (λ (r : PlainRequest). IsAnswerOf contents keys tree r before now (answer_with r reply buffer)) (sym same)
-    (told_always contents
-    (λ d. (loaded : IsLoaded keys d tree) (at : ℕ) → MayAnswer (rows_of keys at tree.foreign loaded.files) (walk n names) before now (answer_with (walk n names) reply buffer))
-    (λ d loaded at. elim (is keys at loaded.files loaded.listed) [ inl step ↦ inl step | inr lacks ↦ inr (inr (lacks.0, tt, lacks.1)) ]))
+    (λ d. (loaded : IsLoaded keys d tree) (at second : ℕ) → IsAnswerIn (rows_of keys at tree.foreign loaded.files) request second (record { reply = reply; bytes = [] }))
+    (λ d loaded at second. is keys at loaded.files loaded.listed second))
 
 -- ---- one entry more
 
--- the tree of a store, by those of its fields that it depends on
-record TreeOf (keys : KeyPair) (tree : LoadedTree) (opened_at : ℕ) (disk : Disk) (rows : Rows) (history : List Entry) : Type 0 where
-  loaded : IsLoaded keys disk tree
-  current : rows_after rows history ≡ rows_of keys opened_at tree.foreign loaded.files
-  legal : IsLegal rows history
-
-abbrev made_entry : ℕ → Asked → ℕ → ℕ → ℕ → ℕ → Entry
-made_entry caller asked folder_before folder_after entropy_before entropy_after = record {
-  caller = caller;
+abbrev made_of : Asked → ℕ → ℕ → ℕ → ℕ → ℕ → ℕ → Made
+made_of asked folder folder' entropy entropy' stable moment = record {
   asked = asked;
   drawn = None;
-  folder_before = folder_before;
-  folder_after = folder_after;
-  entropy_before = entropy_before;
-  entropy_after = entropy_after;
+  folder = record { before = folder; after = folder' };
+  entropy = record { before = entropy; after = entropy' };
   commit_failed = false;
+  taken = None;
+  stable = stable;
+  moment = moment;
 }
 
-is_answered : (rows : Rows) (caller : ℕ) (request : PlainRequest) (moment : ℕ) (reply : PlainReply) (buffer : List ℕ) (f f' e e' : ℕ) → MayAnswer rows request f f' (answer_with request reply buffer)
-    → IsAnswered rows (made_entry caller (asked_of request moment reply buffer) f f' e e')
-is_answered rows caller request moment reply buffer f f' e e' may = elim may [
-  | inl step ↦ inl step
-  | inr fault ↦ elim fault [ inl device ↦ inr (inl device) | inr memory ↦ inr (inr (inr memory)) ]
-]
+has_cause : (made : Made) (reply : PlainReply) → ReplyCause made.asked.request made.folder.before made.folder.after reply → HasCause made reply × (is_stopped reply ≡ false)
+has_cause made (qid q) is = (tt, refl)
+has_cause made (walked qids) is = (tt, refl)
+has_cause made (count n) is = (tt, refl)
+has_cause made (stat n) is = (tt, refl)
+has_cause made done is = (tt, refl)
+has_cause made (refused refusals.Removed) is = (tt, refl)
+has_cause made (refused refusals.NotADirectory) is = (tt, refl)
+has_cause made (refused refusals.IsADirectory) is = (tt, refl)
+has_cause made (refused refusals.BadName) is = (tt, refl)
+has_cause made (refused refusals.NameTooLong) is = (tt, refl)
+has_cause made (refused refusals.FileDoesNotExist) is = (tt, refl)
+has_cause made (refused refusals.FileExists) is = (tt, refl)
+has_cause made (refused refusals.NotPermitted) is = (tt, refl)
+has_cause made (refused refusals.DirectoryNotEmpty) is = (tt, refl)
+has_cause made (refused refusals.CountTooSmall) is = (tt, refl)
+has_cause made (refused refusals.FileTooLarge) is = (tt, refl)
+has_cause made (refused refusals.GapTooLarge) is = (tt, refl)
+has_cause made (refused refusals.OneChangeAtATime) is = (tt, refl)
+has_cause made (refused refusals.VaultFull) is = (tt, refl)
+has_cause made (refused refusals.Damaged) is = (tt, refl)
+has_cause made (refused refusals.Foreign) is = (tt, refl)
+has_cause made (refused (refusals.PlaceTaken path)) is = absurd is
+has_cause made (refused (refusals.Stopped f)) is = absurd is
+has_cause made (refused (refusals.Exhausted ticket)) is = absurd is
+has_cause made (refused refusals.DeviceFault) is = (is, refl)
+has_cause made (refused refusals.RandomFault) is = absurd is
+has_cause made (refused refusals.OutOfMemory) is = (is, refl)
 
-tree_more : (keys : KeyPair) (tree : LoadedTree) (opened_at : ℕ) (disk : Disk) (rows : Rows) (history : List Entry) (entry : Entry) → TreeOf keys tree opened_at disk rows history
-    → AllByRecursion IsRunning history → entry.commit_failed ≡ false → entry.drawn ≡ None → ((is : IsLoaded keys disk tree) → IsAnswered (rows_of keys opened_at tree.foreign is.files) entry)
-    → entry.folder_before ≤ entry.folder_after → entry.entropy_before ≤ entry.entropy_after
-    → AllByRecursion (λ e. e.folder_after ≤ entry.folder_before) history → AllByRecursion (λ e. e.entropy_after ≤ entry.entropy_before) (entries_of entry.caller history)
-    → TreeOf keys tree opened_at disk rows (history ++ entry ∷ [])
-tree_more keys tree opened_at disk rows history entry is running goes_on undrawn answered later_folder later_entropy folder entropy = record {
+-- a reply with a cause is never that the caller has no turn left
+pub enters : (request : PlainRequest) (before now : ℕ) (reply : PlainReply) → ReplyCause request before now reply → is_exhausted reply ≡ false
+enters request before now (qid q) is = refl
+enters request before now (walked qids) is = refl
+enters request before now (count n) is = refl
+enters request before now (stat n) is = refl
+enters request before now done is = refl
+enters request before now (refused refusals.Removed) is = refl
+enters request before now (refused refusals.NotADirectory) is = refl
+enters request before now (refused refusals.IsADirectory) is = refl
+enters request before now (refused refusals.BadName) is = refl
+enters request before now (refused refusals.NameTooLong) is = refl
+enters request before now (refused refusals.FileDoesNotExist) is = refl
+enters request before now (refused refusals.FileExists) is = refl
+enters request before now (refused refusals.NotPermitted) is = refl
+enters request before now (refused refusals.DirectoryNotEmpty) is = refl
+enters request before now (refused refusals.CountTooSmall) is = refl
+enters request before now (refused refusals.FileTooLarge) is = refl
+enters request before now (refused refusals.GapTooLarge) is = refl
+enters request before now (refused refusals.OneChangeAtATime) is = refl
+enters request before now (refused refusals.VaultFull) is = refl
+enters request before now (refused refusals.Damaged) is = refl
+enters request before now (refused refusals.Foreign) is = refl
+enters request before now (refused (refusals.PlaceTaken path)) is = absurd is
+enters request before now (refused (refusals.Stopped f)) is = absurd is
+enters request before now (refused (refusals.Exhausted ticket)) is = absurd is
+enters request before now (refused refusals.DeviceFault) is = refl
+enters request before now (refused refusals.RandomFault) is = absurd is
+enters request before now (refused refusals.OutOfMemory) is = refl
+
+-- where no place is taken the tree's answer is the step's
+free_place : (b : Bool) (said : Answer) → cond b (option_map_or (λ (path : Path). refuses (refusals.PlaceTaken path)) None said) said ≡ said
+free_place true said = refl
+free_place false said = refl
+
+may_as_tree : (rows : Rows) (made : Made) (answer : Answer) → made.taken ≡ None → MayAnswer rows made.asked.request made.asked.second answer
+    → record { reply = made.asked.reply; bytes = made.asked.bytes } ≡ answer → IsTreeAnswer rows made
+may_as_tree rows made answer free may same =
+    let said : Answer = (step rows made.asked.request made.asked.second).answer in
+    let here : answer_where rows made.asked.request made.taken (step rows made.asked.request made.asked.second).answer ≡ (step rows made.asked.request made.asked.second).answer =
+    ap (λ (o : Option Path). answer_where rows made.asked.request o (step rows made.asked.request made.asked.second).answer) free
+    ∙ free_place (places rows made.asked.request && not (is_refusal (step rows made.asked.request made.asked.second).answer.reply)) (step rows made.asked.request made.asked.second).answer in
+    elim may [
+      | inl step ↦ inl (same ∙ step ∙ sym here)
+      | inr fault ↦ elim fault [ inl device ↦ inr (inl (same ∙ device.0, device.1)) | inr memory ↦ inr (inr (inr (same ∙ memory.0, memory.1))) ]
+    ]
+
+answered_by : (withheld : Option Refusal) (P Q : Type 0) (a b : Answer) → a ≡ b → (P → Q) → MatchOption withheld P (λ refusal. b ≡ refuses refusal) → MatchOption withheld Q (λ refusal. a ≡ refuses refusal)
+answered_by None P Q a b same then is = then is
+answered_by (Some refusal) P Q a b same then is = same ∙ is
+
+-- a store that only reads answers as a store may
+is_answered : (rows : Rows) (made : Made) (answer : Answer) → made.taken ≡ None → record { reply = made.asked.reply; bytes = made.asked.bytes } ≡ answer
+    → IsAnswerIn rows made.asked.request made.asked.second answer → IsAnswered rows made
+is_answered rows made answer free same is =
+    answered_by (withheld rows made.asked.request) (MayAnswer rows made.asked.request made.asked.second answer) (IsTreeAnswer rows made)
+    (record { reply = made.asked.reply; bytes = made.asked.bytes }) answer same (λ may. may_as_tree rows made answer free may same) is
+
+-- an entry that changes no rows
+stays : (rows : Rows) (request : PlainRequest) (second : ℕ) (reply : PlainReply) → KeepsRows request reply → cond (is_refusal reply) rows (step rows request second).rows ≡ rows
+stays rows request second (refused refusal) keeps = refl
+stays rows request second (qid q) keeps = step_reads rows request second keeps
+stays rows request second (walked qids) keeps = step_reads rows request second keeps
+stays rows request second (count n) keeps = step_reads rows request second keeps
+stays rows request second (stat n) keeps = step_reads rows request second keeps
+stays rows request second done keeps = step_reads rows request second keeps
+
+stable_since : (b : Bool) (last total : ℕ) → last ≤ total → (last ≤ cond b (suc total) last) × (cond b (suc total) last ≤ suc total)
+stable_since true last total within = (omega arith, omega arith)
+stable_since false last total within = (omega arith, omega arith)
+
+-- the entry of an answer may come next
+caused_entry : (tally : Tally) (caller : ℕ) (asked : Asked) (f f' e e' moment : ℕ) → IsNone tally.stopped → tally.stable ≤ tally.count → tally.folder_faults ≤ f → f ≤ f' → tally.entropy_faults caller ≤ e → e ≤ e'
+    → tally.moment ≤ moment → ReplyCause asked.request f f' asked.reply
+    → IsCaused tally (entry_of caller (made_of asked f f' e e' (cond (is_stable asked.request) (suc tally.count) tally.stable) moment))
+caused_entry tally caller asked f f' e e' moment running within folder_since folder entropy_since entropy moment_since cause =
+    let stable = stable_since (is_stable asked.request) tally.stable tally.count within in record {
+      running = λ none. has_cause (made_of asked f f' e e' (cond (is_stable asked.request) (suc tally.count) tally.stable) moment) asked.reply cause;
+      stopped = λ n is. absurd (none_is_not_some tally.stopped n running is);
+      flag = λ failed. absurd (false≢true failed);
+      drawn = λ some. absurd (false≢true some);
+      folder_since = folder_since;
+      folder = folder;
+      entropy_since = entropy_since;
+      entropy = entropy;
+      stable_since = stable.0;
+      stable_within = stable.1;
+      kept = λ held good. ap (λ (b : Bool). cond b (suc tally.count) tally.stable) held;
+      moment_since = moment_since;
+    }
+
+-- the tree of a store, by those of its fields that it depends on
+record TreeOf (keys : KeyPair) (tree : LoadedTree) (opened_at : ℕ) (disk : Disk) (rows : Rows) (origin : Origin) (history : List Entry) : Type 0 where
+  loaded : IsLoaded keys disk tree
+  current : rows_after rows history ≡ rows_of keys opened_at tree.foreign loaded.files
+  answered : AreAnswered rows (tally_at origin) history
+
+tree_more : (keys : KeyPair) (tree : LoadedTree) (opened_at : ℕ) (disk : Disk) (rows : Rows) (origin : Origin) (history : List Entry) (entry : Entry) → TreeOf keys tree opened_at disk rows origin history
+    → KeepsRows entry.made.asked.request entry.made.asked.reply → entry.made.taken ≡ None
+    → ((is : IsLoaded keys disk tree) (at second : ℕ) → IsAnswerIn (rows_of keys at tree.foreign is.files) entry.made.asked.request second (record { reply = entry.made.asked.reply; bytes = entry.made.asked.bytes }))
+    → TreeOf keys tree opened_at disk rows origin (history ++ entry ∷ [])
+tree_more keys tree opened_at disk rows origin history entry is keeps free answered = record {
   loaded = is.loaded;
-  current = rows_after_more rows history entry ∙ is.current;
-  legal = IsLegal-more rows history entry is.legal running goes_on
-      (record {
-        answer = subst (λ (r : Rows). IsAnswered r entry) (sym is.current) (answered is.loaded);
-        flag = λ failed. absurd (cc (failed, goes_on));
-        drawn = λ some. absurd (false≢true (subst (λ (o : Option (List ℕ)). IsSome o) undrawn some));
-        folder = later_folder;
-        entropy = later_entropy;
-      }) folder entropy;
+  current = rows_after_more rows history entry ∙ stays (rows_after rows history) entry.made.asked.request entry.made.asked.second entry.made.asked.reply keeps ∙ is.current;
+  answered = answered_more rows (tally_at origin) history entry is.answered (λ running.
+      is_answered (rows_after rows history) entry.made (record { reply = entry.made.asked.reply; bytes = entry.made.asked.bytes }) free refl
+      (subst (λ (r : Rows). IsAnswerIn r entry.made.asked.request entry.made.asked.second (record { reply = entry.made.asked.reply; bytes = entry.made.asked.bytes })) (sym is.current)
+      (answered is.loaded opened_at entry.made.asked.second)));
 }
 
-tree_of : {D : Type 0} (old new : Store D) (disk : Disk) (rows : Rows) (history : List Entry) → new.keys ≡ old.keys → new.loaded ≡ old.loaded → new.opened_at ≡ old.opened_at
-    → TreeOf old.keys old.loaded old.opened_at disk rows history → HasTree new disk rows history
-tree_of old new disk rows history keys loaded opened_at is =
-    let moved : TreeOf new.keys new.loaded new.opened_at disk rows history =
-    subst (λ (k : KeyPair). TreeOf k new.loaded new.opened_at disk rows history) (sym keys)
-    (subst (λ (t : LoadedTree). TreeOf old.keys t new.opened_at disk rows history) (sym loaded)
-    (subst (λ (n : ℕ). TreeOf old.keys old.loaded n disk rows history) (sym opened_at) is))
-    in record { loaded = moved.loaded; current = moved.current; legal = moved.legal }
+tree_of : {D : Type 0} (old new : Store D) (disk : Disk) (rows : Rows) (origin : Origin) (history : List Entry) → new.keys ≡ old.keys → new.loaded ≡ old.loaded → new.opened_at ≡ old.opened_at
+    → TreeOf old.keys old.loaded old.opened_at disk rows origin history → HasTree new disk rows origin history
+tree_of old new disk rows origin history keys loaded opened_at is =
+    let moved : TreeOf new.keys new.loaded new.opened_at disk rows origin history =
+    subst (λ (k : KeyPair). TreeOf k new.loaded new.opened_at disk rows origin history) (sym keys)
+    (subst (λ (t : LoadedTree). TreeOf old.keys t new.opened_at disk rows origin history) (sym loaded)
+    (subst (λ (n : ℕ). TreeOf old.keys old.loaded n disk rows origin history) (sym opened_at) is))
+    in record { loaded = moved.loaded; current = moved.current; answered = moved.answered }
 
-pub adds_entry : {D : Type 0} (disk_of : D → Option Disk) (faults_of : D → ℕ) (old new : Store D) (request : PlainRequest) (moment : ℕ) (reply : PlainReply) (buffer : List ℕ) (e e' : ℕ)
-    → disk_of new.folder ≡ disk_of old.folder → faults_of old.folder ≤ faults_of new.folder → e ≤ e'
+-- the cause of a reply of a store whose tree is that of its folder's disk
+caused_in : (contents : Option Disk) (keys : KeyPair) (tree : LoadedTree) (request : PlainRequest) (before now : ℕ) (reply : PlainReply) (P : Disk → Type 0) → ((d : Disk) → P d → IsLoaded keys d tree)
+    → Told contents P → CausedOf contents keys tree request before now reply → ReplyCause request before now reply
+caused_in None keys tree request before now reply P loaded told cause = cause
+caused_in (Some disk) keys tree request before now reply P loaded told cause = cause (loaded disk told)
+
+-- a cause that stands whatever is told
+pub caused_always : (contents : Option Disk) (keys : KeyPair) (tree : LoadedTree) (request : PlainRequest) (before now : ℕ) (reply : PlainReply) → ReplyCause request before now reply
+    → CausedOf contents keys tree request before now reply
+caused_always None keys tree request before now reply cause = cause
+caused_always (Some disk) keys tree request before now reply cause = λ loaded. cause
+
+-- an answer is one entry more
+pub adds_entry : {D : Type 0} (view : D → FolderView) (old new : Store D) (request : PlainRequest) (second : ℕ) (reply : PlainReply) (buffer : List ℕ) (e e' : ℕ)
+    → IsOnlyRead (view old.folder) (view new.folder) → e ≤ e'
     → new.keys ≡ old.keys → new.loaded ≡ old.loaded → new.opened_at ≡ old.opened_at → new.entries ≡ min (old.entries + 1) (2 ^ 64 - 1)
-    → IsAnswerOf (disk_of old.folder) old.keys old.loaded request (faults_of old.folder) (faults_of new.folder) (answer_with request reply buffer)
-    → AddsEntry disk_of faults_of old new (asked_of request moment reply buffer) e e'
-adds_entry disk_of faults_of old new request moment reply buffer e e' disk later later_entropy keys loaded opened_at entries answer rows history caller stands fits =
-    let entry : Entry = made_entry caller (asked_of request moment reply buffer) (faults_of old.folder) (faults_of new.folder) e e' in
-    let counted : old.entries ≡ min (length history) (2 ^ 64 - 1) = stands.count in (
-      entry,
-      record { by = refl; same = refl; folder = (omega arith, omega arith); entropy = (omega arith, omega arith) },
+    → IsAnswerOf (disk_in (view old.folder).log) old.keys old.loaded request (answer_with request reply buffer)
+    → CausedOf (disk_in (view old.folder).log) old.keys old.loaded request (view old.folder).faults (view new.folder).faults reply → KeepsRows request reply
+    → AddsEntry view old new (asked_of request second reply buffer) e e'
+adds_entry view old new request second reply buffer e e' only later_entropy keys loaded opened_at entries answer cause keeps rows origin history caller stands fits =
+    let tally : Tally = tally_of origin history in
+    let asked : Asked = asked_of request second reply buffer in
+    let made : Made = made_of asked (view old.folder).faults (view new.folder).faults e e' (cond (is_stable request) (suc tally.count) tally.stable) (moment_of (view new.folder).log) in
+    let entry : Entry = entry_of caller made in
+    let counted : old.entries ≡ min (length history) (2 ^ 64 - 1) = stands.count in
+    let later : (view old.folder).faults ≤ (view new.folder).faults = only.faults in
+    let within : (tally_of origin history).stable ≤ (tally_of origin history).count =
+    subst (λ (n : ℕ). (tally_of origin history).stable ≤ n) (sym (after_count (tally_at origin) history)) (after_stable (tally_at origin) history (omega arith) stands.caused) in
+    let moment : (tally_of origin history).moment ≤ moment_of (view new.folder).log = subst (λ (l : Option Log). (tally_of origin history).moment ≤ moment_of l) (sym only.log) stands.moment in
+    let more : after (tally_at origin) (history ++ entry ∷ []) ≡ next_tally (tally_of origin history) entry = after_more (tally_at origin) history entry in (
+      made,
+      record { same = refl; folder = (omega arith, omega arith); entropy = (omega arith, omega arith); moment = refl },
       record {
-        tree = subst (λ (o : Option Disk). Told o (λ d. HasTree new d rows (history ++ entry ∷ []))) (sym disk)
-            (told_both (disk_of old.folder) (λ d. HasTree old d rows history)
-            (λ d. (is : IsLoaded old.keys d old.loaded) (at : ℕ) → MayAnswer (rows_of old.keys at old.loaded.foreign is.files) request (faults_of old.folder) (faults_of new.folder) (answer_with request reply buffer))
-            (λ d. HasTree new d rows (history ++ entry ∷ [])) stands.tree answer
-            (λ d has may. tree_of old new d rows (history ++ entry ∷ []) keys loaded opened_at
-            (tree_more old.keys old.loaded old.opened_at d rows history entry (record { loaded = has.loaded; current = has.current; legal = has.legal }) stands.running refl refl
-            (λ is. is_answered (rows_of old.keys old.opened_at old.loaded.foreign is.files) caller request moment reply buffer (faults_of old.folder) (faults_of new.folder) e e' (may is old.opened_at))
-            later later_entropy stands.folder fits)));
-        folder = all_more (λ x. x.folder_after ≤ faults_of new.folder) history entry
-            (all_weaker (λ x. x.folder_after ≤ faults_of old.folder) (λ x. x.folder_after ≤ faults_of new.folder) history (λ x low. omega arith) stands.folder) (omega arith);
-        running = all_more IsRunning history entry stands.running refl;
+        tree = subst (λ (l : Option Log). Told (disk_in l) (λ d. HasTree new d rows origin (history ++ entry ∷ []))) (sym only.log)
+            (told_both (disk_in (view old.folder).log) (λ d. HasTree old d rows origin history)
+            (λ d. (is : IsLoaded old.keys d old.loaded) (at second : ℕ) → IsAnswerIn (rows_of old.keys at old.loaded.foreign is.files) request second (answer_with request reply buffer))
+            (λ d. HasTree new d rows origin (history ++ entry ∷ [])) stands.tree answer
+            (λ d has may. tree_of old new d rows origin (history ++ entry ∷ []) keys loaded opened_at
+            (tree_more old.keys old.loaded old.opened_at d rows origin history entry (record { loaded = has.loaded; current = has.current; answered = has.answered }) keeps refl may)));
+        caused = caused_more (tally_at origin) history entry stands.caused
+            (caused_entry tally caller asked (view old.folder).faults (view new.folder).faults e e' (moment_of (view new.folder).log) stands.running within stands.folder later fits later_entropy moment
+            (caused_in (disk_in (view old.folder).log) old.keys old.loaded request (view old.folder).faults (view new.folder).faults reply (λ d. HasTree old d rows origin history) (λ d has. has.loaded) stands.tree cause));
+        running = subst (λ (t : Tally). IsNone t.stopped) (sym more) stands.running;
+        folder = subst (λ (t : Tally). t.folder_faults ≤ (view new.folder).faults) (sym more) (omega arith);
+        moment = subst (λ (t : Tally). t.moment ≤ moment_of (view new.folder).log) (sym more) (omega arith);
         count = omega (arith, length-append history (entry ∷ []), entries, counted);
       },
     )
 
 -- ---- a store that one caller asks
 
-pub answered_more : {D E : Type 0} (disk_of : D → Option Disk) (faults_of : D → ℕ) (entropy_of : E → ℕ) (drawn_of : E → Option (List ℕ)) (start now next : Alone D E) (before : List Asked) (asked : Asked)
-    → HasAnswered disk_of faults_of entropy_of drawn_of start now before → disk_of next.store.folder ≡ disk_of now.store.folder
-    → faults_of now.store.folder ≤ faults_of next.store.folder → entropy_of now.entropy ≤ entropy_of next.entropy → drawn_of next.entropy ≡ drawn_of now.entropy
-    → AddsEntry disk_of faults_of now.store next.store asked (entropy_of now.entropy) (entropy_of next.entropy) → HasAnswered disk_of faults_of entropy_of drawn_of start next (before ++ asked ∷ [])
-answered_more disk_of faults_of entropy_of drawn_of start now next before asked has disk folder entropy drawn adds =
-    let start_folder : faults_of start.store.folder ≤ faults_of now.store.folder = has.folder in
-    let start_entropy : entropy_of start.entropy ≤ entropy_of now.entropy = has.entropy in record {
-      disk = disk ∙ has.disk;
-      folder = omega arith;
-      entropy = omega arith;
-      drawn = drawn ∙ has.drawn;
-      added = λ rows history stands fits.
-          let more = has.added rows history stands fits in
+entered_more : (before : List Asked) (asked : Asked) → is_exhausted asked.reply ≡ false → entered (before ++ asked ∷ []) ≡ entered before ++ asked ∷ []
+entered_more before asked goes_in =
+    filter-append (λ (a : Asked). not (is_exhausted a.reply)) before (asked ∷ []) ∙ ap (λ (b : Bool). entered before ++ cond (not b) (asked ∷ []) []) goes_in
+
+own_entropy : (caller : ℕ) (x y : ℕ) → cond (eqb caller caller) x y ≡ x
+own_entropy caller x y = ap (λ (b : Bool). cond b x y) (eq-eqb caller caller refl)
+
+-- what was asked so far, and one request more
+pub has_answered_more : {D E : Type 0} (view : D → FolderView) (entropy_of : E → EntropyView) (start now next : SoleCaller D E) (before : List Asked) (asked : Asked)
+    → HasAnswered view entropy_of start now before → IsOnlyRead (view now.store.folder) (view next.store.folder) → IsUndrawn (entropy_of now.entropy) (entropy_of next.entropy)
+    → is_exhausted asked.reply ≡ false
+    → AddsEntry view now.store next.store asked (entropy_of now.entropy).faults (entropy_of next.entropy).faults → HasAnswered view entropy_of start next (before ++ asked ∷ [])
+has_answered_more view entropy_of start now next before asked has only undrawn goes_in adds =
+    let folder : (view start.store.folder).faults ≤ (view now.store.folder).faults = has.folder.faults in
+    let folder' : (view now.store.folder).faults ≤ (view next.store.folder).faults = only.faults in
+    let entropy : (entropy_of start.entropy).faults ≤ (entropy_of now.entropy).faults = has.entropy.faults in
+    let entropy' : (entropy_of now.entropy).faults ≤ (entropy_of next.entropy).faults = undrawn.faults in record {
+      folder = record { log = only.log ∙ has.folder.log; changes = only.changes ∙ has.folder.changes; faults = omega arith };
+      entropy = record { drawn = undrawn.drawn ∙ has.entropy.drawn; faults = omega arith };
+      added = λ rows origin history stands.
+          let more = has.added rows origin history stands in
           let entries : List Entry = more.0 in
           let are = more.1 in
-          let fits_now : FitsCaller 0 (history ++ entries) (entropy_of now.entropy) =
-          subst (λ (es : List Entry). AllByRecursion (λ e. e.entropy_after ≤ entropy_of now.entropy) es) (sym (filter-append (λ (e : Entry). eqb e.caller 0) history entries))
-          (all_joined (λ e. e.entropy_after ≤ entropy_of now.entropy) (entries_of 0 history) (entries_of 0 entries)
-          (all_weaker (λ (e : Entry). e.entropy_after ≤ entropy_of start.entropy) (λ e. e.entropy_after ≤ entropy_of now.entropy) (entries_of 0 history) (λ e low. omega arith) fits)
-          (all_filtered (λ (e : Entry). e.entropy_after ≤ entropy_of now.entropy) (λ e. eqb e.caller 0) entries are.up_to.entropy)) in
-          let one = adds rows (history ++ entries) 0 more.2 fits_now in
-          let entry : Entry = one.0 in
-          let is = one.1 in (
+          let one = adds rows origin (history ++ entries) sole more.2.store more.2.entropy in
+          let made : Made = one.0 in
+          let is = one.1 in
+          let entry : Entry = entry_of sole made in
+          let joined : history ++ entries ++ entry_of sole made ∷ [] ≡ history ++ (entries ++ entry_of sole made ∷ []) = append_assoc history entries (entry_of sole made ∷ []) in
+          let tally : after (tally_at origin) (history ++ entries ++ entry_of sole made ∷ []) ≡ next_tally (tally_of origin (history ++ entries)) (entry_of sole made) =
+          after_more (tally_at origin) (history ++ entries) (entry_of sole made) in (
             entries ++ entry ∷ [],
             record {
-              same = map-append (λ (e : Entry). e.asked) entries (entry ∷ []) ∙ (λ i. are.same i ++ is.same i ∷ []);
-              by = all_more (λ e. e.caller ≡ 0) entries entry are.by is.by;
-              since = record {
-                folder = all_more (λ e. faults_of start.store.folder ≤ e.folder_before) entries entry are.since.folder (omega (arith, is.folder.0));
-                entropy = all_more (λ e. entropy_of start.entropy ≤ e.entropy_before) entries entry are.since.entropy (omega (arith, is.entropy.0));
-              };
-              up_to = record {
-                folder = all_more (λ e. e.folder_after ≤ faults_of next.store.folder) entries entry
-                    (all_weaker (λ (e : Entry). e.folder_after ≤ faults_of now.store.folder) (λ e. e.folder_after ≤ faults_of next.store.folder) entries (λ e low. omega arith) are.up_to.folder) is.folder.1;
-                entropy = all_more (λ e. e.entropy_after ≤ entropy_of next.entropy) entries entry
-                    (all_weaker (λ (e : Entry). e.entropy_after ≤ entropy_of now.entropy) (λ e. e.entropy_after ≤ entropy_of next.entropy) entries (λ e low. omega arith) are.up_to.entropy) is.entropy.1;
-              };
+              same = map-append (λ (e : Entry). e.made.asked) entries (entry ∷ []) ∙ (λ i. are.same i ++ is.same i ∷ []) ∙ sym (entered_more before asked goes_in);
+              by = all_more (λ e. e.caller ≡ sole) entries entry are.by refl;
             },
-            subst (λ (h : List Entry). IsStoreOf disk_of faults_of next.store rows h) (append_assoc history entries (entry ∷ [])) one.2,
+            subst (λ (h : List Entry). IsStoreFor view entropy_of next rows origin h) joined (record {
+              store = one.2;
+              entropy = subst (λ (t : Tally). t.entropy_faults sole ≤ (entropy_of next.entropy).faults) (sym tally)
+                  (subst (λ (n : ℕ). n ≤ (entropy_of next.entropy).faults) (sym (own_entropy sole made.entropy.after ((tally_of origin (history ++ entries)).entropy_faults sole))) is.entropy.1);
+            }),
           );
     }
+
+-- ---- replies of each request
+
+-- a refusal puts no bytes
+pub no_bytes : (request : PlainRequest) (refusal : Refusal) (buffer : List ℕ) → bytes_put request (refused refusal) buffer ≡ []
+no_bytes (look n) refusal buffer = refl
+no_bytes (walk n names) refusal buffer = refl
+no_bytes (open_node n mode) refusal buffer = refl
+no_bytes (create n name is_dir mode) refusal buffer = refl
+no_bytes (read n at most) refusal buffer = refl
+no_bytes (list n after most) refusal buffer = refl
+no_bytes (write n at bytes) refusal buffer = refl
+no_bytes (remove n) refusal buffer = refl
+no_bytes (stat_of n) refusal buffer = refl
+no_bytes (change n c) refusal buffer = refl
+no_bytes (sync n) refusal buffer = refl
+
+-- the answer of a reply that puts no bytes
+pub plain_answer : (contents : Option Disk) (keys : KeyPair) (tree : LoadedTree) (request : PlainRequest) (reply : PlainReply) (buffer : List ℕ)
+    → bytes_put request reply buffer ≡ [] → IsReplyIn tree request reply → IsAnswerOf contents keys tree request (answer_with request reply buffer)
+plain_answer contents keys tree request reply buffer none is =
+    answer_of_reply contents keys tree request reply (answer_with request reply buffer) (ap (λ (bytes : List ℕ). record { reply = reply; bytes = bytes }) none) is
+
+-- the same of a request that is known
+pub answer_to : (contents : Option Disk) (keys : KeyPair) (tree : LoadedTree) (request known : PlainRequest) (reply : PlainReply) (buffer : List ℕ) → request ≡ known
+    → bytes_put known reply buffer ≡ [] → IsReplyIn tree known reply → IsAnswerOf contents keys tree request (answer_with request reply buffer)
+answer_to contents keys tree request known reply buffer same none is =
+    subst (λ (r : PlainRequest). IsAnswerOf contents keys tree r (answer_with r reply buffer)) (sym same) (plain_answer contents keys tree known reply buffer none is)
+
+pub cause_to : (contents : Option Disk) (keys : KeyPair) (tree : LoadedTree) (request known : PlainRequest) (before now : ℕ) (reply : PlainReply) → request ≡ known → ReplyCause known before now reply
+    → CausedOf contents keys tree request before now reply
+cause_to contents keys tree request known before now reply same is =
+    caused_always contents keys tree request before now reply (subst (λ (r : PlainRequest). ReplyCause r before now reply) (sym same) is)
+
+pub rows_to : (request known : PlainRequest) (reply : PlainReply) → request ≡ known → KeepsRows known reply → KeepsRows request reply
+rows_to request known reply same is = subst (λ (r : PlainRequest). KeepsRows r reply) (sym same) is

@@ -4,7 +4,8 @@ use Rattle.std.proofs.Math.Seq.{take-suc-set, drop-append_seam}
 use Rattle.std.proofs.lemmas.List.{append-nil, append_assoc}
 use Rattle.tree_model.specs.declared.refusal.Refusal.{Refusal}
 use Rattle.tree_model.specs.declared.stat.Qid.{Qid}
-use Rattle.tree_model.specs.Names.{AreNames, names_in, spelled_name, spelled_names}
+use Rattle.tree_model.specs.Wire.{string}
+use Rattle.tree_model.specs.Names.{AreNames, names_in, spelled_names}
 use Rattle.vault_layout.specs.Loaded.{LoadedTree}
 use Rattle.vault_store.specs.Tree.{IsWay, qid_at}
 use Rattle.vault_store.proofs.StepLemmas.{Next, way_none, way_refused, way_more}
@@ -25,7 +26,7 @@ pub record HasName (n : ℕ) (bytes : List ℕ) : Type 0 where
   pub rest : AreNames n (names_behind bytes)
   pub names : names_in (suc n) bytes ≡ first_name bytes ∷ names_in n (names_behind bytes)
 
-pub behind : (name rest bytes : List ℕ) (k : ℕ) → k ≡ length name → bytes ≡ spelled_name name ++ rest → drop (2 + k) bytes ≡ rest
+pub behind : (name rest bytes : List ℕ) (k : ℕ) → k ≡ length name → bytes ≡ string name ++ rest → drop (2 + k) bytes ≡ rest
 behind name rest bytes k same e =
     let place : 2 + k ≡ suc (suc (length name)) = omega arith in
     ap (λ (n : ℕ). drop n bytes) place ∙ ap (drop (suc (suc (length name)))) e ∙ drop-append_seam name rest
@@ -35,12 +36,13 @@ unfolding names_in
 HasName-first n bytes is =
     let name : List ℕ = first_name bytes in
     let more : List (List ℕ) = names_in n (names_behind bytes) in
-    let spelled : bytes ≡ spelled_name (first_name bytes) ++ spelled_names (names_in n (names_behind bytes)) = is.spelled in
+    let spelled : bytes ≡ string (first_name bytes) ++ spelled_names (names_in n (names_behind bytes)) = is.spelled in
     let low : slice_index bytes 0 ≡ length (first_name bytes) % 256 = ap (λ (xs : List ℕ). slice_index xs 0) spelled in
-    let high : slice_index bytes 1 ≡ length (first_name bytes) / 256 = ap (λ (xs : List ℕ). slice_index xs 1) spelled in
+    let fits : length (first_name bytes) < 65536 = is.fit.0 in
+    let high : slice_index bytes 1 ≡ length (first_name bytes) / 256 % 256 = ap (λ (xs : List ℕ). slice_index xs 1) spelled in
     let len : name_length bytes ≡ length (first_name bytes) = omega arith in
-    let total : length bytes ≡ length (spelled_name (first_name bytes)) + length (spelled_names (names_in n (names_behind bytes))) =
-    ap length spelled ∙ length-append (spelled_name name) (spelled_names more) in
+    let total : length bytes ≡ length (string (first_name bytes)) + length (spelled_names (names_in n (names_behind bytes))) =
+    ap length spelled ∙ length-append (string name) (spelled_names more) in
     let count : length (first_name bytes ∷ names_in n (names_behind bytes)) ≡ suc n = is.count in
     record {
       head = omega arith;

@@ -1,15 +1,10 @@
 -- How the steps of a read end.
-use Rattle.std.specs.Prelude.{◌≡◌, ◌⊎◌, ℕ, ◌≤◌, List, length, false, Option, Some, None, Result, Ok, Err, IsNone}
+use Rattle.std.specs.Prelude.{◌≡◌, ℕ, ◌≤◌, List, length, false, Option, Some, None, Result, Ok, Err, ⊤}
 use Rattle.outside.specs.Disk.{Disk, Path, node_at, file}
 use Rattle.outside.specs.Calls.{Rose}
-use Rattle.tree_model.specs.declared.refusal.Refusal.TheVariants as refusals
-use Rattle.tree_model.specs.Rows.{Rows}
-use Rattle.tree_model.specs.Asked.{PlainRequest}
-use Rattle.tree_model.specs.Step.{Answer, step, refuses, early_refusal}
-use Rattle.tree_model.specs.History.{MayLackMemory}
 use Rattle.file_chunks.specs.File.{is_bad_size, chunk_count}
-use Rattle.vault_store.specs.declared.room.ReadErr.{ReadErr}
-use Rattle.vault_store.specs.declared.room.ReadErr.TheVariants.{Device, Damaged}
+use Rattle.vault_store.specs.declared.chunk_buffers.ReadErr.{ReadErr}
+use Rattle.vault_store.specs.declared.chunk_buffers.ReadErr.TheVariants.{Device, Damaged}
 
 -- A step that looks for something ends with it, or with damage where there is none, or with the folder's fault.
 abbrev pub Ends : {A : Type 0} → Option A → ℕ → ℕ → Result A ReadErr → Type 0
@@ -29,9 +24,7 @@ pub record IsShownFile (disk : Disk) (path : Path) (size : ℕ) (bytes : List �
   pub good : is_bad_size size ≡ false
   pub few : chunk_count size ≤ 1
 
--- The answer to a request in these rows: the step's, or a fault for its cause. The counts of the folder's faults are those before and after.
-abbrev pub MayAnswer : Rows → PlainRequest → ℕ → ℕ → Answer → Type 0
-MayAnswer rows request before now answer =
-    (answer ≡ step rows request)
-    ⊎ ((answer ≡ refuses refusals.DeviceFault) × IsNone (early_refusal rows request) × Rose before now)
-    ⊎ ((answer ≡ refuses refusals.OutOfMemory) × MayLackMemory request × (step rows request ≡ refuses refusals.Removed → ⊥))
+-- where nothing is told, a fault comes only where the count rose
+abbrev pub RoseUntold : Option Disk → ℕ → ℕ → Type 0
+RoseUntold None before now = Rose before now
+RoseUntold (Some disk) before now = ⊤

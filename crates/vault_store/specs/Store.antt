@@ -1,56 +1,70 @@
 -- What an open vault stands for: a legal history of the plain file tree that its disk stands for.
-use Rattle.std.specs.Prelude.{◌≡◌, ℕ, ◌≤◌, ◌^◌, ◌-◌, min, List, [], ◌∷◌, ◌++◌, length, false, Option}
-use Rattle.std.specs.List.{AllByRecursion}
+use Rattle.std.specs.Prelude.{◌≡◌, ℕ, ◌≤◌, ◌^◌, ◌-◌, min, List, [], ◌∷◌, ◌++◌, length, Option, IsNone}
+use Rattle.std.specs.Option.{option_map_or}
 use Rattle.outside.specs.Calls.{Told}
 use Rattle.outside.specs.Disk.{Disk}
+use Rattle.outside.specs.Images.{Log, moment, disk_in}
+use Rattle.outside.specs.Views.{FolderView}
 use Rattle.siv_mode.specs.Keys.{KeyPair}
 use Rattle.tree_model.specs.Rows.{Rows}
 use Rattle.tree_model.specs.Asked.{Asked}
-use Rattle.tree_model.specs.History.{Entry, IsLegal, rows_after, entries_of}
+use Rattle.tree_model.specs.History.{Made, Entry, entry_of, Origin, tally_at, tally_of, AreCaused, AreAnswered, rows_after}
 use Rattle.vault_layout.specs.Clear.{IsClear, rows_of}
 use Rattle.vault_layout.specs.Loaded.{IsLoaded}
 use Rattle.vault_store.specs.declared.store.Store.{Store}
 
--- the folder that a store keeps
-abbrev pub folder_of : {D : Type 0} → Store D → D
-folder_of store = store.folder
+-- the folder in a store
+abbrev pub folder_in : {D : Type 0} → Store D → D
+folder_in store = store.folder
 
--- the tree that was loaded is the disk's, and its rows are those after a legal history
-pub record HasTree {D : Type 0} (store : Store D) (disk : Disk) (rows : Rows) (history : List Entry) : Type 0 where
+-- the moment of a folder: how many changing calls its log has, and 0 where none is told
+abbrev pub moment_of : Option Log → ℕ
+moment_of log = option_map_or (λ l. moment l) log 0
+
+-- a folder that was only read since
+pub record IsOnlyRead (old new : FolderView) : Type 0 where
+  pub log : new.log ≡ old.log
+  pub changes : new.changes ≡ old.changes
+  pub faults : old.faults ≤ new.faults
+
+-- the tree that was loaded is the disk's, and its rows are those after entries that are each answered in the rows before them
+pub record HasTree {D : Type 0} (store : Store D) (disk : Disk) (rows : Rows) (origin : Origin) (history : List Entry) : Type 0 where
   pub loaded : IsLoaded store.keys disk store.loaded
   pub current : rows_after rows history ≡ rows_of store.keys store.opened_at store.loaded.foreign loaded.files
-  pub legal : IsLegal rows history
+  pub answered : AreAnswered rows (tally_at origin) history
 
--- A store stands for a history of entries from given rows on. No commit has failed in it, and no entry's count of the folder's faults is
--- above what it is by now. Of the tree it speaks where the folder tells its disk.
-pub record IsStoreOf {D : Type 0} (disk_of : D → Option Disk) (faults_of : D → ℕ) (store : Store D) (rows : Rows) (history : List Entry) : Type 0 where
-  pub tree : Told (disk_of store.folder) (λ disk. HasTree store disk rows history)
-  pub folder : AllByRecursion (λ entry. entry.folder_after ≤ faults_of store.folder) history
-  pub running : AllByRecursion (λ entry. entry.commit_failed ≡ false) history
+-- A store stands for a history from given rows and counts on: its entries have their causes, and, where the folder tells its disk, are
+-- answered in their rows. No commit has failed.
+pub record IsStoreOf {D : Type 0} (view : D → FolderView) (store : Store D) (rows : Rows) (origin : Origin) (history : List Entry) : Type 0 where
+  pub tree : Told (disk_in (view store.folder).log) (λ disk. HasTree store disk rows origin history)
+  pub caused : AreCaused (tally_at origin) history
+  pub running : IsNone (tally_of origin history).stopped
+  pub folder : (tally_of origin history).folder_faults ≤ (view store.folder).faults
+  pub moment : (tally_of origin history).moment ≤ moment_of (view store.folder).log
   pub count : store.entries ≡ min (length history) (2 ^ 64 - 1)
 
--- a store that was opened over a folder: it stands for no entries yet, from the rows on that the disk stands for
-pub record IsOpened {D : Type 0} (disk_of : D → Option Disk) (faults_of : D → ℕ) (folder : D) (keys : KeyPair) (now : ℕ) (store : Store D) : Type 0 where
+-- A store that was opened over a folder: it stands for no entries yet, from the rows on that the disk stands for, and from any counts
+-- on that are no higher than its folder's.
+pub record IsOpened {D : Type 0} (view : D → FolderView) (folder : D) (keys : KeyPair) (now : ℕ) (store : Store D) : Type 0 where
   pub rows : Rows
-  pub clear : Told (disk_of folder) (λ disk. IsClear keys disk now rows)
-  pub stands : IsStoreOf disk_of faults_of store rows []
-  pub disk : disk_of store.folder ≡ disk_of folder
-  pub faults : faults_of folder ≤ faults_of store.folder
+  pub clear : Told (disk_in (view folder).log) (λ disk. IsClear keys disk now rows)
+  pub stands : (origin : Origin) → origin.folder_faults ≤ (view store.folder).faults → origin.moment ≤ moment_of (view store.folder).log
+      → IsStoreOf view store rows origin []
+  pub read : IsOnlyRead (view folder) (view store.folder)
 
--- a caller whose random source has this count of faults can go on after a history
-abbrev pub FitsCaller : ℕ → List Entry → ℕ → Type 0
-FitsCaller caller history faults = AllByRecursion (λ entry. entry.entropy_after ≤ faults) (entries_of caller history)
+-- what a store made of a request that was asked and answered so, within these counts of faults of the folder and of the caller's random
+-- source
+pub record IsMadeOf (asked : Asked) (folder_before folder_after : FolderView) (entropy_before entropy_after : ℕ) (made : Made) : Type 0 where
+  pub same : made.asked ≡ asked
+  pub folder : (folder_before.faults ≤ made.folder.before) × (made.folder.after ≤ folder_after.faults)
+  pub entropy : (entropy_before ≤ made.entropy.before) × (made.entropy.after ≤ entropy_after)
+  pub moment : made.moment ≡ moment_of folder_after.log
 
--- one entry of a caller, in which this was asked, within these counts of faults of the folder and of the caller's random source
-pub record IsEntry (caller : ℕ) (asked : Asked) (folder_before folder_after entropy_before entropy_after : ℕ) (entry : Entry) : Type 0 where
-  pub by : entry.caller ≡ caller
-  pub same : entry.asked ≡ asked
-  pub folder : (folder_before ≤ entry.folder_before) × (entry.folder_after ≤ folder_after)
-  pub entropy : (entropy_before ≤ entry.entropy_before) × (entry.entropy_after ≤ entropy_after)
-
--- One entry more: whatever history the store stood for, whoever asks, it stands for that history with one entry, in which this was asked.
-abbrev pub AddsEntry : {D : Type 0} → (D → Option Disk) → (D → ℕ) → Store D → Store D → Asked → ℕ → ℕ → Type 0
-AddsEntry disk_of faults_of old new asked entropy_before entropy_after =
-    (rows : Rows) (history : List Entry) (caller : ℕ) → IsStoreOf disk_of faults_of old rows history → FitsCaller caller history entropy_before →
-    (entry : Entry) × IsEntry caller asked (faults_of old.folder) (faults_of new.folder) entropy_before entropy_after entry
-    × IsStoreOf disk_of faults_of new rows (history ++ entry ∷ [])
+-- One entry more: whatever history the store stood for, whoever asks, it stands for that history with one entry, in which this was asked
+-- and answered. The caller's random source goes on from where it was in the caller's last entry.
+abbrev pub AddsEntry : {D : Type 0} → (D → FolderView) → Store D → Store D → Asked → ℕ → ℕ → Type 0
+AddsEntry view old new asked entropy_before entropy_after =
+    (rows : Rows) (origin : Origin) (history : List Entry) (caller : ℕ) → IsStoreOf view old rows origin history →
+    (tally_of origin history).entropy_faults caller ≤ entropy_before →
+    (made : Made) × IsMadeOf asked (view old.folder) (view new.folder) entropy_before entropy_after made
+    × IsStoreOf view new rows origin (history ++ entry_of caller made ∷ [])

@@ -1,16 +1,13 @@
 //! Answers requests over one open vault, from the tree that was loaded and the sealed files in its folder.
 #![tactic(auto)]
 
-mod alone;
+mod chunk_buffers;
 mod opening;
 mod reading;
-mod room;
+mod sole_caller;
 mod store;
 mod walking;
 
-pub use alone::Alone;
-pub use opening::{OpenErr, Refused};
+pub use opening::OpenErr;
+pub use sole_caller::SoleCaller;
 pub use store::Store;
-
-#[cfg(test)]
-mod tests;

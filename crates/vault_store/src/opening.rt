@@ -29,10 +29,3 @@ impl From<LoadErr> for OpenErr {
         }
     }
 }
-
-/// What was refused, which is handed back, and why.
-#[derive(Drop)]
-pub struct Refused<D, C> {
-    pub folder: D,
-    pub cause: C,
-}

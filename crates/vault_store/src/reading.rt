@@ -1,15 +1,16 @@
-ghost use Rattle.std.specs.Prelude.{◌≡◌, ◌≤◌, ◌<◌, ◌+◌, ◌-◌, ◌^◌, ◌++◌, ℕ, List, [], ◌∷◌, length, take, drop, min, IfOk, OnErr, IfErr};
+ghost use Rattle.std.specs.Prelude.{false, ◌≡◌, ◌≤◌, ◌<◌, ◌+◌, ◌-◌, ◌^◌, ◌++◌, ℕ, List, [], ◌∷◌, length, take, drop, min, IfOk, OnErr, IfErr, IsErrOf};
 ghost use Rattle.std.specs.Option.{option_map};
 ghost use Rattle.std.specs.Result.{result_map_both};
 ghost use Rattle.outside.specs.Calls.{Told};
+ghost use Rattle.outside.specs.Images.{disk_in};
 ghost use Rattle.tree_model.specs.Rows.{slice_of};
-ghost use Rattle.tree_model.specs.Asked.{IsReplyTo, bytes_put, plain_reply, read as read_request};
+ghost use Rattle.tree_model.specs.Asked.{IsReplyTo, HasCount, KeepsRest, is_exhausted, bytes_put, plain_reply, read as read_request};
 ghost use Rattle.file_chunks.specs.File.{IsKey, content_of};
 ghost use Rattle.vault_layout.specs.Loaded.{file_at};
-ghost use Rattle.vault_store.specs.Reading.{Ends, IsShownFile};
-ghost use Rattle.vault_store.specs.Answers.{IsAnswerOf, answer_with};
+ghost use Rattle.vault_store.specs.Reading.{Ends, RoseUntold, IsShownFile};
+ghost use Rattle.vault_store.specs.Answers.{IsAnswerOf, CausedOf, answer_with};
 
-use crate::room::{ChunkRoom, ReadErr};
+use crate::chunk_buffers::{ChunkBuffers, ReadErr};
 use crate::walking::ROOT;
 use file_chunks::{clear_len, reads_are_slices};
 use outside::Reads;
@@ -18,7 +19,7 @@ use tree_model::{Refusal, Reply};
 use vault_layout::Loaded;
 use vault_path::VaultPath;
 
-/// A slice that is asked for: from place `at` on, at most `count` bytes.
+/// A slice that is asked for: from byte `at` on, at most `count` bytes.
 #[derive(Clone, Copy)]
 pub(crate) struct Slice {
     pub(crate) at: u64,
@@ -27,7 +28,7 @@ pub(crate) struct Slice {
 
 // Where a file's sealed bytes stand, and how many they were when it was loaded.
 #[derive(Drop)]
-struct HostFile {
+struct SealedFile {
     path: VaultPath,
     size: u64,
 }
@@ -37,27 +38,32 @@ pub(crate) fn read<R: Reads>(
     folder: &mut R,
     keys: &VaultKeys,
     loaded: &Loaded,
-    room: &mut ChunkRoom,
+    buffers: &mut ChunkBuffers,
     node: u64,
     slice: Slice,
     buffer: &mut [u8],
 ) -> Reply
     requires { slice.count ≤ length buffer.old }
-    ensures answer { IsAnswerOf (R.disk folder.old) keys.now loaded.now (read_request node slice.at slice.count) (R.faults folder.old) (R.faults folder.new)
+    ensures answer { IsAnswerOf (disk_in (R.log folder.old)) keys.now loaded.now (read_request node slice.at slice.count)
         (answer_with (read_request node slice.at slice.count) (plain_reply result) buffer.new) }
-    ensures form { IsReplyTo (read_request node slice.at slice.count) (plain_reply result) }
-    ensures rest { drop (length (bytes_put (read_request node slice.at slice.count) (plain_reply result) buffer.new)) buffer.new
-        ≡ drop (length (bytes_put (read_request node slice.at slice.count) (plain_reply result) buffer.new)) buffer.old }
-    ensures disk { R.disk folder.new ≡ R.disk folder.old }
+    ensures caused { CausedOf (disk_in (R.log folder.old)) keys.now loaded.now (read_request node slice.at slice.count)
+        (R.faults folder.old) (R.faults folder.new) (plain_reply result) }
+    ensures enters { is_exhausted (plain_reply result) ≡ false }
+    ensures form { IsReplyTo (read_request node slice.at slice.count) (plain_reply result)
+        (bytes_put (read_request node slice.at slice.count) (plain_reply result) buffer.new) }
+    ensures count { HasCount result }
+    ensures rest { KeepsRest (read_request node slice.at slice.count) (plain_reply result) buffer.old buffer.new }
+    ensures log { R.log folder.new ≡ R.log folder.old }
+    ensures changes { R.changes folder.new ≡ R.changes folder.old }
     ensures later { R.faults folder.old ≤ R.faults folder.new }
 {
     if node == ROOT {
         return Reply::Refused(Refusal::IsADirectory);
     }
-    let Some(host) = host_file(loaded, node) else {
+    let Some(host) = sealed_file(loaded, node) else {
         return Reply::Refused(Refusal::Removed);
     };
-    match read_slice(folder, keys, room, &host, slice, buffer) {
+    match read_slice(folder, keys, buffers, &host, slice, buffer) {
         Ok(count) => Reply::Count(count),
         Err(ReadErr::Damaged) => Reply::Refused(Refusal::Damaged),
         Err(ReadErr::Device) => Reply::Refused(Refusal::DeviceFault),
@@ -65,12 +71,12 @@ pub(crate) fn read<R: Reads>(
 }
 
 // The host file of a node that is a file.
-fn host_file(loaded: &Loaded, node: u64) -> Option<HostFile>
+fn sealed_file(loaded: &Loaded, node: u64) -> Option<SealedFile>
     ensures { result ≡ option_map (λ f. record { path = loaded.now.root ++ f.1.0 ∷ []; size = f.1.1 }) (file_at loaded.now node) }
 {
     let path = loaded.path(node)?;
     let size = loaded.size(node)?;
-    Some(HostFile { path, size })
+    Some(SealedFile { path, size })
 }
 
 // Reads a slice of a file of at most one chunk into the front of `buffer`, and gives the number of its bytes. A slice without a byte needs neither
@@ -78,20 +84,22 @@ fn host_file(loaded: &Loaded, node: u64) -> Option<HostFile>
 fn read_slice<R: Reads>(
     folder: &mut R,
     keys: &VaultKeys,
-    room: &mut ChunkRoom,
-    host: &HostFile,
+    buffers: &mut ChunkBuffers,
+    host: &SealedFile,
     slice: Slice,
     buffer: &mut [u8],
 ) -> Result<u32, ReadErr>
     requires { slice.count ≤ length buffer.old }
-    ensures bytes { Told (R.disk folder.old) (λ d. (bytes : List ℕ) → IsShownFile d host.now.path host.now.size bytes →
+    ensures bytes { Told (disk_in (R.log folder.old)) (λ d. (bytes : List ℕ) → IsShownFile d host.now.path host.now.size bytes →
         Ends (slice_of (content_of keys.now bytes) slice.at slice.count) (R.faults folder.old) (R.faults folder.new)
         (result_map_both (λ n. take n buffer.new) (λ e. e) result)) }
     ensures count { IfOk result (λ n. n ≤ slice.count) }
     ensures rest { IfOk result (λ n. drop n buffer.new ≡ drop n buffer.old) }
     ensures refused { OnErr result (buffer.new ≡ buffer.old) }
-    ensures disk { R.disk folder.new ≡ R.disk folder.old }
+    ensures log { R.log folder.new ≡ R.log folder.old }
+    ensures changes { R.changes folder.new ≡ R.changes folder.old }
     ensures later { R.faults folder.old ≤ R.faults folder.new }
+    ensures device { IsErrOf result ReadErr.Device → RoseUntold (disk_in (R.log folder.old)) (R.faults folder.old) (R.faults folder.new) }
 {
     reads_are_slices();
     has_key(keys);
@@ -102,8 +110,8 @@ fn read_slice<R: Reads>(
     if count == 0 {
         return Ok(0);
     }
-    let opened = room.open_first(folder, keys, &host.path)?;
-    copy_slice(&room.clear()[..opened], slice.at, count, buffer)
+    let opened = buffers.open_first(folder, keys, &host.path)?;
+    copy_slice(&buffers.clear()[..opened], slice.at, count, buffer)
 }
 
 // States that the encryption key is one of AES-256, which the laws of `reads_are_slices` ask for.
@@ -120,7 +128,7 @@ fn bytes_within(length: u64, slice: Slice) -> u32
     length.saturating_sub(slice.at).min(u64::from(slice.count)) as u32
 }
 
-// Copies the `count` bytes from place `at` on to the front of `buffer`. `Damaged` comes where they aren't all there.
+// Copies the `count` bytes from byte `at` on to the front of `buffer`. `Damaged` comes where they aren't all there.
 fn copy_slice(clear: &[u8], at: u64, count: u32, buffer: &mut [u8]) -> Result<u32, ReadErr>
     requires small { at + count < 2 ^ 64 }
     requires room { count ≤ length buffer.old }

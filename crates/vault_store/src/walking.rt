@@ -1,9 +1,10 @@
-ghost use Rattle.std.specs.Prelude.{◌≡◌, ◌≤◌, ◌+◌, ◌*◌, ◌↔◌, ℕ, List, length, take, drop, IfOk, IsTrue, slice_index};
-ghost use Rattle.tree_model.specs.Names.{AreNames, names_in};
+ghost use Rattle.std.specs.Prelude.{◌≡◌, ◌≤◌, ◌+◌, ◌*◌, ◌↔◌, ℕ, List, [], length, take, drop, true, IfOk, IfErr, IfSome, IsTrue, slice_index};
+ghost use Rattle.tree_model.specs.Names.{IsWalk, names_in};
 ghost use Rattle.tree_model.specs.Rows.{Row, row_of};
-ghost use Rattle.tree_model.specs.Asked.{look as look_request, open_node as open_request, walk as walk_request, plain_reply, IsReplyTo};
-ghost use Rattle.tree_model.specs.Step.{says, walked_by, walk_answer};
-ghost use Rattle.vault_store.specs.Tree.{ForRows, IsStepReply, IsWalkReply, IsWay, StandsFor, qid_at};
+ghost use Rattle.tree_model.specs.Asked.{look as look_request, open_node as open_request, walk as walk_request, sync as sync_request, PlainRequest, bytes_put, plain_reply, IsReplyTo, HasCount};
+ghost use Rattle.tree_model.specs.Step.{says, node_of, walked_by, walk_answer};
+ghost use Rattle.vault_store.specs.Tree.{ForRows, IsReplyIn, IsWay, IsWhole, StandsFor, qid_at};
+ghost use Rattle.vault_store.specs.Answers.{IsNotBuilt, ReplyCause, KeepsRows, is_own};
 
 use name_cipher::{BadName, clear_name};
 use std::alloc::{AllocError, Global};
@@ -13,8 +14,8 @@ use vault_layout::Loaded;
 /// The number of the root.
 pub(crate) const ROOT: u64 = 0;
 
-// The mode in which a directory can be opened: to read.
-const TO_READ: u8 = 0;
+// The bit of an open mode that truncates (OTRUNC, open(5)).
+const TRUNCATE: u8 = 0x10;
 
 // The name of a node's parent.
 const PARENT: &[u8] = b"..";
@@ -24,8 +25,10 @@ const NAME_LIMIT: usize = 16;
 
 /// The reply to a look at a node.
 pub(crate) fn look(loaded: &Loaded, node: u64) -> Reply
-    ensures step { IsStepReply loaded.now (look_request node) (plain_reply result) }
-    ensures form { IsReplyTo (look_request node) (plain_reply result) }
+    ensures answer { IsReplyIn loaded.now (look_request node) (plain_reply result) }
+    ensures caused { (before : ℕ) (after : ℕ) → ReplyCause (look_request node) before after (plain_reply result) }
+    ensures form { IsReplyTo (look_request node) (plain_reply result) [] }
+    ensures count { HasCount result }
 {
     if has_node(loaded, node) {
         Reply::Qid(qid(node))
@@ -34,23 +37,62 @@ pub(crate) fn look(loaded: &Loaded, node: u64) -> Reply
     }
 }
 
-/// The reply to opening a node.
+/// The reply to opening a node: directories aren't opened yet, nor is anything truncated.
 pub(crate) fn open_node(loaded: &Loaded, node: u64, mode: u8) -> Reply
-    ensures step { IsStepReply loaded.now (open_request node mode) (plain_reply result) }
-    ensures form { IsReplyTo (open_request node mode) (plain_reply result) }
+    ensures answer { IsReplyIn loaded.now (open_request node mode) (plain_reply result) }
+    ensures caused { (before : ℕ) (after : ℕ) → ReplyCause (open_request node mode) before after (plain_reply result) }
+    ensures rows { KeepsRows (open_request node mode) (plain_reply result) }
+    ensures form { IsReplyTo (open_request node mode) (plain_reply result) [] }
+    ensures count { HasCount result }
 {
-    if node == ROOT && mode != TO_READ {
-        return Reply::Refused(Refusal::IsADirectory);
+    if !has_node(loaded, node) {
+        Reply::Refused(Refusal::Removed)
+    } else if mode & TRUNCATE != 0 {
+        Reply::Refused(Refusal::NotPermitted)
+    } else if node == ROOT {
+        Reply::Refused(Refusal::IsADirectory)
+    } else {
+        Reply::Qid(qid(node))
     }
-    look(loaded, node)
+}
+
+/// The reply to a sync, where nothing is ever pending.
+pub(crate) fn sync(loaded: &Loaded, node: u64) -> Reply
+    ensures answer { IsReplyIn loaded.now (sync_request node) (plain_reply result) }
+    ensures caused { (before : ℕ) (after : ℕ) → ReplyCause (sync_request node) before after (plain_reply result) }
+    ensures form { IsReplyTo (sync_request node) (plain_reply result) [] }
+    ensures count { HasCount result }
+{
+    if has_node(loaded, node) {
+        Reply::Done
+    } else {
+        Reply::Refused(Refusal::Removed)
+    }
+}
+
+/// The reply to a request that isn't built yet.
+pub(crate) fn not_built(loaded: &Loaded, node: u64) -> Reply
+    ensures answer { (request : PlainRequest) → IsNotBuilt request → node_of request ≡ node → IsReplyIn loaded.now request (plain_reply result) }
+    ensures caused { (request : PlainRequest) (before : ℕ) (after : ℕ) → ReplyCause request before after (plain_reply result) }
+    ensures rows { (request : PlainRequest) → KeepsRows request (plain_reply result) }
+    ensures bytes { (request : PlainRequest) (buffer : List ℕ) → bytes_put request (plain_reply result) buffer ≡ [] }
+    ensures form { (request : PlainRequest) → IsReplyTo request (plain_reply result) [] }
+    ensures count { HasCount result }
+{
+    if has_node(loaded, node) {
+        Reply::Refused(Refusal::NotPermitted)
+    } else {
+        Reply::Refused(Refusal::Removed)
+    }
 }
 
 /// The reply to a walk.
 pub(crate) fn walk(alloc: Global, loaded: &Loaded, node: u64, names: &Names<'_>) -> Reply
-    requires few { names.now.count ≤ 16 }
-    requires names { AreNames names.now.count names.now.bytes.now }
-    ensures step { IsWalkReply loaded.now node (names_in names.now.count names.now.bytes.now) (plain_reply result) }
-    ensures form { IsReplyTo (walk_request node (names_in names.now.count names.now.bytes.now)) (plain_reply result) }
+    requires names { IsWalk names.now.count names.now.bytes.now }
+    ensures answer { IsReplyIn loaded.now (walk_request node (names_in names.now.count names.now.bytes.now)) (plain_reply result) }
+    ensures caused { (before : ℕ) (after : ℕ) → ReplyCause (walk_request node (names_in names.now.count names.now.bytes.now)) before after (plain_reply result) }
+    ensures form { IsReplyTo (walk_request node (names_in names.now.count names.now.bytes.now)) (plain_reply result) [] }
+    ensures count { HasCount result }
 {
     if !has_node(loaded, node) {
         return Reply::Refused(Refusal::Removed);
@@ -94,8 +136,13 @@ struct Way {
 
 // A refusal at the first name is the reply, at a later one the nodes so far.
 fn walk_reply(way: Way) -> Reply
+    requires room { way.count ≤ 16 }
+    requires own { IfSome way.end (λ refusal. is_own refusal ≡ true) }
     ensures answer { says (plain_reply result) ≡ walk_answer (take way.count way.qids, way.end) }
-    ensures form { (n : ℕ) (names : List (List ℕ)) → way.count ≤ length names → IsReplyTo (walk_request n names) (plain_reply result) }
+    ensures caused { (request : PlainRequest) (before : ℕ) (after : ℕ) → ReplyCause request before after (plain_reply result) }
+    ensures form { (n : ℕ) (names : List (List ℕ)) → IsWhole way.count way.end names
+        → IsReplyTo (walk_request n names) (plain_reply result) [] }
+    ensures count { HasCount result }
 {
     let Way { qids, count, end } = way;
     match end {
@@ -106,17 +153,18 @@ fn walk_reply(way: Way) -> Reply
 
 // The way from a node along names.
 fn follow(alloc: Global, loaded: &Loaded, from: u64, names: &Names<'_>) -> Result<Way, AllocError>
-    requires few { names.now.count ≤ 16 }
-    requires names { AreNames names.now.count names.now.bytes.now }
+    requires names { IsWalk names.now.count names.now.bytes.now }
     ensures way { IfOk result (λ w. IsWay loaded.now from (names_in names.now.count names.now.bytes.now) (take w.count w.qids) w.end) }
-    ensures count { IfOk result (λ w. w.count ≤ names.now.count) }
+    ensures whole { IfOk result (λ w. IsWhole w.count w.end (names_in names.now.count names.now.bytes.now)) }
+    ensures own { IfOk result (λ w. IfSome w.end (λ refusal. is_own refusal ≡ true)) }
+    ensures room { IfOk result (λ w. w.count ≤ 16) }
 {
     let mut qids = [qid(ROOT); NAME_LIMIT];
     let mut at = from;
     let mut bytes = names.bytes;
     for count in 0..names.count as usize {
         let (name, rest) = split_name(bytes);
-        match next(alloc, loaded, at, name)? {
+        match walk_one(alloc, loaded, at, name)? {
             Ok(node) => {
                 qids[count] = qid(node);
                 at = node;
@@ -149,13 +197,14 @@ fn split_name(bytes: &[u8]) -> (&[u8], &[u8])
 }
 
 // The node that a name leads to from a node, or what refuses it.
-fn next(
+fn walk_one(
     alloc: Global,
     loaded: &Loaded,
     from: u64,
     name: &[u8],
 ) -> Result<Result<u64, Refusal>, AllocError>
-    ensures { IfOk result (λ next. ForRows loaded.now (λ rows. (row : Row) → row_of rows from ≡ Some row → StandsFor rows (walked_by rows row name.now) next)) }
+    ensures stands { IfOk result (λ next. ForRows loaded.now (λ rows. (row : Row) → row_of rows from ≡ Some row → StandsFor rows (walked_by rows row name.now) next)) }
+    ensures own { IfOk result (λ next. IfErr next (λ refusal. is_own refusal ≡ true)) }
 {
     if from != ROOT {
         return Ok(Err(Refusal::NotADirectory));

@@ -5,7 +5,8 @@ use Rattle.std.proofs.lemmas.List.{append-nil, take_more_set}
 use Rattle.outside.specs.Calls.{Changes}
 use Rattle.vault_top.specs.Secret.{line_of, TakesAtMost}
 use Rattle.vault_top.specs.Reading.{HasLine, HasNext}
-use Rattle.vault_top.proofs.Shares.{changes_as, changes_to}
+use Rattle.outside.proofs.Told.{changed_by}
+use Rattle.vault_top.proofs.Shares.{changes_to}
 
 abbrev Contents : Type 0
 Contents = Option (List ℕ)
@@ -64,7 +65,7 @@ pub begun_same : (a b c : Contents) (count : ℕ) (line : List ℕ) → count �
     → Changes a c (TakesAtMost (length line + 1))
 begun_same a b c count line few h e =
     changes_to (TakesAtMost (length line + 1)) a b c e
-    (changes_as (HasFront (take count line)) (TakesAtMost (length line + 1)) a b (λ old new front. (take count line, front.0, omega (arith, few, length-take count line))) h)
+    (changed_by a b (HasFront (take count line)) (TakesAtMost (length line + 1)) (λ old new front. (take count line, front.0, omega (arith, few, length-take count line))) h)
 
 -- a line that was read
 taken_line : (room : ℕ) (line bytes left : List ℕ) → length line ≤ room → HasLine line bytes left → TakesAtMost (room + 1) bytes left
@@ -74,4 +75,4 @@ taken_line room line bytes left few (is, inr after) =
     (line_of bytes, after.0 ∙ sym (append-nil (line_of bytes)) ∙ ap (λ (w : List ℕ). line_of bytes ++ w) (sym after.1), omega (arith, few, ap length is))
 
 pub begun_line : (a b : Contents) (room : ℕ) (line : List ℕ) → length line ≤ room → Changes a b (HasLine line) → Changes a b (TakesAtMost (room + 1))
-begun_line a b room line few h = changes_as (HasLine line) (TakesAtMost (room + 1)) a b (λ old new. taken_line room line old new few) h
+begun_line a b room line few h = changed_by a b (HasLine line) (TakesAtMost (room + 1)) (λ old new. taken_line room line old new few) h

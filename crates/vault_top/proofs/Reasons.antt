@@ -1,170 +1,263 @@
 -- Why the program ends as it does.
-use Rattle.std.proofs.Common.{◌≡◌, ℕ, ◌≤◌, List, [], ◌∷◌, Option, Some, None, refl, sym, ap, subst, ◌∙◌, arith}
+use Rattle.std.proofs.Common.{◌≡◌, ℕ, zero, suc, ◌≤◌, List, [], ◌∷◌, ◌++◌, map, flat_map, eq-eqb, ne_eqb, Option, Some, refl, sym, ap, subst, ◌∙◌, inl, inr, arith}
 use Rattle.std.specs.List.{AllByRecursion}
+use Rattle.std.proofs.lemmas.Bool.{le-ltb}
+use Rattle.std.proofs.lemmas.List.{append-nil}
 use Rattle.outside.specs.Calls.{Rose, Told}
-use Rattle.outside.specs.Disk.{Disk}
-use Rattle.siv_mode.specs.Keys.{KeyPair}
-use Rattle.tree_model.specs.Asked.{Asked}
-use Rattle.tree_model.specs.History.{Entry, IsUpTo}
+use Rattle.outside.specs.Images.{Log, disk_in}
+use Rattle.outside.specs.Views.{FolderView}
+use Rattle.outside.proofs.Told.{told_then, unchanged}
+use Rattle.tree_model.specs.Asked.{Asked, entered}
+use Rattle.tree_model.specs.History.{Entry, entries_of, Tally, next, after, Origin, tally_at, tally_of, IsLegal}
 use Rattle.session_server.specs.declared.ending.SessionEnd.{SessionEnd}
-use Rattle.vault_layout.specs.Clear.{IsClear}
-use Rattle.vault_store.specs.Store.{IsStoreOf, IsOpened, HasTree, folder_of}
-use Rattle.vault_store.specs.Served.{HasAnswered}
+use Rattle.vault_store.specs.Store.{IsStoreOf, IsOnlyRead, folder_in, moment_of}
+use Rattle.vault_store.specs.Served.{IsStoreFor, AreAdded, store_in}
 use Rattle.vault_store.specs.declared.store.Store.{Store}
-use Rattle.vault_store.specs.declared.alone.Alone.{Alone}
-use Rattle.vault_top.specs.Served.{LinkView, FaultCounts, until, IsHistory}
-use Rattle.vault_top.specs.Ending.{Ending, bad_words, bad_secret, secret_fault, no_root, folder_fault, no_memory, served, listener_fault, closing_fault, no_memory_to_report, Span, IsUnlocked, IsServed, IsUntaken, HasReason}
-use Rattle.vault_top.specs.Refusing.{Inputs, IsUnlocking, IsRefused, IsUnlockedStore, ending_of}
-use Rattle.vault_top.specs.Serving.{Share, HasServedVault, EndsServing}
-use Rattle.vault_top.specs.declared.refusal.Refusal.{Refusal}
-use Rattle.vault_top.specs.declared.refusal.Refusal.TheVariants.{Words, Secret, SecretFault, NoRoot, FolderFault, Memory}
+use Rattle.vault_top.specs.Span.{Course, SourceView, SinkView, Views, WorkerSpan, worker_span, worker_spans, given_of, span_of}
+use Rattle.vault_top.specs.Served.{share_of, Share, IsShare, AreShares, asked_by, entropy_before, entropy_after}
+use Rattle.vault_top.specs.Ending.{Ending, refused, IsRefused, AreIdle, IsServed, Never, ListenerFailed, HasReason, IsReported, HasRun}
+use Rattle.vault_top.specs.Refusing.{IsUnlockedStore}
+use Rattle.vault_top.specs.Serving.{FailedIn, HasOutcome, HasServedWorker, HasServedVault, MayEnd}
+use Rattle.vault_top.specs.declared.cause.Cause.{Cause}
+use Rattle.vault_top.specs.declared.program.Worker.{Worker}
+use Rattle.vault_top.specs.declared.program.Ended.{Ended}
+use Rattle.vault_top.specs.declared.serving.HandedBack.{HandedBack}
+use Rattle.vault_top.specs.declared.serving.Outcome.{Outcome}
+use Rattle.vault_top.specs.declared.serving.Outcome.TheVariants.{Served, ListenerFault, FolderFault}
+use Rattle.vault_top.proofs.Shares.{gave_as}
 
-told_by : {X : Type 0} (P : X → Type 0) (contents : Option X) → ((x : X) → contents ≡ Some x → P x) → Told contents P
-told_by P None make = tt
-told_by P (Some x) make = make x refl
+-- ---- folders that were only read
 
--- ---- the history
+pub read_none : (view : FolderView) → IsOnlyRead view view
+read_none view = record { log = refl; changes = refl; faults = omega arith }
 
-all_as : {X : Type 0} (P Q : X → Type 0) (xs : List X) → ((x : X) → P x → Q x) → AllByRecursion P xs → AllByRecursion Q xs
-all_as P Q [] step h = h
-all_as P Q (x ∷ xs) step h = (step x h.0, all_as P Q xs step h.1)
+pub read_then : (a b c : FolderView) → IsOnlyRead a b → IsOnlyRead b c → IsOnlyRead a c
+read_then a b c h k = record { log = k.log ∙ h.log; changes = k.changes ∙ h.changes; faults = omega (arith, h.faults, k.faults) }
 
-up_to_later : (a b c d : ℕ) (entries : List Entry) → a ≤ c → b ≤ d → IsUpTo a b entries → IsUpTo c d entries
-up_to_later a b c d entries folder entropy h = record {
-  folder = all_as (λ entry. entry.folder_after ≤ a) (λ entry. entry.folder_after ≤ c) entries (λ entry le. omega arith) h.folder;
-  entropy = all_as (λ entry. entry.entropy_after ≤ b) (λ entry. entry.entropy_after ≤ d) entries (λ entry le. omega arith) h.entropy;
-}
+-- ---- the workers that serve nothing
 
--- the counts of faults of what served lie within these
-pub record IsWithin {D E : Type 0} (faults_of : D → ℕ) (entropy_faults_of : E → ℕ) (start now : Alone D E) (counts : FaultCounts) : Type 0 where
-  pub folder : counts.folder ≤ faults_of (folder_of start.store)
-  pub folder_after : faults_of (folder_of now.store) ≤ counts.folder_after
-  pub entropy : counts.entropy ≤ entropy_faults_of start.entropy
-  pub entropy_after : entropy_faults_of now.entropy ≤ counts.entropy_after
+abbrev no_share : {C : Type 0} → Share C
+no_share = record { links = []; asked = [] }
 
--- a vault that was opened and answered has a history of its disk
-history : {D E : Type 0} (disk_of : D → Option Disk) (faults_of : D → ℕ) (entropy_faults_of : E → ℕ) (drawn_of : E → Option (List ℕ)) (keys : KeyPair) (folder : D) (store : Store D) (start now : Alone D E)
-    (unlocked : ℕ) (second : Option ℕ) (asked : List Asked) (counts : FaultCounts) (disk : Disk) → disk_of folder ≡ Some disk
-    → Told second (λ second. unlocked ≡ second) → Told second (λ second. AllByRecursion (λ a. a.moment ≡ second) asked)
-    → IsOpened disk_of faults_of folder keys unlocked store → start.store ≡ store → HasAnswered disk_of faults_of entropy_faults_of drawn_of start now asked
-    → IsWithin faults_of entropy_faults_of start now counts → IsHistory keys disk second counts asked
-history disk_of faults_of entropy_faults_of drawn_of keys folder store start now unlocked second asked counts disk told moment moments opened same answered within =
-    let rows = opened.rows in
-    let stands : IsStoreOf disk_of faults_of start.store rows [] = subst (λ s. IsStoreOf disk_of faults_of s rows []) (sym same) opened.stands in
-    let added = answered.added rows [] stands tt in
-    let kept : disk_of (folder_of now.store) ≡ Some disk = answered.disk ∙ ap (λ s. disk_of (folder_of s)) same ∙ opened.disk ∙ told in
-    let tree : HasTree now.store disk rows added.0 = subst (λ o. Told o (λ d. HasTree now.store d rows added.0)) kept added.2.tree in
-    record {
-      unlocked = unlocked;
-      origin = record { rows = rows; folder_faults = faults_of (folder_of start.store); entropy_faults = entropy_faults_of start.entropy };
-      entries = added.0;
-      moment = moment;
-      moments = moments;
-      clear = subst (λ o. Told o (λ d. IsClear keys d unlocked rows)) told opened.clear;
-      legal = tree.legal;
-      from = (within.folder, within.entropy);
-      since = added.1.since;
-      up_to = up_to_later _ _ counts.folder_after counts.entropy_after added.0 within.folder_after within.entropy_after added.1.up_to;
-      callers = added.1.by;
-      same = added.1.same;
-    }
+abbrev no_shares : {C N E : Type 0} → List (Worker N E) → List (Share C)
+no_shares [] = []
+no_shares (worker ∷ workers) = no_share ∷ no_shares workers
 
--- ---- the program's span
+-- one session is the first worker's
+none_past : (j : ℕ) → share_of 1 1 (suc j) ≡ 0
+none_past j =
+    let past = le-ltb (suc j) 1 (omega arith) in
+    rw past refl
 
--- what is read before a vault is served, with these counts of the folder's faults
-abbrev pub inputs_of : {C : Type 0} → Span C → ℕ → ℕ → Inputs
-inputs_of span faults faults_after = record {
-  words = span.words;
-  secret = span.secret;
-  secret_after = span.secret_after;
-  secret_faults = span.secret_faults;
-  secret_faults_after = span.secret_faults_after;
-  disk = span.disk;
-  folder_faults = faults;
-  folder_faults_after = faults_after;
-}
+is_no_share : {D N C E : Type 0} (views : Views D N C E) (second : Option ℕ) (MayStop : WorkerSpan C → Type 0) (j : ℕ) (worker : Worker N E)
+    → IsShare views.link second MayStop (share_of 1 1 (suc j)) (worker_span views worker worker) no_share
+is_no_share views second MayStop j worker =
+    subst (λ (n : ℕ). IsShare views.link second MayStop n (worker_span views worker worker) no_share) (sym (none_past j))
+    (record {
+      gave = record {
+        few = omega arith;
+        came = unchanged (views.listener worker.listener).to_come (views.listener worker.listener).to_come _ refl (λ x. (refl, inl refl));
+        given = unchanged (views.listener worker.listener).given_back (views.listener worker.listener).given_back _ refl (λ x. sym (append-nil x));
+      };
+      talked = refl;
+    })
 
--- the first worker's share
-abbrev pub share_of : {C : Type 0} → LinkView C → Span C → Share C
-share_of view span = record {
-  view = view;
-  listener = span.listener;
-  faults = span.listener_faults;
-  faults_after = span.listener_faults_after;
-  second = span.second;
-}
+are_no_shares : {D N C E : Type 0} (views : Views D N C E) (second : Option ℕ) (MayStop : WorkerSpan C → Type 0) (j : ℕ) (workers : List (Worker N E))
+    → AreShares views.link second MayStop 1 1 (suc j) (worker_spans views workers workers) (no_shares workers)
+are_no_shares views second MayStop j [] = tt
+are_no_shares views second MayStop j (worker ∷ workers) = (is_no_share views second MayStop j worker, are_no_shares views second MayStop (suc j) workers)
 
-unlocked_of : {C : Type 0} (span : Span C) (a b : ℕ) (keys : KeyPair) → IsUnlocking (inputs_of span a b) keys → IsUnlocked span keys
-unlocked_of span a b keys h = record { words = h.words; spelled = h.spelled; line = h.line }
+asked_nothing : {N E : Type 0} (C : Type 0) (workers : List (Worker N E)) (j : ℕ) → asked_by {C = C} (no_shares workers) j ≡ []
+asked_nothing C [] j = refl
+asked_nothing C (worker ∷ workers) zero = refl
+asked_nothing C (worker ∷ workers) (suc j) = asked_nothing C workers j
 
--- the span's disk and counts are those of this folder and this random source, before and after
-pub record IsSpanOf {C D E : Type 0} (disk_of : D → Option Disk) (faults_of : D → ℕ) (entropy_faults_of : E → ℕ) (before after : D) (random random' : E) (span : Span C) : Type 0 where
-  pub disk : disk_of before ≡ span.disk
-  pub folder : faults_of before ≡ span.counts.folder
-  pub folder_after : faults_of after ≡ span.counts.folder_after
-  pub entropy : entropy_faults_of random ≡ span.counts.entropy
-  pub entropy_after : entropy_faults_of random' ≡ span.counts.entropy_after
+abbrev ends_in : {C : Type 0} → List (Share C) → List SessionEnd
+ends_in shares = flat_map (λ share. map (λ link. link.end) share.links) shares
 
-served_of : {C D E : Type 0} (view : LinkView C) (span : Span C) (F : Type 0) (ends : List SessionEnd) (disk_of : D → Option Disk) (faults_of : D → ℕ) (entropy_faults_of : E → ℕ) (drawn_of : E → Option (List ℕ))
-    (folder : D) (store : Store D) (entropy : E) (kept : D) (entropy' : E) (a b : ℕ) → IsSpanOf disk_of faults_of entropy_faults_of folder kept entropy entropy' span
-    → IsUnlockedStore disk_of faults_of (inputs_of span a b) span.second folder store
-    → HasServedVault (share_of view span) F disk_of faults_of entropy_faults_of drawn_of store entropy kept entropy' ends → IsServed view span F ends
-served_of view span F ends disk_of faults_of entropy_faults_of drawn_of folder store entropy kept entropy' a b spans unlocked h =
-    let keys = unlocked.keys in
+no_ends : {N E : Type 0} (C : Type 0) (workers : List (Worker N E)) → ends_in {C = C} (no_shares workers) ≡ []
+no_ends C [] = refl
+no_ends C (worker ∷ workers) = no_ends C workers
+
+entropy_stays : {D N C E : Type 0} (views : Views D N C E) (workers : List (Worker N E)) (j : ℕ) → entropy_before (worker_spans views workers workers) j ≡ entropy_after (worker_spans views workers workers) j
+entropy_stays views [] j = refl
+entropy_stays views (worker ∷ workers) zero = refl
+entropy_stays views (worker ∷ workers) (suc j) = entropy_stays views workers j
+
+pub idle : {D N C E : Type 0} (views : Views D N C E) (workers : List (Worker N E)) → AreIdle (worker_spans views workers workers)
+idle views [] = tt
+idle views (worker ∷ workers) = ((refl, refl), idle views workers)
+
+undrawn : {D N C E : Type 0} (views : Views D N C E) (workers : List (Worker N E)) → AllByRecursion (λ worker. worker.entropy.after.drawn ≡ worker.entropy.before.drawn) (worker_spans views workers workers)
+undrawn views [] = tt
+undrawn views (worker ∷ workers) = (refl, undrawn views workers)
+
+-- ---- the entries of the first caller alone
+
+all_first : (entries : List Entry) → AllByRecursion (λ entry. entry.caller ≡ 0) entries → entries_of 0 entries ≡ entries
+all_first [] are = refl
+all_first (entry ∷ entries) are = rw (eq-eqb _ _ are.0) (ap (λ (es : List Entry). entry ∷ es) (all_first entries are.1))
+
+none_other : (j : ℕ) (entries : List Entry) → AllByRecursion (λ entry. entry.caller ≡ 0) entries → entries_of (suc j) entries ≡ []
+none_other j [] are = refl
+none_other j (entry ∷ entries) are = rw (ne_eqb entry.caller (suc j) (λ e. omega (arith, e, are.0))) (none_other j entries are.1)
+
+untouched : (tally : Tally) (j : ℕ) (entries : List Entry) → AllByRecursion (λ entry. entry.caller ≡ 0) entries → (after tally entries).entropy_faults (suc j) ≡ tally.entropy_faults (suc j)
+untouched tally j [] are = refl
+untouched tally j (entry ∷ entries) are = untouched (next tally entry) j entries are.1 ∙ rw (ne_eqb (suc j) entry.caller (λ e. omega (arith, e, are.0))) refl
+
+callers_of : {C N E : Type 0} (share : Share C) (others : List (Worker N E)) (entries : List Entry) → AreAdded 0 share.asked entries → (j : ℕ)
+    → map (λ entry. entry.made.asked) (entries_of j entries) ≡ entered (asked_by (share ∷ no_shares others) j)
+callers_of {C = C} share others entries added zero = ap (λ (es : List Entry). map (λ entry. entry.made.asked) es) (all_first entries added.by) ∙ added.same
+callers_of {C = C} share others entries added (suc j) =
+    ap (λ (es : List Entry). map (λ entry. entry.made.asked) es) (none_other j entries added.by) ∙ ap (λ (asked : List Asked). entered asked) (sym (asked_nothing C others j))
+
+up_to_entropy : {D N C E : Type 0} (views : Views D N C E) (first : Worker N E) (others : List (Worker N E)) (worker : Worker N E) (origin : Origin) (entries : List Entry)
+    → AllByRecursion (λ entry. entry.caller ≡ 0) entries → origin.entropy_faults ≡ entropy_before (worker_spans views (first ∷ others) (worker ∷ others))
+    → (tally_of origin entries).entropy_faults 0 ≤ (views.entropy worker.entropy).faults
+    → (caller : ℕ) → (tally_of origin entries).entropy_faults caller ≤ entropy_after (worker_spans views (first ∷ others) (worker ∷ others)) caller
+up_to_entropy views first others worker origin entries by same few zero = few
+up_to_entropy views first others worker origin entries by same few (suc j) =
+    let stays = untouched (tally_at origin) j entries by in
+    let from : origin.entropy_faults (suc j) ≡ entropy_before (worker_spans views others others) j = ap (λ (f : ℕ → ℕ). f (suc j)) same in
+    omega (arith, stays, from, entropy_stays views others j)
+
+-- ---- a vault that was served
+
+served_of : {D N C E : Type 0} (views : Views D N C E) (words : List (List ℕ)) (secret : Course SourceView) (second : Option ℕ) (folder : D) (store : Store D) (first : Worker N E) (others : List (Worker N E))
+    (back : HandedBack D N E) (MayStop : WorkerSpan C → Type 0) → IsUnlockedStore views.folder (given_of views.folder words secret second folder folder) folder store
+    → (h : HasServedWorker views second store first back) → (FailedIn (ListenerFailed (worker_span views first back.worker)) back.outcome → MayStop (worker_span views first back.worker))
+    → IsServed views (span_of views words secret second folder back.folder (first ∷ others) (back.worker ∷ others)) MayStop h.ends
+served_of {D = D} {C = C} {E = E} views words secret second folder store first others back MayStop unlocked h only =
     let opened = unlocked.opened in
-    let same = h.store_is in
-    let before : faults_of (folder_of h.start.store) ≡ faults_of (folder_of store) = ap (λ s. faults_of (folder_of s)) same in
-    let drawn : entropy_faults_of h.start.entropy ≡ entropy_faults_of entropy = ap entropy_faults_of h.entropy_is in
-    let left : entropy_faults_of h.now.entropy ≡ entropy_faults_of entropy' = ap entropy_faults_of h.left in
-    let counts : FaultCounts = until span.counts (faults_of (folder_of h.now.store)) in
-    let within : IsWithin faults_of entropy_faults_of h.start h.now counts = record {
-      folder = omega (arith, spans.folder, before, opened.faults);
-      folder_after = omega arith;
-      entropy = omega (arith, spans.entropy, drawn);
-      entropy_after = omega (arith, spans.entropy_after, left);
+    let origin : Origin = record {
+      folder_faults = (views.folder folder).faults;
+      entropy_faults = entropy_before (worker_spans views (first ∷ others) (back.worker ∷ others));
+      moment = moment_of (views.folder folder).log;
     } in
+    let same_log : (views.folder (folder_in store)).log ≡ (views.folder folder).log = opened.read.log in
+    let stands : IsStoreOf views.folder store opened.rows origin [] =
+    opened.stands origin opened.read.faults (omega (arith, ap moment_of same_log)) in
+    let start : IsStoreFor views.folder views.entropy h.start opened.rows origin [] = record {
+      store = subst (λ (s : Store D). IsStoreOf views.folder s opened.rows origin []) (sym h.store_is) stands;
+      entropy = omega (arith, ap (λ (e : E). (views.entropy e).faults) h.entropy_is);
+    } in
+    let added = h.answered.added opened.rows origin [] start in
+    let entries : List Entry = added.0 in
+    let now = added.2 in
+    let kept : IsOnlyRead (views.folder (folder_in store)) (views.folder (folder_in (store_in h.now))) =
+    subst (λ (s : Store D). IsOnlyRead (views.folder (folder_in s)) (views.folder (folder_in (store_in h.now)))) h.store_is h.answered.folder in
+    let read = read_then (views.folder folder) (views.folder (folder_in store)) (views.folder (folder_in (store_in h.now))) opened.read kept in
     record {
-      keys = keys;
-      unlocked = unlocked_of span a b keys unlocked.unlocking;
-      links = h.links;
-      asked = h.asked;
-      gave = h.gave;
-      talked = h.talked;
-      folder_faults = faults_of (folder_of h.now.store);
-      between = (omega (arith, spans.folder, before, opened.faults, h.answered.folder), omega (arith, spans.folder_after, h.folder));
-      history = told_by (λ disk. IsHistory keys disk span.second counts h.asked) span.disk (λ disk e.
-          history disk_of faults_of entropy_faults_of drawn_of keys folder store h.start h.now unlocked.now span.second h.asked counts disk (spans.disk ∙ e)
-          unlocked.moment h.moments opened same h.answered within);
-      ended = h.ended;
+      keys = unlocked.keys;
+      unlocked = record { words = unlocked.unlocked.words; spelled = unlocked.unlocked.spelled; line = unlocked.unlocked.line };
+      shares = h.share ∷ no_shares others;
+      are = (
+        record {
+          gave = gave_as 1 _ _ (views.listener first.listener) (views.listener back.worker.listener) h.share.links only h.gave;
+          talked = h.talked;
+        },
+        are_no_shares views second MayStop 0 others,
+      );
+      history = record {
+        rows = opened.rows;
+        origin = origin;
+        entries = entries;
+        store = store_in h.now;
+        stands = now.store;
+        legal = subst (λ (log : Option Log). Told (disk_in log) (λ disk. IsLegal opened.rows origin entries)) read.log
+            (told_then (disk_in (views.folder (folder_in (store_in h.now))).log) _ _ now.store.tree (λ disk tree. record { caused = now.store.caused; answered = tree.answered }));
+        callers = callers_of h.share others entries added.1;
+        since = record { folder = omega arith; entropy = λ j. omega arith; moment = omega arith };
+        up_to = record {
+          folder = omega (arith, now.store.folder, h.closed.faults);
+          entropy = up_to_entropy views first others back.worker origin entries added.1.by refl (omega (arith, now.entropy, ap (λ (e : E). (views.entropy e).faults) h.left));
+          moment = omega (arith, now.store.moment, ap moment_of h.closed.log);
+        };
+        unlocked = unlocked.now;
+        clear = opened.clear;
+        second = unlocked.second;
+        read = read;
+        closed = h.closed;
+      };
+      ended = ap (λ (ends : List SessionEnd). map (λ link. link.end) h.share.links ++ ends) (no_ends C others) ∙ append-nil (map (λ link. link.end) h.share.links) ∙ h.ended;
     }
 
-pub reason_served : {C D E : Type 0} (view : LinkView C) (span : Span C) (ending : Ending) (disk_of : D → Option Disk) (faults_of : D → ℕ) (entropy_faults_of : E → ℕ) (drawn_of : E → Option (List ℕ))
-    (folder : D) (store : Store D) (entropy : E) (kept : D) (entropy' : E) (a b : ℕ) → IsSpanOf disk_of faults_of entropy_faults_of folder kept entropy entropy' span
-    → IsUnlockedStore disk_of faults_of (inputs_of span a b) span.second folder store
-    → EndsServing (share_of view span) disk_of faults_of entropy_faults_of drawn_of store entropy kept entropy' ending → HasReason view span ending
+reason_of : {D N C E : Type 0} (views : Views D N C E) (words : List (List ℕ)) (secret : Course SourceView) (second : Option ℕ) (folder : D) (store : Store D) (first : Worker N E) (others : List (Worker N E))
+    (back : HandedBack D N E) (outcome : Outcome) (ending : Ending) → back.outcome ≡ outcome → IsUnlockedStore views.folder (given_of views.folder words secret second folder folder) folder store
+    → (h : HasServedWorker views second store first back) → MayEnd h.ends outcome ending
+    → HasReason views (span_of views words secret second folder back.folder (first ∷ others) (back.worker ∷ others)) ending
 unfolding served_of
-reason_served view span (served ends) disk_of faults_of entropy_faults_of drawn_of folder store entropy kept entropy' a b spans unlocked h =
-    served_of view span ⊥ ends disk_of faults_of entropy_faults_of drawn_of folder store entropy kept entropy' a b spans unlocked h
-reason_served view span (listener_fault ends) disk_of faults_of entropy_faults_of drawn_of folder store entropy kept entropy' a b spans unlocked h =
-    (served_of view span (Rose span.listener_faults span.listener_faults_after) ends disk_of faults_of entropy_faults_of drawn_of folder store entropy kept entropy' a b spans unlocked h.0, h.1)
-reason_served view span (closing_fault ends) disk_of faults_of entropy_faults_of drawn_of folder store entropy kept entropy' a b spans unlocked h = (
-  served_of view span (Rose span.listener_faults span.listener_faults_after) ends disk_of faults_of entropy_faults_of drawn_of folder store entropy kept entropy' a b spans unlocked h.0,
-  subst (λ (n : ℕ). Rose (faults_of (folder_of h.0.now.store)) n) spans.folder_after h.1,
-)
-reason_served view span (no_memory_to_report ends) disk_of faults_of entropy_faults_of drawn_of folder store entropy kept entropy' a b spans unlocked h =
-    served_of view span (Rose span.listener_faults span.listener_faults_after) ends disk_of faults_of entropy_faults_of drawn_of folder store entropy kept entropy' a b spans unlocked h
-reason_served view span bad_words disk_of faults_of entropy_faults_of drawn_of folder store entropy kept entropy' a b spans unlocked h = absurd h
-reason_served view span bad_secret disk_of faults_of entropy_faults_of drawn_of folder store entropy kept entropy' a b spans unlocked h = absurd h
-reason_served view span secret_fault disk_of faults_of entropy_faults_of drawn_of folder store entropy kept entropy' a b spans unlocked h = absurd h
-reason_served view span no_root disk_of faults_of entropy_faults_of drawn_of folder store entropy kept entropy' a b spans unlocked h = absurd h
-reason_served view span folder_fault disk_of faults_of entropy_faults_of drawn_of folder store entropy kept entropy' a b spans unlocked h = absurd h
-reason_served view span no_memory disk_of faults_of entropy_faults_of drawn_of folder store entropy kept entropy' a b spans unlocked h = absurd h
+reason_of views words secret second folder store first others back (Served counts) ending same unlocked h (inl e) =
+    subst (λ (x : Ending). HasReason views (span_of views words secret second folder back.folder (first ∷ others) (back.worker ∷ others)) x) (sym e)
+    (served_of views words secret second folder store first others back Never unlocked h
+    (λ failed. subst (λ (o : Outcome). FailedIn (ListenerFailed (worker_span views first back.worker)) o) same failed))
+reason_of views words secret second folder store first others back (Served counts) ending same unlocked h (inr e) =
+    subst (λ (x : Ending). HasReason views (span_of views words secret second folder back.folder (first ∷ others) (back.worker ∷ others)) x) (sym e)
+    (served_of views words secret second folder store first others back ListenerFailed unlocked h
+    (λ failed. absurd (subst (λ (o : Outcome). FailedIn (ListenerFailed (worker_span views first back.worker)) o) same failed)))
+reason_of views words secret second folder store first others back ListenerFault ending same unlocked h e =
+    subst (λ (x : Ending). HasReason views (span_of views words secret second folder back.folder (first ∷ others) (back.worker ∷ others)) x) (sym e) (
+      served_of views words secret second folder store first others back ListenerFailed unlocked h
+          (λ failed. subst (λ (o : Outcome). FailedIn (ListenerFailed (worker_span views first back.worker)) o) same failed),
+      inl (subst (λ (o : Outcome). HasOutcome (ListenerFailed (worker_span views first back.worker)) (Rose (views.folder (folder_in (store_in h.now))).faults (views.folder back.folder).faults) h.ends o) same h.outcome),
+    )
+reason_of views words secret second folder store first others back FolderFault ending same unlocked h e =
+    subst (λ (x : Ending). HasReason views (span_of views words secret second folder back.folder (first ∷ others) (back.worker ∷ others)) x) (sym e) (
+      served_of views words secret second folder store first others back ListenerFailed unlocked h
+          (λ failed. subst (λ (o : Outcome). FailedIn (ListenerFailed (worker_span views first back.worker)) o) same failed),
+      subst (λ (o : Outcome). HasOutcome (ListenerFailed (worker_span views first back.worker)) (Rose (views.folder (folder_in (store_in h.now))).faults (views.folder back.folder).faults) h.ends o) same h.outcome,
+    )
 
-pub reason_refused : {C : Type 0} (view : LinkView C) (span : Span C) (refusal : Refusal) → IsUntaken span.listener
-    → IsRefused (inputs_of span span.counts.folder span.counts.folder_after) refusal → HasReason view span (ending_of refusal)
-reason_refused view span Words untaken h = (h.0, h.1, untaken)
-reason_refused view span Secret untaken h = (h.0, h.1, h.2, untaken)
-reason_refused view span SecretFault untaken h = (h.0, h.1, h.2, untaken)
-reason_refused view span NoRoot untaken h = (h.0, unlocked_of span span.counts.folder span.counts.folder_after h.0 h.1, h.2, untaken)
-reason_refused view span FolderFault untaken h = (h.0, unlocked_of span span.counts.folder span.counts.folder_after h.0 h.1, h.2, untaken)
-reason_refused view span Memory untaken h = (h.0, unlocked_of span span.counts.folder span.counts.folder_after h.0 h.1, untaken)
+-- ---- a run
+
+run_as : {D N C E : Type 0} (views : Views D N C E) (words : List (List ℕ)) (secret : Course SourceView) (second : Option ℕ) (folder : D) (a b a' b' : List (Worker N E)) (sink : Course SinkView) (ended : Ended D)
+    → a ≡ b → a' ≡ b' → HasRun views words secret second folder b b' sink ended → HasRun views words secret second folder a a' sink ended
+run_as {N = N} {E = E} views words secret second folder a b a' b' sink ended e f h =
+    subst (λ (w : List (Worker N E)). HasRun views words secret second folder w a' sink ended) (sym e)
+    (subst (λ (w : List (Worker N E)). HasRun views words secret second folder b w sink ended) (sym f) h)
+
+run_first : {D N C E : Type 0} (views : Views D N C E) (words : List (List ℕ)) (secret : Course SourceView) (second : Option ℕ) (folder : D) (store : Store D) (workers workers' : List (Worker N E))
+    (sink : Course SinkView) (ended : Ended D) → IsUnlockedStore views.folder (given_of views.folder words secret second folder folder) folder store
+    → (h : HasServedVault views second store workers workers' sink ended)
+    → HasRun views words secret second folder (h.first ∷ h.others) (h.back.worker ∷ h.others) sink ended
+run_first {D = D} {E = E} views words secret second folder store workers workers' sink ended unlocked h =
+    let s = h.served in
+    let kept : IsOnlyRead (views.folder (folder_in store)) (views.folder (folder_in (store_in s.now))) =
+    subst (λ (x : Store D). IsOnlyRead (views.folder (folder_in x)) (views.folder (folder_in (store_in s.now)))) s.store_is s.answered.folder in
+    record {
+      ending = h.ending;
+      kept = h.back.folder;
+      folder_is = h.folder_is;
+      read = read_then (views.folder folder) (views.folder (folder_in store)) (views.folder h.back.folder) unlocked.opened.read
+          (read_then (views.folder (folder_in store)) (views.folder (folder_in (store_in s.now))) (views.folder h.back.folder) kept s.closed);
+      count = refl;
+      undrawn = (
+        ap (λ (e : E). (views.entropy e).drawn) (sym s.left) ∙ s.answered.entropy.drawn ∙ ap (λ (e : E). (views.entropy e).drawn) s.entropy_is,
+        undrawn views h.others,
+      );
+      reason = reason_of views words secret second folder store h.first h.others h.back h.back.outcome h.ending refl unlocked s h.may;
+      reported = h.reported;
+    }
+
+pub run_served : {D N C E : Type 0} (views : Views D N C E) (words : List (List ℕ)) (secret : Course SourceView) (second : Option ℕ) (folder : D) (store : Store D) (workers workers' : List (Worker N E))
+    (sink : Course SinkView) (ended : Ended D) → IsUnlockedStore views.folder (given_of views.folder words secret second folder folder) folder store
+    → HasServedVault views second store workers workers' sink ended → HasRun views words secret second folder workers workers' sink ended
+run_served views words secret second folder store workers workers' sink ended unlocked h =
+    run_as views words secret second folder workers (h.first ∷ h.others) workers' (h.back.worker ∷ h.others) sink ended h.workers_are h.workers_after
+    (run_first views words secret second folder store workers workers' sink ended unlocked h)
+
+pub run_refused : {D N C E : Type 0} (views : Views D N C E) (words : List (List ℕ)) (secret : Course SourceView) (second : Option ℕ) (folder kept : D) (workers : List (Worker N E))
+    (sink : Course SinkView) (ended : Ended D) (cause : Cause) → ended.folder ≡ Some kept → IsRefused (given_of views.folder words secret second folder kept) cause
+    → IsOnlyRead (views.folder folder) (views.folder kept) → IsReported sink (refused cause) ended.status
+    → HasRun views words secret second folder workers workers sink ended
+run_refused views words secret second folder kept workers sink ended cause is why read reported = record {
+  ending = refused cause;
+  kept = kept;
+  folder_is = is;
+  read = read;
+  count = refl;
+  undrawn = undrawn views workers;
+  reason = (why, idle views workers);
+  reported = reported;
+}

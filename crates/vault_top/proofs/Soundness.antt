@@ -2,13 +2,16 @@
 use Rattle.std.proofs.Common.{◌≡◌, ℕ, List, Option, Some, None, IsSomeAnd, subst}
 use Rattle.outside.specs.Calls.{Told}
 use Rattle.outside.specs.Disk.{Disk, IsFolder}
-use Rattle.session_server.proofs.Links.{rose_later}
+use Rattle.outside.specs.Images.{disk_in}
 use Rattle.siv_mode.specs.Keys.{KeyPair}
 use Rattle.vault_layout.specs.Clear.{root_folder}
 use Rattle.vault_top.specs.Secret.{line_of, raw_keys}
-use Rattle.vault_top.specs.Served.{LinkView}
-use Rattle.vault_top.specs.Ending.{Ending, bad_words, bad_secret, secret_fault, no_root, folder_fault, no_memory, served, listener_fault, closing_fault, no_memory_to_report, Span, HasReason}
-use Rattle.vault_top.specs.Sound.{IsSound, IsFaultless, IsServedOrFull}
+use Rattle.vault_top.specs.Span.{Views, Span}
+use Rattle.vault_top.specs.Ending.{Ending, refused, served, listener_fault, closing_fault, no_memory_to_report, IsRefused, HasReason}
+use Rattle.vault_top.specs.Sound.{IsSound, IsFaultless, IsMemory, IsServedOrFull}
+use Rattle.vault_top.specs.declared.cause.Cause.{Cause}
+use Rattle.vault_top.specs.declared.cause.Cause.TheVariants.{Words, Secret, SecretFault, NoRoot, FolderFault, Memory}
+use Rattle.session_server.proofs.Links.{rose_later}
 
 -- the secret has keys, of which P holds
 abbrev HasKeys : Option (List ℕ) → (KeyPair → Type 0) → Type 0
@@ -26,16 +29,21 @@ rooted : (P : Disk → Type 0) (disk : Option Disk) → IsSomeAnd disk P → Tol
 rooted P None some none = some
 rooted P (Some d) some none = none some
 
-pub sound : {C : Type 0} (view : LinkView C) (span : Span C) (ending : Ending) → IsSound span → IsFaultless span → HasReason view span ending → IsServedOrFull ending
-sound view span bad_words is faultless h = absurd (h.0 is.words)
-sound view span bad_secret is faultless h = absurd (keyless (λ keys. IsSomeAnd span.disk (λ disk. IsFolder disk (root_folder keys))) span.secret is.vault h.1)
-sound view span secret_fault is faultless h = absurd (faultless.secret h.1)
-sound view span no_root is faultless h =
-    absurd (rooted (λ disk. IsFolder disk (root_folder h.0)) span.disk
-    (of_keys (λ keys. IsSomeAnd span.disk (λ disk. IsFolder disk (root_folder keys))) h.0 span.secret is.vault h.1.spelled) h.2)
-sound view span folder_fault is faultless h = absurd (faultless.folder h.2)
-sound view span no_memory is faultless h = tt
-sound view span (served ends) is faultless h = tt
-sound view span (listener_fault ends) is faultless h = absurd (faultless.listener h.1)
-sound view span (closing_fault ends) is faultless h = absurd (faultless.folder (rose_later span.counts.folder h.0.folder_faults span.counts.folder_after h.0.between.0 h.1))
-sound view span (no_memory_to_report ends) is faultless h = tt
+refused_sound : {C : Type 0} (span : Span C) (cause : Cause) → IsSound span.given → IsFaultless span → IsRefused span.given cause → IsMemory cause
+refused_sound span Words is faultless h = absurd (h.0 is.words)
+refused_sound span Secret is faultless h =
+    absurd (keyless (λ keys. IsSomeAnd (disk_in span.given.folder.before.log) (λ disk. IsFolder disk (root_folder keys))) span.given.secret.before.left is.vault h.1)
+refused_sound span SecretFault is faultless h = absurd (faultless.secret h.1)
+refused_sound span NoRoot is faultless h =
+    absurd (rooted (λ disk. IsFolder disk (root_folder h.0)) (disk_in span.given.folder.before.log)
+    (of_keys (λ keys. IsSomeAnd (disk_in span.given.folder.before.log) (λ disk. IsFolder disk (root_folder keys))) h.0 span.given.secret.before.left is.vault h.1.spelled) h.2)
+refused_sound span FolderFault is faultless h = absurd (faultless.folder h.2)
+refused_sound span Memory is faultless h = tt
+
+pub sound : {D N C E : Type 0} (views : Views D N C E) (span : Span C) (ending : Ending) → IsSound span.given → IsFaultless span → HasReason views span ending → IsServedOrFull ending
+sound views span (refused cause) is faultless h = refused_sound span cause is faultless h.0
+sound views span (served ends) is faultless h = tt
+sound views span (listener_fault ends) is faultless h = absurd (faultless.listeners h.1)
+sound views span (closing_fault ends) is faultless h =
+    absurd (faultless.folder (rose_later _ _ _ h.0.history.read.faults h.1))
+sound views span (no_memory_to_report ends) is faultless h = tt

@@ -3,8 +3,9 @@ use Rattle.std.proofs.Common.{◌≡◌, ℕ, ◌≤◌, List, ◌++◌, Option,
 use Rattle.std.proofs.lemmas.List.{length-append}
 use Rattle.outside.specs.Calls.{Rose, Changes}
 use Rattle.session_server.proofs.Links.{rose_later}
-use Rattle.vault_top.specs.Writing.{TakesPart, IsWritten}
-use Rattle.vault_top.proofs.Shares.{changes_as}
+use Rattle.vault_top.specs.Report.{TakesPart}
+use Rattle.vault_top.specs.Writing.{IsWritten}
+use Rattle.outside.proofs.Told.{changed_by}
 
 abbrev Contents : Type 0
 Contents = Option (List ℕ)
@@ -47,7 +48,7 @@ written_not before after a b x y whole cut status failed same h =
     inr (
       failed,
       same,
-      changes_as (TakesPart x) (TakesPart (x ++ y)) a b (λ old new k. (
+      changed_by a b (TakesPart x) (TakesPart (x ++ y)) (λ old new k. (
         k.0,
         k.1 ++ y,
         omega (arith, k.2, length-append k.1 y),

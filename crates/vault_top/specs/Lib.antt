@@ -1,6 +1,7 @@
 pub mod Words
 pub mod Secret
 pub mod Report
+pub mod Span
 pub mod Served
 pub mod Ending
 pub mod Reading

@@ -1,11 +1,15 @@
 -- The lines of the report.
-use Rattle.std.specs.Prelude.{ℕ, List, [], ◌∷◌, ◌++◌, length, codes, decimal, Bool, true, false, filter}
+use Rattle.std.specs.Prelude.{◌≡◌, ℕ, ◌<◌, List, [], ◌∷◌, ◌++◌, length, codes, decimal, Bool, true, false, filter}
 use Rattle.session_server.specs.declared.ending.SessionEnd.{SessionEnd}
 use Rattle.session_server.specs.declared.ending.SessionEnd.TheVariants as ends
 
 -- a line ends with LF
 abbrev pub line : List ℕ → List ℕ
 line text = text ++ 10 ∷ []
+
+-- a part from a text's front was taken, and not all of it
+abbrev pub TakesPart : List ℕ → List ℕ → List ℕ → Type 0
+TakesPart text old new = (part : List ℕ) × (lost : List ℕ) × (0 < length lost) × (text ≡ part ++ lost) × (new ≡ old ++ part)
 
 -- ---- how sessions ended
 

@@ -1,90 +1,93 @@
--- What a vault that was served has done: one legal history of the tree that its disk stands for, which is what the clients asked, and a talk
--- on each link.
-use Rattle.std.specs.Prelude.{◌≡◌, ◌⊎◌, ℕ, ◌≤◌, List, [], ◌∷◌, ◌++◌, length, map, Option}
-use Rattle.std.specs.List.{AllByRecursion}
-use Rattle.outside.specs.Calls.{HasCause, Told, Changes}
-use Rattle.outside.specs.Disk.{Disk}
+-- What a vault that was served has done: each worker served its share of the sessions, and what was asked in all of them is one legal
+-- history of the tree that the vault's disk stands for.
+use Rattle.std.specs.Prelude.{◌≡◌, ℕ, zero, suc, ◌+◌, ◌/◌, ◌%◌, ◌≤◌, List, [], ◌∷◌, map, nat_lt, if◌then◌else◌, Option, ⊤}
+use Rattle.outside.specs.Calls.{Told}
+use Rattle.outside.specs.Images.{disk_in}
+use Rattle.outside.specs.Views.{LinkView}
 use Rattle.siv_mode.specs.Keys.{KeyPair}
-use Rattle.tree_model.specs.Asked.{Asked}
-use Rattle.tree_model.specs.History.{Entry, Origin, IsLegal, IsSince, IsUpTo}
-use Rattle.session_server.specs.declared.ending.SessionEnd.{SessionEnd}
-use Rattle.session_server.specs.declared.ending.SessionEnd.TheVariants as ends
-use Rattle.session_server.specs.Talk.{Talk, IsTaken, IsReadUp}
+use Rattle.tree_model.specs.Rows.{Rows}
+use Rattle.tree_model.specs.Asked.{Asked, entered}
+use Rattle.tree_model.specs.History.{Entry, entries_of, Origin, tally_of, IsLegal, IsUpTo}
+use Rattle.session_server.specs.Served.{ServedLink, TalkedOnEach, GaveBack}
 use Rattle.vault_layout.specs.Clear.{IsClear}
+use Rattle.vault_store.specs.Store.{IsStoreOf, IsOnlyRead, folder_in, moment_of}
+use Rattle.vault_store.specs.declared.store.Store.{Store}
+use Rattle.vault_top.specs.Span.{Views, WorkerSpan, Span}
 
--- what clauses see of a link: the bytes that are left to read and those that it took, where it tells, and its counts of faults
-pub record LinkView (C : Type 0) : Type 0 where
-  pub left : C → Option (List ℕ)
-  pub taken : C → Option (List ℕ)
-  pub read_faults : C → ℕ
-  pub write_faults : C → ℕ
+-- ---- shares
 
--- a link that was served: as it came, as it was given back, and how its session ended
-pub record ServedLink (C : Type 0) : Type 0 where
-  pub came : C
-  pub given : C
-  pub end : SessionEnd
+-- how many of n sessions worker j serves, where m workers share them: the first n % m serve one more than the others
+abbrev pub share_of : ℕ → ℕ → ℕ → ℕ
+share_of n m j = if nat_lt j m then n / m + (if nat_lt j (n % m) then 1 else 0) else 0
 
--- the talk that was held on a link, in which this was asked
-pub record TalkedOn {C : Type 0} (view : LinkView C) (link : ServedLink C) (asked : List Asked) : Type 0 where
-  pub input : List ℕ
-  pub out : List ℕ
-  pub sent : List ℕ
-  pub talk : Talk input asked out link.end
-  pub read : Changes (view.left link.came) (view.left link.given) (λ old new. (old ≡ input ++ new) × IsReadUp link.end new)
-  pub written : Changes (view.taken link.came) (view.taken link.given) (λ old new. new ≡ old ++ sent)
-  pub sent_is : IsTaken link.end out sent
-  pub read_fault : HasCause (view.read_faults link.came) (view.read_faults link.given) (link.end ≡ ends.ReadFault)
-  pub write_fault : HasCause (view.write_faults link.came) (view.write_faults link.given) (link.end ≡ ends.WriteFault)
+-- the links that a worker served, and what was asked on them
+pub record Share (C : Type 0) : Type 0 where
+  pub links : List (ServedLink C)
+  pub asked : List Asked
 
--- the talks on links, one after the other, in which this was asked
-abbrev pub TalkedOnEach : {C : Type 0} → LinkView C → List (ServedLink C) → List Asked → Type 0
-TalkedOnEach view [] asked = asked ≡ []
-TalkedOnEach view (link ∷ links) asked =
-    (first : List Asked) × (others : List Asked) × TalkedOn view link first × TalkedOnEach view links others × (asked ≡ first ++ others)
+-- a worker served this share of so many sessions; where fewer links came, the listener had no more, or what may stop it did
+pub record IsShare {C : Type 0} (link : C → LinkView) (second : Option ℕ) (MayStop : WorkerSpan C → Type 0) (sessions : ℕ) (worker : WorkerSpan C) (share : Share C) : Type 0 where
+  pub gave : GaveBack sessions (MayStop worker) worker.listener.before worker.listener.after share.links
+  pub talked : TalkedOnEach link second share.links share.asked
 
--- what a listener holds before and after: the links that are to come and those that were given back, where it tells
-pub record ListenerSpan (C : Type 0) : Type 0 where
-  pub to_come : Option (List C)
-  pub to_come_after : Option (List C)
-  pub given : Option (List C)
-  pub given_after : Option (List C)
+-- each worker from number j on served its share of n sessions
+abbrev pub AreShares : {C : Type 0} → (C → LinkView) → Option ℕ → (WorkerSpan C → Type 0) → ℕ → ℕ → ℕ → List (WorkerSpan C) → List (Share C) → Type 0
+AreShares link second MayStop n m j [] [] = ⊤
+AreShares link second MayStop n m j [] (share ∷ shares) = ⊥
+AreShares link second MayStop n m j (worker ∷ workers) [] = ⊥
+AreShares link second MayStop n m j (worker ∷ workers) (share ∷ shares) =
+    IsShare link second MayStop (share_of n m j) worker share × AreShares link second MayStop n m (suc j) workers shares
 
--- A listener gave the first of its links and got them back: its share of the sessions, or all where there were fewer, or, where it failed, up
--- to then.
-pub record GaveBack {C : Type 0} (share : ℕ) (failed : Type 0) (span : ListenerSpan C) (links : List (ServedLink C)) : Type 0 where
-  pub few : length links ≤ share
-  pub came : Changes span.to_come span.to_come_after (λ old new. (old ≡ map (λ link. link.came) links ++ new) × ((length links ≡ share) ⊎ (new ≡ []) ⊎ failed))
-  pub given : Changes span.given span.given_after (λ old new. new ≡ old ++ map (λ link. link.given) links)
+-- what worker j was asked; nothing past the last
+abbrev pub asked_by : {C : Type 0} → List (Share C) → ℕ → List Asked
+asked_by [] j = []
+asked_by (share ∷ shares) zero = share.asked
+asked_by (share ∷ shares) (suc j) = asked_by shares j
 
--- counts of faults of the folder and of the caller's random source, before and after
-pub record FaultCounts : Type 0 where
-  pub folder : ℕ
-  pub folder_after : ℕ
-  pub entropy : ℕ
-  pub entropy_after : ℕ
+-- ---- counts
 
--- the same counts, where the folder's is this one after
-abbrev pub until : FaultCounts → ℕ → FaultCounts
-until counts folder_after = record {
-  folder = counts.folder;
-  folder_after = folder_after;
-  entropy = counts.entropy;
-  entropy_after = counts.entropy_after;
+-- the faults of worker j's random source, before and after; 0 past the last
+abbrev pub entropy_before : {C : Type 0} → List (WorkerSpan C) → ℕ → ℕ
+entropy_before [] j = 0
+entropy_before (worker ∷ workers) zero = worker.entropy.before.faults
+entropy_before (worker ∷ workers) (suc j) = entropy_before workers j
+
+abbrev pub entropy_after : {C : Type 0} → List (WorkerSpan C) → ℕ → ℕ
+entropy_after [] j = 0
+entropy_after (worker ∷ workers) zero = worker.entropy.after.faults
+entropy_after (worker ∷ workers) (suc j) = entropy_after workers j
+
+-- no count of a history's origin is below what it was as the run began
+pub record IsSince {C : Type 0} (span : Span C) (origin : Origin) : Type 0 where
+  pub folder : span.given.folder.before.faults ≤ origin.folder_faults
+  pub entropy : (j : ℕ) → entropy_before span.workers j ≤ origin.entropy_faults j
+  pub moment : moment_of span.given.folder.before.log ≤ origin.moment
+
+-- the counts at which a run ended
+abbrev pub end_of : {C : Type 0} → Span C → Origin
+end_of span = record {
+  folder_faults = span.given.folder.after.faults;
+  entropy_faults = entropy_after span.workers;
+  moment = moment_of span.given.folder.after.log;
 }
 
--- A legal history of the rows that the disk stands for, within these counts of faults, in which this was asked by the one caller. Where the
--- clock tells its second, it is that of unlocking and of each request.
-pub record IsHistory (keys : KeyPair) (disk : Disk) (second : Option ℕ) (counts : FaultCounts) (asked : List Asked) : Type 0 where
-  pub unlocked : ℕ
+-- ---- the history
+
+-- The store that was closed stands for a history from the rows on that the disk stands for under these keys. Of each caller it has what
+-- was asked on the links of the worker of that number, in order, but for requests that were answered as exhausted; and nothing else. Where
+-- the disk is told it is legal.
+pub record HasHistory {D N C E : Type 0} (views : Views D N C E) (span : Span C) (keys : KeyPair) (shares : List (Share C)) : Type 0 where
+  pub rows : Rows
   pub origin : Origin
   pub entries : List Entry
-  pub moment : Told second (λ second. unlocked ≡ second)
-  pub moments : Told second (λ second. AllByRecursion (λ a. a.moment ≡ second) asked)
-  pub clear : IsClear keys disk unlocked origin.rows
-  pub legal : IsLegal origin.rows entries
-  pub from : (counts.folder ≤ origin.folder_faults) × (counts.entropy ≤ origin.entropy_faults)
-  pub since : IsSince origin entries
-  pub up_to : IsUpTo counts.folder_after counts.entropy_after entries
-  pub callers : AllByRecursion (λ entry. entry.caller ≡ 0) entries
-  pub same : map (λ entry. entry.asked) entries ≡ asked
+  pub store : Store D
+  pub stands : IsStoreOf views.folder store rows origin entries
+  pub legal : Told (disk_in span.given.folder.before.log) (λ disk. IsLegal rows origin entries)
+  pub callers : (j : ℕ) → map (λ entry. entry.made.asked) (entries_of j entries) ≡ entered (asked_by shares j)
+  pub since : IsSince span origin
+  pub up_to : IsUpTo (end_of span) (tally_of origin entries)
+  pub unlocked : ℕ
+  pub clear : Told (disk_in span.given.folder.before.log) (λ disk. IsClear keys disk unlocked rows)
+  pub second : Told span.given.second (λ second. unlocked ≡ second)
+  pub read : IsOnlyRead span.given.folder.before (views.folder (folder_in store))
+  pub closed : IsOnlyRead (views.folder (folder_in store)) span.given.folder.after

@@ -1,18 +1,22 @@
--- What serving a worker's share comes to.
-use Rattle.std.specs.Prelude.{◌≡◌, ◌⊎◌, ℕ, ◌≤◌, List, [], ◌++◌, map, Option, option_to_list, Result, Ok, Err, ⊤}
-use Rattle.std.specs.List.{AllByRecursion}
-use Rattle.outside.specs.Calls.{Rose, Told}
-use Rattle.outside.specs.Disk.{Disk}
+-- What serving a share does, step by step.
+use Rattle.std.specs.Prelude.{◌≡◌, ◌⊎◌, ℕ, List, [], ◌∷◌, map, Option, Some, Result, Ok, Err, option_to_list, ⊤}
 use Rattle.outside.specs.declared.stream.Failed.{Failed}
-use Rattle.tree_model.specs.Asked.{Asked}
+use Rattle.outside.specs.Calls.{Rose}
+use Rattle.outside.specs.Views.{LinkView, ListenerView}
+use Rattle.tree_model.specs.Asked.{Asked, Extends}
 use Rattle.session_server.specs.declared.ending.SessionEnd.{SessionEnd}
-use Rattle.vault_store.specs.Store.{folder_of}
-use Rattle.vault_store.specs.Served.{HasAnswered}
+use Rattle.session_server.specs.Served.{TalkedOnEach, GaveBack}
+use Rattle.vault_store.specs.Store.{IsOnlyRead, folder_in}
+use Rattle.vault_store.specs.Served.{HasAnswered, store_in, entropy_in}
 use Rattle.vault_store.specs.declared.store.Store.{Store}
-use Rattle.vault_store.specs.declared.alone.Alone.{Alone}
-use Rattle.vault_top.specs.Served.{LinkView, ServedLink, TalkedOnEach, ListenerSpan, GaveBack}
-use Rattle.vault_top.specs.Ending.{Ending, served, listener_fault, closing_fault, no_memory_to_report}
+use Rattle.vault_store.specs.declared.sole_caller.SoleCaller.{SoleCaller}
+use Rattle.vault_top.specs.Span.{Course, SinkView, Views, worker_span}
+use Rattle.vault_top.specs.Served.{Share}
+use Rattle.vault_top.specs.Ending.{Ending, served, listener_fault, closing_fault, no_memory_to_report, ListenerFailed, IsReported}
 use Rattle.vault_top.specs.Writing.{AreCounts}
+use Rattle.vault_top.specs.declared.program.Worker.{Worker}
+use Rattle.vault_top.specs.declared.program.Ended.{Ended}
+use Rattle.vault_top.specs.declared.serving.HandedBack.{HandedBack}
 use Rattle.vault_top.specs.declared.serving.Outcome.{Outcome}
 use Rattle.vault_top.specs.declared.serving.Outcome.TheVariants as outcomes
 
@@ -21,47 +25,20 @@ abbrev pub ends_of : Result (Option SessionEnd) Failed → List SessionEnd
 ends_of (Ok end) = option_to_list end
 ends_of (Err failed) = []
 
--- a worker's share as clauses see it: its links and its listener before and after, the listener's counts of faults, and the clock's second
-pub record Share (C : Type 0) : Type 0 where
-  pub view : LinkView C
-  pub listener : ListenerSpan C
-  pub faults : ℕ
-  pub faults_after : ℕ
-  pub second : Option ℕ
-
--- A share was served over an object: its links, and the talks that were held on them. What was asked in these, in order, is what the object
--- stands for from then on.
-pub record HasServed {C X : Type 0} (share : Share C) (failed : Type 0) (stands stands' : X → List Asked → Type 0) (ends : List SessionEnd) : Type 0 where
-  pub links : List (ServedLink C)
-  pub asked : List Asked
-  pub gave : GaveBack 1 failed share.listener links
-  pub talked : TalkedOnEach share.view links asked
-  pub moments : Told share.second (λ second. AllByRecursion (λ a. a.moment ≡ second) asked)
-  pub goes : (start : X) (before : List Asked) → stands start before → stands' start (before ++ asked)
-  pub ended : map (λ link. link.end) links ≡ ends
-
--- a share was served over an open vault with a random source, and the vault was closed then
-pub record HasServedVault {C D E : Type 0} (share : Share C) (failed : Type 0) (disk_of : D → Option Disk) (faults_of : D → ℕ) (entropy_faults_of : E → ℕ) (drawn_of : E → Option (List ℕ))
-    (store : Store D) (entropy : E) (kept : D) (entropy' : E) (ends : List SessionEnd) : Type 0 where
-  pub links : List (ServedLink C)
-  pub asked : List Asked
-  pub gave : GaveBack 1 failed share.listener links
-  pub talked : TalkedOnEach share.view links asked
-  pub moments : Told share.second (λ second. AllByRecursion (λ a. a.moment ≡ second) asked)
-  pub ended : map (λ link. link.end) links ≡ ends
-  pub start : Alone D E
-  pub now : Alone D E
-  pub store_is : start.store ≡ store
-  pub entropy_is : start.entropy ≡ entropy
-  pub answered : HasAnswered disk_of faults_of entropy_faults_of drawn_of start now asked
-  pub disk : disk_of kept ≡ disk_of (folder_of now.store)
-  pub folder : faults_of (folder_of now.store) ≤ faults_of kept
-  pub left : now.entropy ≡ entropy'
+-- A share of one session was served over an object: its links, and the talks that were held on them. What was asked in these, in order,
+-- is what the object stands for from then on.
+pub record HasServed {B C : Type 0} (stands : B → B → List Asked → Type 0) (object object' : B) (link : C → LinkView) (second : Option ℕ) (before after : ListenerView C) (failed : Type 0) (ends : List SessionEnd) : Type 0 where
+  pub share : Share C
+  pub gave : GaveBack 1 failed before after share.links
+  pub talked : TalkedOnEach link second share.links share.asked
+  pub extends : Extends stands object object' share.asked
+  pub ended : map (λ link. link.end) share.links ≡ ends
 
 -- what may have kept a listener from giving its share
 abbrev pub FailedIn : Type 0 → Outcome → Type 0
 FailedIn listener_failed (outcomes.Served counts) = ⊥
-FailedIn listener_failed outcome = listener_failed
+FailedIn listener_failed outcomes.ListenerFault = listener_failed
+FailedIn listener_failed outcomes.FolderFault = listener_failed
 
 -- an outcome's cause: what failed, or the sessions that it counts
 abbrev pub HasOutcome : Type 0 → Type 0 → List SessionEnd → Outcome → Type 0
@@ -69,10 +46,29 @@ HasOutcome listener_failed folder_failed ends (outcomes.Served counts) = AreCoun
 HasOutcome listener_failed folder_failed ends outcomes.ListenerFault = listener_failed
 HasOutcome listener_failed folder_failed ends outcomes.FolderFault = folder_failed
 
+-- a worker served its share over an open vault, which was closed then
+pub record HasServedWorker {D N C E : Type 0} (views : Views D N C E) (second : Option ℕ) (store : Store D) (worker : Worker N E) (back : HandedBack D N E) : Type 0 where
+  pub share : Share C
+  pub ends : List SessionEnd
+  pub start : SoleCaller D E
+  pub now : SoleCaller D E
+  pub gave : GaveBack 1 (FailedIn (ListenerFailed (worker_span views worker back.worker)) back.outcome)
+      (views.listener worker.listener) (views.listener back.worker.listener) share.links
+  pub talked : TalkedOnEach views.link second share.links share.asked
+  pub ended : map (λ link. link.end) share.links ≡ ends
+  pub store_is : store_in start ≡ store
+  pub entropy_is : entropy_in start ≡ worker.entropy
+  pub answered : HasAnswered views.folder views.entropy start now share.asked
+  pub closed : IsOnlyRead (views.folder (folder_in (store_in now))) (views.folder back.folder)
+  pub left : entropy_in now ≡ back.worker.entropy
+  pub outcome : HasOutcome (ListenerFailed (worker_span views worker back.worker))
+      (Rose (views.folder (folder_in (store_in now))).faults (views.folder back.folder).faults) ends back.outcome
+
 -- the sessions that an outcome counts, if it does
 abbrev pub AreCounted : List SessionEnd → Outcome → Type 0
 AreCounted ends (outcomes.Served counts) = AreCounts counts ends
-AreCounted ends outcome = ⊤
+AreCounted ends outcomes.ListenerFault = ⊤
+AreCounted ends outcomes.FolderFault = ⊤
 
 -- the endings that an outcome may come to: without memory no counts are reported
 abbrev pub MayEnd : List SessionEnd → Outcome → Ending → Type 0
@@ -80,15 +76,15 @@ MayEnd ends (outcomes.Served counts) ending = (ending ≡ served ends) ⊎ (endi
 MayEnd ends outcomes.ListenerFault ending = ending ≡ listener_fault ends
 MayEnd ends outcomes.FolderFault ending = ending ≡ closing_fault ends
 
--- why an ending of a vault that was served comes
-abbrev pub EndsServing : {C D E : Type 0} → Share C → (D → Option Disk) → (D → ℕ) → (E → ℕ) → (E → Option (List ℕ)) → Store D → E → D → E → Ending → Type 0
-EndsServing share disk_of faults_of entropy_faults_of drawn_of store entropy kept entropy' (served ends) =
-    HasServedVault share ⊥ disk_of faults_of entropy_faults_of drawn_of store entropy kept entropy' ends
-EndsServing share disk_of faults_of entropy_faults_of drawn_of store entropy kept entropy' (listener_fault ends) =
-    HasServedVault share (Rose share.faults share.faults_after) disk_of faults_of entropy_faults_of drawn_of store entropy kept entropy' ends × Rose share.faults share.faults_after
-EndsServing share disk_of faults_of entropy_faults_of drawn_of store entropy kept entropy' (closing_fault ends) =
-    (is : HasServedVault share (Rose share.faults share.faults_after) disk_of faults_of entropy_faults_of drawn_of store entropy kept entropy' ends)
-    × Rose (faults_of (folder_of is.now.store)) (faults_of kept)
-EndsServing share disk_of faults_of entropy_faults_of drawn_of store entropy kept entropy' (no_memory_to_report ends) =
-    HasServedVault share (Rose share.faults share.faults_after) disk_of faults_of entropy_faults_of drawn_of store entropy kept entropy' ends
-EndsServing share disk_of faults_of entropy_faults_of drawn_of store entropy kept entropy' ending = ⊥
+-- the first worker served its share over an open vault, the others were left as they were, and it was reported
+pub record HasServedVault {D N C E : Type 0} (views : Views D N C E) (second : Option ℕ) (store : Store D) (workers workers' : List (Worker N E)) (sink : Course SinkView) (ended : Ended D) : Type 0 where
+  pub first : Worker N E
+  pub others : List (Worker N E)
+  pub back : HandedBack D N E
+  pub workers_are : workers ≡ first ∷ others
+  pub workers_after : workers' ≡ back.worker ∷ others
+  pub served : HasServedWorker views second store first back
+  pub ending : Ending
+  pub may : MayEnd served.ends back.outcome ending
+  pub folder_is : ended.folder ≡ Some back.folder
+  pub reported : IsReported sink ending ended.status

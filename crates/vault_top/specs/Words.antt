@@ -9,3 +9,10 @@ words_of words = map string_bytes words
 pub record AreWords (words : List (List ℕ)) : Type 0 where
   pub dir : List ℕ
   pub spelled : words ≡ codes "serve" ∷ dir ∷ codes "--listen" ∷ codes "-" ∷ codes "--sessions" ∷ codes "1" ∷ codes "--at-once" ∷ codes "1" ∷ codes "--raw-key" ∷ []
+
+-- how many sessions these words ask for, and how many workers share them
+abbrev pub sessions : ℕ
+sessions = 1
+
+abbrev pub at_once : ℕ
+at_once = 1

@@ -1,13 +1,9 @@
 -- What is written of the report so far, and the counts that its last line says.
-use Rattle.std.specs.Prelude.{◌≡◌, ◌⊎◌, ℕ, ◌<◌, List, ◌++◌, length, Option}
+use Rattle.std.specs.Prelude.{◌≡◌, ◌⊎◌, ℕ, List, ◌++◌, length, Option}
 use Rattle.outside.specs.Calls.{Changes}
 use Rattle.session_server.specs.declared.ending.SessionEnd.{SessionEnd}
-use Rattle.vault_top.specs.Report.{is_done, is_cut, is_bad, is_read_fault, is_write_fault, is_memory, is_limit, count_of}
+use Rattle.vault_top.specs.Report.{TakesPart, is_done, is_cut, is_bad, is_read_fault, is_write_fault, is_memory, is_limit, count_of}
 use Rattle.vault_top.specs.declared.report.SessionCounts.{SessionCounts}
-
--- a part from a text's front was taken, and not all of it
-abbrev pub TakesPart : List ℕ → List ℕ → List ℕ → Type 0
-TakesPart text old new = (part : List ℕ) × (lost : List ℕ) × (0 < length lost) × (text ≡ part ++ lost) × (new ≡ old ++ part)
 
 -- a text was taken whole; or the sink failed, and took a part from its front; and the status for that
 abbrev pub IsWritten : Type 0 → Option (List ℕ) → Option (List ℕ) → List ℕ → ℕ → ℕ → ℕ → Type 0

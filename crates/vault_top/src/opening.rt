@@ -1,57 +1,46 @@
 //! What comes before serving: the words, the secret and the vault.
 
-ghost use Rattle.std.specs.Prelude.{◌≡◌, IfOk, IfErr};
+ghost use Rattle.std.specs.Prelude.{IfOk, IfErr};
+ghost use Rattle.outside.specs.Views.{folder_view};
+ghost use Rattle.vault_store.specs.Store.{IsOnlyRead};
 ghost use Rattle.vault_top.specs.Words.{words_of};
-ghost use Rattle.vault_top.specs.Refusing.{IsRefused, IsUnlockedStore};
+ghost use Rattle.vault_top.specs.Span.{course, source_view, given_of};
+ghost use Rattle.vault_top.specs.Ending.{IsRefused};
+ghost use Rattle.vault_top.specs.Refusing.{IsUnlockedStore};
 
-use crate::refusal::Refusal;
+use crate::cause::Cause;
 use crate::secret::read_keys;
 use crate::words::are_words;
-use outside::{Clock, Folder, Source};
+use outside::{Clock, Folder, Refused, Source};
 use std::alloc::Global;
-use vault_store::{Refused, Store};
+use vault_store::Store;
 
 /// The length of the longest sealed name, in characters, that isn't shortened.
 const SHORTENING_THRESHOLD: u32 = 220;
 
-/// Reads the words and the secret, and opens the vault in a folder.
+// Reads the words and the secret, and opens the vault in a folder.
 pub(crate) fn open_vault<D: Folder, S: Source, K: Clock>(
     alloc: Global,
     words: &[String],
     folder: D,
     secret: &mut S,
     clock: &K,
-) -> Result<Store<D>, Refused<D, Refusal>>
-    ensures opened { IfOk result (λ store. IsUnlockedStore D.disk D.faults
-        (record {
-          words = words_of words.now;
-          secret = S.left secret.old;
-          secret_after = S.left secret.new;
-          secret_faults = S.faults secret.old;
-          secret_faults_after = S.faults secret.new;
-          disk = D.disk folder;
-          folder_faults = D.faults folder;
-          folder_faults_after = D.faults folder;
-        })
-        (K.second clock.now) folder store) }
+) -> Result<Store<D>, Refused<D, Cause>>
+    ensures opened { IfOk result (λ store. IsUnlockedStore (folder_view D.log D.faults D.changes)
+        (given_of (folder_view D.log D.faults D.changes) (words_of words.now)
+        (course (source_view S.left S.faults) secret.old secret.new) (K.second clock.now) folder folder)
+        folder store) }
     ensures refused { IfErr result (λ refused. IsRefused
-        (record {
-          words = words_of words.now;
-          secret = S.left secret.old;
-          secret_after = S.left secret.new;
-          secret_faults = S.faults secret.old;
-          secret_faults_after = S.faults secret.new;
-          disk = D.disk folder;
-          folder_faults = D.faults folder;
-          folder_faults_after = D.faults refused.folder;
-        })
+        (given_of (folder_view D.log D.faults D.changes) (words_of words.now)
+        (course (source_view S.left S.faults) secret.old secret.new) (K.second clock.now) folder refused.folder)
         refused.cause) }
-    ensures disk { IfErr result (λ refused. D.disk refused.folder ≡ D.disk folder) }
+    ensures read { IfErr result (λ refused. IsOnlyRead (folder_view D.log D.faults D.changes folder)
+        (folder_view D.log D.faults D.changes refused.folder)) }
 {
     if !are_words(words) {
         return Err(Refused {
             folder,
-            cause: Refusal::Words,
+            cause: Cause::Words,
         });
     }
     let keys = match read_keys(secret) {
@@ -59,7 +48,7 @@ pub(crate) fn open_vault<D: Folder, S: Source, K: Clock>(
         Err(error) => {
             return Err(Refused {
                 folder,
-                cause: Refusal::from(error),
+                cause: Cause::from(error),
             });
         }
     };
@@ -67,7 +56,7 @@ pub(crate) fn open_vault<D: Folder, S: Source, K: Clock>(
         Ok(store) => Ok(store),
         Err(Refused { folder, cause }) => Err(Refused {
             folder,
-            cause: Refusal::from(cause),
+            cause: Cause::from(cause),
         }),
     }
 }

@@ -1,19 +1,20 @@
-ghost use Rattle.std.specs.Prelude.{◌≡◌, ℕ, ◌<◌, ◌≤◌, ◌∷◌, ◌++◌, List, Some, OnOk, OnErr, IsErr, vec_len, vec_capacity};
+ghost use Rattle.std.specs.Prelude.{◌≡◌, ℕ, ◌<◌, ◌≤◌, ◌∷◌, ◌++◌, List, OnOk, OnErr, IsErr, vec_len, vec_capacity};
 ghost use Rattle.outside.specs.Calls.{Rose, HasCause, Changes};
 ghost use Rattle.session_server.specs.declared.ending.SessionEnd.{SessionEnd};
-ghost use Rattle.vault_store.specs.Store.{folder_of};
 ghost use Rattle.vault_top.specs.Words.{words_of};
-ghost use Rattle.vault_top.specs.Ending.{Ending, Span, HasReason, IsReported, serving, report_of, status_of, cut_status_of};
-ghost use Rattle.vault_top.specs.Writing.{TakesPart, IsWritten};
-ghost use Rattle.vault_top.specs.Serving.{EndsServing, AreCounted, MayEnd};
+ghost use Rattle.vault_top.specs.Span.{course, source_view, sink_view, views_of};
+ghost use Rattle.vault_top.specs.Report.{TakesPart};
+ghost use Rattle.vault_top.specs.Ending.{Ending, HasRun, serving, report_of, status_of, cut_status_of};
+ghost use Rattle.vault_top.specs.Writing.{IsWritten};
+ghost use Rattle.vault_top.specs.Serving.{HasServedVault, AreCounted, MayEnd};
 
+use crate::cause::refuse;
 use crate::opening::open_vault;
-use crate::refusal::refuse;
 use crate::report::{report, write_all};
 use crate::serving::{Outcome, serve_worker};
-use outside::{Clock, Entropy, Failed, Folder, Gate, Listener, Sink, Source};
+use outside::{Clock, Entropy, Failed, Folder, Gate, Listener, Refused, Sink, Source};
 use std::alloc::Global;
-use vault_store::{Refused, Store};
+use vault_store::Store;
 
 /// The status where the report's last line wasn't taken whole.
 const CUT_STATUS: u8 = 4;
@@ -64,37 +65,11 @@ pub fn run<R, D: Folder, N: Listener, E: Entropy, S: Source, O: Sink, K: Clock, 
 ) -> Ended<D>
     requires { (1 ≤ vec_len workers.old) × (vec_len workers.old ≤ 64) }
     // The program has one ending, which has its reason; its status and its report are that ending's.
-    ensures ending { (ending : Ending) × (kept : D) × (before : Worker N E) × (after : Worker N E) × (others : List (Worker N E))
-        × (result.folder ≡ Some kept) × (D.disk kept ≡ D.disk folder)
-        × (workers.old.items ≡ before ∷ others) × (workers.new.items ≡ after ∷ others)
-        × (E.drawn after.entropy ≡ E.drawn before.entropy)
-        × HasReason
-        (record { left = N.Conn.left; taken = N.Conn.taken; read_faults = N.Conn.read_faults; write_faults = N.Conn.write_faults })
-        (record {
-          words = words_of words.now;
-          disk = D.disk folder;
-          secret = S.left secret.old;
-          secret_after = S.left secret.new;
-          secret_faults = S.faults secret.old;
-          secret_faults_after = S.faults secret.new;
-          second = K.second clock.now;
-          listener = record {
-            to_come = N.to_come before.listener;
-            to_come_after = N.to_come after.listener;
-            given = N.given_back before.listener;
-            given_after = N.given_back after.listener;
-          };
-          listener_faults = N.faults before.listener;
-          listener_faults_after = N.faults after.listener;
-          counts = record {
-            folder = D.faults folder;
-            folder_after = D.faults kept;
-            entropy = E.faults before.entropy;
-            entropy_after = E.faults after.entropy;
-          };
-        })
-        ending
-        × IsReported (Rose (O.faults out.old) (O.faults out.new)) (O.taken out.old) (O.taken out.new) ending result.status }
+    ensures run { HasRun
+        (views_of D.log D.faults D.changes N.to_come N.given_back N.faults
+        N.Conn.left N.Conn.taken N.Conn.read_faults N.Conn.write_faults E.drawn E.faults)
+        (words_of words.now) (course (source_view S.left S.faults) secret.old secret.new) (K.second clock.now)
+        folder workers.old.items workers.new.items (course (sink_view O.taken O.faults) out.old out.new) result }
 {
     let _ = rt;
     let _ = gate;
@@ -107,8 +82,8 @@ pub fn run<R, D: Folder, N: Listener, E: Entropy, S: Source, O: Sink, K: Clock, 
     }
 }
 
-/// Serves the first worker's share over an open vault, closes the vault, and reports it: `serving` before, and the last line after. Once the
-/// sink failed, nothing more is written.
+// Serves the first worker's share over an open vault, closes the vault, and reports it: `serving` before, and the last line after.
+// Once the sink failed, nothing more is written.
 fn serve_vault<D: Folder, N: Listener, E: Entropy, O: Sink, K: Clock>(
     alloc: Global,
     store: Store<D>,
@@ -117,24 +92,10 @@ fn serve_vault<D: Folder, N: Listener, E: Entropy, O: Sink, K: Clock>(
     clock: &K,
 ) -> Ended<D>
     requires { 1 ≤ vec_len workers.old }
-    ensures { (ending : Ending) × (kept : D) × (before : Worker N E) × (after : Worker N E) × (others : List (Worker N E))
-        × (result.folder ≡ Some kept) × (D.disk kept ≡ D.disk (folder_of store))
-        × (workers.old.items ≡ before ∷ others) × (workers.new.items ≡ after ∷ others)
-        × EndsServing
-        (record {
-          view = record { left = N.Conn.left; taken = N.Conn.taken; read_faults = N.Conn.read_faults; write_faults = N.Conn.write_faults };
-          listener = record {
-            to_come = N.to_come before.listener;
-            to_come_after = N.to_come after.listener;
-            given = N.given_back before.listener;
-            given_after = N.given_back after.listener;
-          };
-          faults = N.faults before.listener;
-          faults_after = N.faults after.listener;
-          second = K.second clock.now;
-        })
-        D.disk D.faults E.faults E.drawn store before.entropy kept after.entropy ending
-        × IsReported (Rose (O.faults out.old) (O.faults out.new)) (O.taken out.old) (O.taken out.new) ending result.status }
+    ensures served { HasServedVault
+        (views_of D.log D.faults D.changes N.to_come N.given_back N.faults
+        N.Conn.left N.Conn.taken N.Conn.read_faults N.Conn.write_faults E.drawn E.faults)
+        (K.second clock.now) store workers.old.items workers.new.items (course (sink_view O.taken O.faults) out.old out.new) result }
 {
     let serving = announce(out);
     let worker = workers.remove(0);
@@ -150,7 +111,7 @@ fn serve_vault<D: Folder, N: Listener, E: Entropy, O: Sink, K: Clock>(
     }
 }
 
-/// Writes the report's first line.
+// Writes the report's first line.
 fn announce<O: Sink>(out: &mut O) -> Result<(), Failed>
     ensures whole { OnOk result (Changes (O.taken out.old) (O.taken out.new) (λ old new. new ≡ old ++ serving)) }
     ensures part { OnErr result (Changes (O.taken out.old) (O.taken out.new) (TakesPart serving)) }
@@ -159,7 +120,7 @@ fn announce<O: Sink>(out: &mut O) -> Result<(), Failed>
     write_all(out, b"serving\n")
 }
 
-/// Puts a worker back to the front of the others, from where it was taken.
+// Puts a worker back to the front of the others, from where it was taken.
 fn put_back<N, E>(workers: &mut Vec<Worker<N, E>>, worker: Worker<N, E>)
     requires { vec_len workers.old < vec_capacity workers.old }
     ensures { workers.new.items ≡ worker ∷ workers.old.items }
@@ -170,7 +131,7 @@ fn put_back<N, E>(workers: &mut Vec<Worker<N, E>>, worker: Worker<N, E>)
     }
 }
 
-/// Reports what serving came to, and gives the program's status.
+// Reports what serving came to, and gives the program's status.
 fn report_outcome<O: Sink>(alloc: Global, out: &mut O, outcome: Outcome) -> u8
     ensures { (ends : List SessionEnd) → AreCounted ends outcome → (ending : Ending) × MayEnd ends outcome ending × (text : List ℕ)
         × (report_of ending ≡ serving ++ text)

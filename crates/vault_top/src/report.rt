@@ -2,8 +2,8 @@
 
 ghost use Rattle.std.specs.Prelude.{◌≡◌, ◌≤◌, List, ◌++◌, length, take, IfOk, OnOk, OnErr, IsErr, string_bytes, decimal, option_to_list};
 ghost use Rattle.outside.specs.Calls.{Rose, HasCause, Changes};
-ghost use Rattle.vault_top.specs.Report.{sessions_line};
-ghost use Rattle.vault_top.specs.Writing.{TakesPart, IsWritten};
+ghost use Rattle.vault_top.specs.Report.{sessions_line, TakesPart};
+ghost use Rattle.vault_top.specs.Writing.{IsWritten};
 
 use outside::{Failed, Sink};
 use session_server::SessionEnd;
@@ -17,10 +17,8 @@ pub(crate) fn write_all<O: Sink>(out: &mut O, bytes: &[u8]) -> Result<(), Failed
 {
     let mut count = 0;
     while count < bytes.len() {
-        match out.write(&bytes[count..]) {
-            Ok(more) => count += more,
-            Err(failed) => return Err(failed),
-        }
+        let more = out.write(&bytes[count..])?;
+        count += more;
     }
     Ok(())
 }

@@ -44,10 +44,7 @@ pub(crate) fn read_keys<S: Source>(secret: &mut S) -> Result<VaultKeys, SecretEr
     ensures cause { HasCause (S.faults secret.old) (S.faults secret.new) (IsErrOf result SecretErr.Device) }
 {
     let mut line = [0u8; DIGITS];
-    let count = match read_line(secret, &mut line) {
-        Ok(count) => count,
-        Err(error) => return Err(error),
-    };
+    let count = read_line(secret, &mut line)?;
     match decode_keys(&line[..count]) {
         Some(keys) => Ok(keys),
         None => Err(SecretErr::Bad),
@@ -85,10 +82,9 @@ fn next_byte<S: Source>(secret: &mut S) -> Result<Option<u8>, Failed>
     ensures cause { HasCause (S.faults secret.old) (S.faults secret.new) (IsErr result) }
 {
     let mut byte = [0u8; 1];
-    match secret.read(&mut byte) {
-        Ok(0) => Ok(None),
-        Ok(_) => Ok(Some(byte[0])),
-        Err(failed) => Err(failed),
+    match secret.read(&mut byte)? {
+        0 => Ok(None),
+        _ => Ok(Some(byte[0])),
     }
 }
 

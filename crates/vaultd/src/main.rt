@@ -6,10 +6,14 @@ ghost use Rattle.std.specs.declared.io.ErrorKind.TheVariants.{InvalidData};
 ghost use Rattle.std.specs.IoError.{error_kind};
 ghost use Rattle.vault_top.specs.Words.{words_of};
 ghost use Rattle.vault_top.specs.Ending.{report_of, status_of};
-ghost use Rattle.vaultd.specs.Starting.{IsStatus, ListensOnStreams, StandsAt, ending_of};
+ghost use Rattle.outside_real.specs.Behind.{base_of};
+ghost use Rattle.vault_top.specs.Span.{views_of};
+ghost use Rattle.vaultd.specs.Starting.{IsRunOf, IsStatus, ListensOnStreams, StandsAt, directory_in, ending_of};
 
-use outside::{Gate, Sink, Stage};
-use outside_real::{HostClock, HostFolder, HostListen, NullSink, OsEntropy, StdSink, StdSource};
+use outside::{Entropy, Gate, Link, Listener, Reads, Sink, Stage};
+use outside_real::{
+    HostClock, HostFolder, HostLink, HostListen, NullSink, OsEntropy, StdSink, StdSource,
+};
 use std::alloc::AllocError;
 use std::io::{ErrorKind, Input};
 use std::process::ExitCode;
@@ -109,16 +113,31 @@ fn listens_on_streams(words: &[String]) -> bool
     false
 }
 
+// The folder that the words name: their second, and the empty path where there is none.
+fn directory(words: &[String]) -> &str
+    ensures { result.now ≡ directory_in (words_of words.now) }
+{
+    match words.get(1) {
+        Some(word) => word.as_str(),
+        None => "",
+    }
+}
+
 /// Makes the objects of the outside and runs the job that these words are.
-fn serve<R: Clock + Files + Input + Print + AllocGlobal, O: Sink>(
-    rt: &R,
+fn serve<'a, R: Clock + Files + Input + Print + AllocGlobal, O: Sink>(
+    rt: &'a R,
     words: &[String],
     out: &mut O,
 ) -> Result<u8, AllocError>
-    ensures { IfOk result (IsStatus (words_of words.now)) }
+    ensures status { IfOk result (IsStatus (words_of words.now)) }
+    ensures run { IfOk result (IsRunOf
+        (views_of ⟦<HostFolder<&'a R> as Reads>⟧.log ⟦<HostFolder<&'a R> as Reads>⟧.faults ⟦<HostFolder<&'a R> as Reads>⟧.changes
+        ⟦<HostListen<&'a R> as Listener>⟧.to_come ⟦<HostListen<&'a R> as Listener>⟧.given_back ⟦<HostListen<&'a R> as Listener>⟧.faults
+        ⟦<HostLink<&'a R> as Link>⟧.left ⟦<HostLink<&'a R> as Link>⟧.taken ⟦<HostLink<&'a R> as Link>⟧.read_faults ⟦<HostLink<&'a R> as Link>⟧.write_faults
+        ⟦<OsEntropy<&'a R> as Entropy>⟧.drawn ⟦<OsEntropy<&'a R> as Entropy>⟧.faults)
+        base_of (words_of words.now)) }
 {
-    let directory = words.get(1).map_or("", |word| word.as_str());
-    let folder = HostFolder::new(rt, rt.alloc(), directory)?;
+    let folder = HostFolder::new(rt, rt.alloc(), directory(words))?;
     let mut workers = Vec::new(rt.alloc());
     workers.push(Worker {
         listener: HostListen::new(rt),

@@ -8,10 +8,10 @@ loop-count-preserved g c =
     let inv = c.loop-count.invariant in
     let bytes = c.args.bytes.now in
     let rest = drop c.loop-count.count bytes in
-    let fits : c.in-Ok.more ≤ length bytes - c.loop-count.count =
-    omega (arith, c.in-Ok.ensures.count, length-take (length bytes - c.loop-count.count) rest, length-drop c.loop-count.count bytes)
+    let fits : c.in_ok-more.more ≤ length bytes - c.loop-count.count =
+    omega (arith, c.in_ok-more.ensures.count, length-take (length bytes - c.loop-count.count) rest, length-drop c.loop-count.count bytes)
     in (
       omega (arith, fits, inv.0),
-      writes_behind _ _ _ c.loop-count.count c.in-Ok.more bytes fits inv.1 c.in-Ok.ensures.bytes,
+      writes_behind _ _ _ c.loop-count.count c.in_ok-more.more bytes fits inv.1 c.in_ok-more.ensures.bytes,
       omega (arith, inv.2, c.write.ensures.cause.later),
     )

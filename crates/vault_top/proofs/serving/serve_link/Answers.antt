@@ -1,31 +1,25 @@
 use Rattle.std.proofs.Common.{refl, inr}
-use Rattle.vault_top.proofs.Shares.{changes_none, changes_to, changes_from, served_none, served_all, served_one}
+use Rattle.std.proofs.lemmas.Result.{err_from_is_err_and}
+use Rattle.outside.proofs.Told.{unchanged}
+use Rattle.vault_top.proofs.Shares.{changes_to, changes_from, served_none, served_all, served_one}
 use Rattle.vault_top.proofs.serving.serve_link.Goals as goal
 
-pub returns-in-Ok-Some-clause-served : goal.returns-in-Ok-Some-clause-served
-returns-in-Ok-Some-clause-served g c =
-    let talk = c.serve_session-end.ensures.talk in
-    let next = rw c.in-Ok-Some.field-0-is at c.in-Ok-Some.ensures.link in
-    served_one _ _ (g.B.TreeObject.stands c.args.object.now) (g.B.TreeObject.stands c.serve_session-end.new.object)
-    (record { came = c.in-Ok-Some.link; given = c.serve_session-end.new.link; end = c.serve_session-end.result }) talk.1
-    (record {
-      input = talk.0;
-      out = talk.2;
-      sent = talk.3;
-      talk = talk.4;
-      read = talk.5;
-      written = talk.6;
-      sent_is = talk.7;
-      read_fault = c.serve_session-end.ensures.read_fault;
-      write_fault = c.serve_session-end.ensures.write_fault;
-    })
-    (changes_to _ _ _ _ c.back.ensures.to_come next) (changes_from _ _ _ _ c.in-Ok-Some.ensures.given c.back.ensures.given) talk.8 talk.9
+pub returns-clause-served : goal.returns-clause-served
+returns-clause-served g c =
+    let next = rw c.in-Some.is at c.in_ok-link.ensures.link in
+    served_one g.B.TreeObject.stands c.args.object.now c.serve_session-end.new.object _ _ _ _ _
+    (record { came = c.in-Some.link; given = c.serve_session-end.new.link; end = c.serve_session-end.result })
+    c.serve_session-end.ensures.talked (changes_to _ _ _ _ c.back.ensures.to_come next) (changes_from _ _ _ _ c.in_ok-link.ensures.given c.back.ensures.given)
 
-pub returns-in-Ok-None-clause-served : goal.returns-in-Ok-None-clause-served
-returns-in-Ok-None-clause-served g c =
-    let next = rw c.in-Ok-None.field-0-is at c.in-Ok-None.ensures.link in
-    served_all _ _ (g.B.TreeObject.stands c.args.object.now) next c.in-Ok-None.ensures.given
+pub returns-in_default-clause-served : goal.returns-in_default-clause-served
+returns-in_default-clause-served g c =
+    let next = rw c.in_default.is at c.in_ok-link.ensures.link in
+    served_all g.B.TreeObject.stands c.args.object.now _ _ _ _ _ next c.in_ok-link.ensures.given
 
-pub returns-in-Err-clause-served : goal.returns-in-Err-clause-served
-returns-in-Err-clause-served g c =
-    served_none _ _ (g.B.TreeObject.stands c.args.object.now) (changes_none _ _ _ c.in-Err.ensures.failed (λ x. (refl, inr refl))) c.in-Err.ensures.given
+pub returns-in_err-link-clause-served : goal.returns-in_err-link-clause-served
+returns-in_err-link-clause-served g c =
+    let p = err_from_is_err_and c.from_residual.result c.from_residual.ensures.1 in
+    rw p.1
+    (served_none g.B.TreeObject.stands c.args.object.now _ _ _ _ _
+    (unchanged (g.N.Listener.to_come c.args.listener.now) (g.N.Listener.to_come c.next.new.self) _ c.in_err-link.ensures.failed (λ x. (refl, inr refl)))
+    c.in_err-link.ensures.given)

@@ -1,4 +1,5 @@
 use Rattle.std.proofs.Common.{ℕ, ◌+◌, ◌-◌, ◌^◌, min, ap, ◌∙◌, arith}
+use Rattle.outside.specs.Views.{folder_view}
 use Rattle.tree_model.specs.Asked.{plain_request, plain_reply}
 use Rattle.vault_store.proofs.StoreLemmas.{adds_entry}
 use Rattle.vault_store.proofs.store.Store.serve.Goals as goal
@@ -6,6 +7,10 @@ use Rattle.vault_store.proofs.store.Store.serve.Goals as goal
 pub returns-clause-entry : goal.returns-clause-entry
 returns-clause-entry g c =
     let kept = c.reply-reply.ensures.kept in
-    adds_entry g.D.Reads.disk g.D.Reads.faults c.args.self.now (record c.reply-reply.new.self { entries = c.saturating_add-self.result }) (plain_request c.args.request.now) c.args.now
+    adds_entry (folder_view g.D.Reads.log g.D.Reads.faults g.D.Reads.changes) c.args.self.now (record c.reply-reply.new.self { entries = c.saturating_add-self.result }) (plain_request c.args.request.now) c.args.now
     (plain_reply c.reply-reply.result) c.reply-reply.new.buffer (g.E.Entropy.faults c.args.entropy.now) (g.E.Entropy.faults c.args.entropy.now)
-    c.reply-reply.ensures.disk c.reply-reply.ensures.later (omega arith) kept.keys kept.loaded kept.opened_at (c.saturating_add-self.ensures ∙ ap (λ (n : ℕ). min (n + 1) (2 ^ 64 - 1)) kept.entries) c.reply-reply.ensures.answer
+    (record { log = c.reply-reply.ensures.log; changes = c.reply-reply.ensures.changes; faults = c.reply-reply.ensures.later }) (omega arith) kept.keys kept.loaded kept.opened_at
+    (c.saturating_add-self.ensures ∙ ap (λ (n : ℕ). min (n + 1) (2 ^ 64 - 1)) kept.entries) c.reply-reply.ensures.answer c.reply-reply.ensures.caused c.reply-reply.ensures.rows
+
+pub returns-clause-enters : goal.returns-clause-enters
+returns-clause-enters g c = c.reply-reply.ensures.enters
