@@ -3,4 +3,6 @@ pub mod Places
 pub mod Marks
 pub mod Queue
 pub mod Rows
+pub mod Kept
+pub mod Scan
 pub mod Laws
