@@ -1,3 +1,4 @@
 pub mod Links
 pub mod SoFar
 pub mod Stops
+pub mod Whole

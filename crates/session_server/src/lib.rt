@@ -9,7 +9,9 @@
 mod ending;
 mod frame;
 mod full;
+mod laws;
 mod server;
 
 pub use ending::SessionEnd;
+pub use laws::a_session_of_whole_messages_is_done;
 pub use server::serve_session;

@@ -6,3 +6,4 @@ pub mod Asked
 pub mod Step
 pub mod NotBuilt
 pub mod History
+pub mod Laws

@@ -1,0 +1,17 @@
+//! What the definitions say of every talk.
+
+ghost use Rattle.std.specs.Prelude.{ℕ, List, Option};
+ghost use Rattle.outside.specs.Views.{LinkView};
+ghost use Rattle.tree_model.specs.Asked.{Asked};
+ghost use Rattle.session_server.specs.Served.{TalkedOn};
+ghost use Rattle.session_server.specs.Whole.{IsWhole, IsFaultless, IsServedWhole};
+
+use crate::ending::SessionEnd;
+
+/// A session of whole messages over a link that never fails is done, and answered them all; but for want of memory, where it
+/// read nothing. It does nothing.
+pub fn a_session_of_whole_messages_is_done()
+    ensures { (before after : LinkView) (second : Option ℕ) (end : SessionEnd) (asked : List Asked)
+        (talked : TalkedOn before after second end asked) (whole : IsWhole before.left) → IsFaultless before after
+        → IsServedWhole whole.messages talked.talk.frames before after end }
+{}
