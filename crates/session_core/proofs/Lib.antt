@@ -5,3 +5,7 @@ pub mod Names
 pub mod Tests
 pub mod Walks
 pub mod Exchanges
+pub mod ReadsOn
+pub mod Backs
+pub mod Effects
+pub mod FoundBack

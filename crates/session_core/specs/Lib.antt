@@ -10,4 +10,5 @@ pub mod Outcome
 pub mod Change
 pub mod Forms
 pub mod Session
+pub mod LookBack
 pub mod Inside
