@@ -3,3 +3,5 @@ pub mod FirstJournal
 pub mod Faults
 pub mod Pieces
 pub mod Commits
+pub mod Damage
+pub mod Openings

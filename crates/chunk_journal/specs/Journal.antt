@@ -1,36 +1,10 @@
 -- The journal of a folder, and what an image of it recovers to.
-use Rattle.std.specs.Prelude.{◌≡◌, ◌≢◌, ◌⊎◌, ℕ, List, [], ◌∷◌, ◌++◌, get_or, Some, None, refl}
-use Rattle.outside.specs.Disk.{Disk, Path, file, node_at, IsFolder}
+use Rattle.std.specs.Prelude.{◌≡◌, ◌≢◌, ◌⊎◌, ℕ, List, ◌∷◌, ◌++◌, get_or, Some, None}
+use Rattle.outside.specs.Disk.{Disk, file, node_at, IsFolder}
 use Rattle.outside.specs.Images.{Log, now, LeavesOnly, IsSteady}
-use Rattle.deeds.specs.Deeds.{PlainDeed, DoesAll, AreApart, Unnamed, IsAlikeBut, in_order}
+use Rattle.deeds.specs.Deeds.{PlainDeed, DoesAll, IsAlikeBut, in_order}
 use Rattle.deeds.specs.Grammar.{IsBatch, behind_gate}
-
--- `served.journal`
-pub journal_name : List ℕ
-journal_name = 115 ∷ 101 ∷ 114 ∷ 118 ∷ 101 ∷ 100 ∷ 46 ∷ 106 ∷ 111 ∷ 117 ∷ 114 ∷ 110 ∷ 97 ∷ 108 ∷ []
-
--- `served.journal.new`
-pub new_name : List ℕ
-new_name = 115 ∷ 101 ∷ 114 ∷ 118 ∷ 101 ∷ 100 ∷ 46 ∷ 106 ∷ 111 ∷ 117 ∷ 114 ∷ 110 ∷ 97 ∷ 108 ∷ 46 ∷ 110 ∷ 101 ∷ 119 ∷ []
-
-pub names_apart : new_name ≢ journal_name
-unfolding journal_name new_name
-names_apart e = cc
-
-abbrev pub journal_file : Path
-journal_file = journal_name ∷ []
-
-abbrev pub new_file : Path
-new_file = new_name ∷ []
-
--- the bytes of the names are these, and both are paths
-pub journal_spelled : journal_name ≡ 115 ∷ 101 ∷ 114 ∷ 118 ∷ 101 ∷ 100 ∷ 46 ∷ 106 ∷ 111 ∷ 117 ∷ 114 ∷ 110 ∷ 97 ∷ 108 ∷ []
-unfolding journal_name
-journal_spelled = refl
-
-pub new_spelled : new_name ≡ 115 ∷ 101 ∷ 114 ∷ 118 ∷ 101 ∷ 100 ∷ 46 ∷ 106 ∷ 111 ∷ 117 ∷ 114 ∷ 110 ∷ 97 ∷ 108 ∷ 46 ∷ 110 ∷ 101 ∷ 119 ∷ []
-unfolding new_name
-new_spelled = refl
+pub use Rattle.deeds.specs.Repeatable.{journal_name, new_name, names_apart, journal_file, new_file, IsRepeatable}
 
 -- ---- what an image recovers to
 
@@ -67,12 +41,6 @@ pub record IsReady (log : Log) : Type 0 where
   pub here : node_at (now log) journal_file ≡ Some (file (gate ∷ rest))
   pub shut : gate ≢ 1
   pub no_folder : IsFolder (now log) new_file → ⊥
-
--- no path is named by two deeds, and none of the journal's by any
-pub record IsRepeatable (deeds : List PlainDeed) : Type 0 where
-  pub apart : AreApart deeds
-  pub beside_journal : Unnamed journal_file deeds
-  pub beside_new : Unnamed new_file deeds
 
 -- at each moment since, whatever the deeds leave in the end, an image recovers to what was before or to that
 abbrev pub AnyMoment : List PlainDeed → Log → Log → Type 0

@@ -1,4 +1,5 @@
 use outside::FolderErr;
+use std::alloc::AllocError;
 use thiserror::Error;
 
 /// The folder's count of faults rose: the folder is to be opened again.
@@ -11,5 +12,55 @@ impl From<FolderErr> for Device {
 
     fn from(_error: FolderErr) -> Device {
         Device
+    }
+}
+
+/// Why a journal wasn't opened.
+#[derive(Clone, Copy, Debug, PartialEq, Eq, Error)]
+pub enum JournalErr {
+    /// The folder failed: its count of faults rose in this call.
+    #[error("the folder failed")]
+    Device,
+    /// The journal is damaged at this offset in its file: 0 where a folder stands at `served.journal` or
+    /// `served.journal.new`, before or after the batch; else the first of these: the file's length where it ends before its
+    /// batch does, 9 where the count of deeds doesn't fit, the first deed outside the grammar, the first byte behind the
+    /// last deed, the first deed in the order of doing that the folder doesn't fit.
+    #[error("the journal is damaged at byte {0}")]
+    JournalDamaged(u64),
+    /// Memory ran out.
+    #[error("out of memory")]
+    Memory,
+}
+
+impl From<FolderErr> for JournalErr {
+    ghost use Rattle.std.specs.Prelude.{◌≡◌};
+    ghost use Rattle.chunk_journal.specs.declared.fault.JournalErr.TheVariants.{Device};
+
+    ghost from_gives = { λ _ e. e ≡ Device };
+
+    fn from(_error: FolderErr) -> JournalErr {
+        JournalErr::Device
+    }
+}
+
+impl From<Device> for JournalErr {
+    ghost use Rattle.std.specs.Prelude.{◌≡◌};
+    ghost use Rattle.chunk_journal.specs.declared.fault.JournalErr.TheVariants.{Device};
+
+    ghost from_gives = { λ _ e. e ≡ Device };
+
+    fn from(_error: Device) -> JournalErr {
+        JournalErr::Device
+    }
+}
+
+impl From<AllocError> for JournalErr {
+    ghost use Rattle.std.specs.Prelude.{◌≡◌};
+    ghost use Rattle.chunk_journal.specs.declared.fault.JournalErr.TheVariants.{Memory};
+
+    ghost from_gives = { λ _ e. e ≡ Memory };
+
+    fn from(_error: AllocError) -> JournalErr {
+        JournalErr::Memory
     }
 }

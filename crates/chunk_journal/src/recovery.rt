@@ -1,20 +1,25 @@
-ghost use Rattle.std.specs.Prelude.{◌≡◌, OnOk, OnErr, IsErr};
+ghost use Rattle.std.specs.Prelude.{◌≡◌, ◌≢◌, ◌⊎◌, ◌+◌, ◌∷◌, [], ℕ, OnOk, OnErr, IfErr, IsErr, IsErrOf, length, take};
 ghost use Rattle.outside.specs.Calls.{HasCause, Told, Changes};
-ghost use Rattle.outside.specs.Disk.{Disk};
-ghost use Rattle.outside.specs.Images.{now, IsImage, IsSteady, LeavesOnly};
-ghost use Rattle.deeds.specs.Deeds.{DoesAll, in_order};
-ghost use Rattle.chunk_journal.specs.Journal.{journal_file, IsRepeatable, IsFound, StaysRecovered, HasRecovered};
+ghost use Rattle.outside.specs.Disk.{Disk, Path, node_at};
+ghost use Rattle.outside.specs.Changes.{Write, IsPartOf};
+ghost use Rattle.outside.specs.Images.{now, adds, Synced, IsImage, IsSteady, LeavesOnly};
+ghost use Rattle.deeds.specs.Deeds.{DoesAll, StaysAmid, IsRefusedAt, in_order};
+ghost use Rattle.deeds.specs.Grammar.{IsBatch, spelled_deeds};
+ghost use Rattle.chunk_journal.specs.Journal.{journal_file, new_file, IsAlike, IsQuiet, IsRepeatable, IsFound, StaysRecovered};
+ghost use Rattle.chunk_journal.specs.Opening.{HasFolder, IsUnfitAt, IsDamagedAt, LeavesFolder, IfDamaged, IsOpening, StaysOpening, HasOpened};
 
-use crate::fault::Device;
-use crate::running::do_deeds;
-use crate::steps::{CLOSED, GATE, journal_path, write_synced};
-use deeds::Batch;
+use crate::fault::{Device, JournalErr};
+use crate::reading::{BATCH, journal_len, open_batch};
+use crate::steps::{CLOSED, GATE, write_synced};
+use deeds::{Batch, DeedErr, do_batch, journal_path, new_path};
 use outside::Folder;
+use std::alloc::Global;
 use vault_path::VaultPath;
 
 /// Begins an opening: after the sync all is on the disk, and no stop leaves what it couldn't have left before.
-pub fn settle<D: Folder>(folder: &mut D) -> Result<(), Device>
-    ensures steady { OnOk result (Changes (D.log folder.old) (D.log folder.new) (λ old new. IsSteady new × (now new ≡ now old))) }
+fn settle<D: Folder>(folder: &mut D) -> Result<(), Device>
+    ensures synced { OnOk result (Changes (D.log folder.old) (D.log folder.new) (λ old new. new ≡ adds old Synced)) }
+    ensures steady { OnOk result (Changes (D.log folder.old) (D.log folder.new) (λ old new. IsSteady new)) }
     ensures any_moment { OnOk result (Changes (D.log folder.old) (D.log folder.new) (λ old new. LeavesOnly old new (IsImage old))) }
     ensures broken { OnErr result (D.log folder.new ≡ D.log folder.old) }
     ensures cause { HasCause (D.faults folder.old) (D.faults folder.new) (IsErr result) }
@@ -23,30 +28,83 @@ pub fn settle<D: Folder>(folder: &mut D) -> Result<(), Device>
     Ok(())
 }
 
-/// Does the batch of a journal that was found open, each of whose deeds can be done, and closes its gate.
-pub fn finish<D: Folder>(folder: &mut D, batch: &Batch) -> Result<(), Device>
-    requires repeatable { IsRepeatable batch.now }
-    requires found { Told (D.log folder.old) (IsFound batch.now) }
-    requires can { Told (D.log folder.old) (λ log. (after : Disk) × DoesAll (in_order batch.now) (now log) after) }
-    ensures recovered { OnOk result (Changes (D.log folder.old) (D.log folder.new) (HasRecovered batch.now)) }
-    ensures any_moment { Changes (D.log folder.old) (D.log folder.new) (StaysRecovered batch.now) }
-    ensures cause { HasCause (D.faults folder.old) (D.faults folder.new) (IsErr result) }
+/// Does the deeds of a batch, up to the first that the folder doesn't fit.
+fn redo_deeds<D: Folder>(folder: &mut D, batch: &Batch) -> Result<(), JournalErr>
+    requires steady { Told (D.log folder.old) IsSteady }
+    ensures done { OnOk result (Changes (D.log folder.old) (D.log folder.new)
+        (λ old new. IsSteady new × DoesAll (in_order batch.now) (now old) (now new))) }
+    ensures amid { Changes (D.log folder.old) (D.log folder.new) (StaysAmid (in_order batch.now)) }
+    ensures damaged { IfErr result (λ error. IfDamaged error (λ at. Told (D.log folder.old) (λ log. (index : ℕ)
+        × IsRefusedAt batch.now index (now log) × (at ≡ 13 + length (spelled_deeds (take index batch.now)))))) }
+    ensures cause { HasCause (D.faults folder.old) (D.faults folder.new) (IsErrOf result JournalErr.Device) }
+    ensures batch { IsBatch batch.now }
 {
-    let journal = journal_path();
-    finish_at(folder, &journal, batch)?;
+    match do_batch(folder, batch) {
+        Ok(()) => Ok(()),
+        Err(DeedErr::Failed) => Err(JournalErr::Device),
+        Err(DeedErr::Unfit(index)) => {
+            let before = batch.len_before(index);
+            Err(JournalErr::JournalDamaged(BATCH + before as u64))
+        }
+    }
+}
+
+/// Closes the gate, where a journal is there.
+fn close<D: Folder>(
+    folder: &mut D,
+    journal: &VaultPath,
+    beside: &VaultPath,
+) -> Result<(), JournalErr>
+    requires journal { journal.now ≡ journal_file }
+    requires beside { beside.now ≡ new_file }
+    requires steady { Told (D.log folder.old) IsSteady }
+    ensures closed { OnOk result (Changes (D.log folder.old) (D.log folder.new)
+        (λ old new. IsQuiet new × ((q : Path) → q ≢ journal_file → node_at (now new) q ≡ node_at (now old) q))) }
+    ensures any_moment { Changes (D.log folder.old) (D.log folder.new)
+        (λ old new. LeavesOnly old new (IsPartOf (Write journal_file 0 (0 ∷ [])) (now old))) }
+    ensures damaged { IfErr result (λ error. IfDamaged error (λ at. Told (D.log folder.old) (λ log. HasFolder (now log) × (at ≡ 0)))) }
+    ensures cause { HasCause (D.faults folder.old) (D.faults folder.new) (IsErrOf result JournalErr.Device) }
+{
+    if journal_len(folder, journal, beside)?.is_some() {
+        write_synced(folder, journal, GATE, &[CLOSED])?;
+    }
     Ok(())
 }
 
-fn finish_at<D: Folder>(folder: &mut D, journal: &VaultPath, batch: &Batch) -> Result<(), Device>
+/// Does the batch of a journal that was found open, and closes its gate.
+fn redo<D: Folder>(
+    folder: &mut D,
+    journal: &VaultPath,
+    beside: &VaultPath,
+    batch: &Batch,
+) -> Result<(), JournalErr>
     requires journal { journal.now ≡ journal_file }
-    requires repeatable { IsRepeatable batch.now }
+    requires beside { beside.now ≡ new_file }
     requires found { Told (D.log folder.old) (IsFound batch.now) }
-    requires can { Told (D.log folder.old) (λ log. (after : Disk) × DoesAll (in_order batch.now) (now log) after) }
-    ensures recovered { OnOk result (Changes (D.log folder.old) (D.log folder.new) (HasRecovered batch.now)) }
-    ensures any_moment { Changes (D.log folder.old) (D.log folder.new) (StaysRecovered batch.now) }
-    ensures cause { HasCause (D.faults folder.old) (D.faults folder.new) (IsErr result) }
+    ensures redone { OnOk result (Changes (D.log folder.old) (D.log folder.new) (λ old new.
+        IsQuiet new × ((after : Disk) × DoesAll (in_order batch.now) (now old) after × IsAlike after (now new)))) }
+    ensures any_moment { Changes (D.log folder.old) (D.log folder.new) (λ old new. IsRepeatable batch.now → StaysRecovered batch.now old new) }
+    ensures damaged { IfErr result (λ error. IfDamaged error (λ at. Told (D.log folder.old) (λ log. IsUnfitAt (now log) at ⊎ LeavesFolder (now log) at))) }
+    ensures cause { HasCause (D.faults folder.old) (D.faults folder.new) (IsErrOf result JournalErr.Device) }
 {
-    do_deeds(folder, batch)?;
-    write_synced(folder, journal, GATE, &[CLOSED])?;
+    redo_deeds(folder, batch)?;
+    close(folder, journal, beside)?;
+    Ok(())
+}
+
+/// Recovers a folder: what stands behind an open gate is done, and the gate is closed.
+pub fn recover<D: Folder>(alloc: Global, folder: &mut D) -> Result<(), JournalErr>
+    ensures opened { OnOk result (Changes (D.log folder.old) (D.log folder.new) HasOpened) }
+    ensures any_moment { Changes (D.log folder.old) (D.log folder.new) StaysOpening }
+    ensures damaged { IfErr result (λ error. IfDamaged error (λ at. Told (D.log folder.old) (λ log. IsDamagedAt (now log) at ⊎ LeavesFolder (now log) at))) }
+    ensures cause { HasCause (D.faults folder.old) (D.faults folder.new) (IsErrOf result JournalErr.Device) }
+{
+    settle(folder)?;
+    let journal = journal_path();
+    let beside = new_path();
+    let Some(batch) = open_batch(alloc, folder, &journal, &beside)? else {
+        return Ok(());
+    };
+    redo(folder, &journal, &beside, &batch)?;
     Ok(())
 }

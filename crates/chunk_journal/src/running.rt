@@ -10,8 +10,8 @@ ghost use Rattle.chunk_journal.specs.Journal.{journal_file, IsAlike, IsQuiet, Is
 use crate::fault::Device;
 use crate::first::make_first;
 use crate::stage::stage;
-use crate::steps::{CLOSED, GATE, OPEN, journal_path, new_path, write_synced};
-use deeds::{Batch, do_batch};
+use crate::steps::{CLOSED, GATE, OPEN, write_synced};
+use deeds::{Batch, do_batch, journal_path, new_path};
 use outside::{Folder, Kind};
 use vault_path::VaultPath;
 

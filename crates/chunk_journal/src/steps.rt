@@ -2,7 +2,6 @@ ghost use Rattle.std.specs.Prelude.{◌≡◌, OnOk, OnErr, IsErr};
 ghost use Rattle.outside.specs.Calls.{HasCause, Told, Changes};
 ghost use Rattle.outside.specs.Changes.{Put, Write, Move, CanDo, IsPartOf};
 ghost use Rattle.outside.specs.Images.{now, IsSteady, HasKept, LeavesOnly};
-ghost use Rattle.chunk_journal.specs.Journal.{journal_file, new_file};
 
 use crate::fault::Device;
 use outside::Folder;
@@ -19,26 +18,6 @@ pub const GATE: u64 = 0;
 
 /// The offset of what stands behind the gate.
 pub const BEHIND_GATE: u64 = 1;
-
-/// `served.journal`
-pub fn journal_path() -> VaultPath
-    ensures { result ≡ journal_file }
-{
-    match VaultPath::root().join(b"served.journal") {
-        Ok(path) => path,
-        Err(_) => unreachable!(),
-    }
-}
-
-/// `served.journal.new`
-pub fn new_path() -> VaultPath
-    ensures { result ≡ new_file }
-{
-    match VaultPath::root().join(b"served.journal.new") {
-        Ok(path) => path,
-        Err(_) => unreachable!(),
-    }
-}
 
 /// Writes bytes over those of a file, and syncs.
 pub fn write_synced<D: Folder>(

@@ -1,4 +1,5 @@
 pub mod Again
+pub mod Fronts
 pub mod Amid
 pub mod Frame
 pub mod Reshape

@@ -4,3 +4,4 @@ pub mod Plain
 pub mod Grammar
 pub mod Reading
 pub mod Writing
+pub mod Repeatable

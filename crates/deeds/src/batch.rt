@@ -63,6 +63,15 @@ impl Batch {
     {
         self.len
     }
+
+    /// How many bytes of the batch come before the deed at an index, or behind the last one where there is none.
+    pub fn len_before(&self, index: usize) -> usize
+        ensures count { result ≡ 4 + length (spelled_deeds (take index self.now)) }
+        ensures within { result ≤ length (spelled self.now) }
+    {
+        let deeds = self.deeds();
+        spelled_len(&deeds[..index.min(deeds.len())])
+    }
 }
 
 /// Fills `out` with the bytes that stand behind the journal's gate, from byte `from` of them on: the batch's length and the

@@ -30,6 +30,7 @@ mod deed;
 mod fault;
 mod phase;
 mod reading;
+mod repeatable;
 mod window;
 mod writes;
 mod writing;
@@ -42,6 +43,7 @@ pub use batch::{Batch, do_batch, read_batch, write_batch};
 pub use deed::{Deed, do_deed, do_phase};
 pub use fault::BatchErr;
 pub use phase::{DeedErr, Phase};
+pub use repeatable::{is_repeatable, journal_path, new_path};
 pub use writes::{Range, do_reshape};
 
 /// Deeds that name no path twice, done again on any disk amid their application, leave the same disk.

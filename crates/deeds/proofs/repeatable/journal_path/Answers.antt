@@ -1,6 +1,6 @@
 use Rattle.std.proofs.Common.{ℕ, List, [], ◌∷◌, ◌++◌, sym, ap, ◌∙◌}
-use Rattle.chunk_journal.specs.Journal.{journal_spelled}
-use Rattle.chunk_journal.proofs.steps.journal_path.Goals as goal
+use Rattle.deeds.specs.Repeatable.{journal_spelled}
+use Rattle.deeds.proofs.repeatable.journal_path.Goals as goal
 
 pub returns : goal.returns
 returns c = c.in-Ok.ensures.path ∙ ap (λ (l : List (List ℕ)). l ++ _) c.root.ensures ∙ ap (λ (name : List ℕ). name ∷ []) (sym journal_spelled)

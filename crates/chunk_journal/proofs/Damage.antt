@@ -1,0 +1,309 @@
+-- What is read of a journal, and where it is damaged.
+use Rattle.std.proofs.Common.{◌≡◌, ◌⊎◌, ⊎_elim, ℕ, zero, suc, ◌+◌, ◌-◌, ◌<◌, ◌≤◌, min, max, List, [], ◌∷◌, ◌++◌, length, take, drop, get_or, Option, Some, None, refl, sym, ap, subst, ◌∙◌, inl, inr, arith, length-append, length-drop, length-take, append_assoc}
+use Rattle.std.specs.Int.{w64, to_be_bytes, from_be_bytes}
+use Rattle.std.specs.List.{AllByRecursion}
+use Rattle.std.specs.Option.{option_map}
+use Rattle.std.proofs.lemmas.Nat.{be_bytes_8, from_be_bytes-to_be_bytes_4, from_be_bytes-to_be_bytes_8}
+use Rattle.std.proofs.lemmas.List.{take-append-drop, take-append-le, take_at, get_or-take, get_or_past}
+use Rattle.std.proofs.lemmas.Bool.{cases_lt}
+use Rattle.outside.specs.Disk.{Disk, Path, Node, folder, file, node_at, kind_of, IsFolder}
+use Rattle.outside.specs.declared.folder.Kind.{Kind}
+use Rattle.outside.specs.declared.folder.Kind.TheVariants.{Dir, File}
+use Rattle.deeds.specs.Deeds.{PlainDeed, DoesAll, IsRefusedAt, in_order}
+use Rattle.deeds.specs.Grammar.{spelled, spelled_deed, spelled_deeds, behind_gate, IsDeed, IsBatch, IsBadAt, count_of}
+use Rattle.deeds.specs.Reading.{deed_at}
+use Rattle.deeds.proofs.Fields.{some_is}
+use Rattle.deeds.proofs.DeedBytes.{deed_again}
+use Rattle.deeds.proofs.Batches.{refused_cannot}
+use Rattle.chunk_journal.specs.Journal.{journal_file, new_file, HoldsBatch, IsClosed, RecoversTo}
+use Rattle.chunk_journal.specs.Opening.{said_len, batch_bytes, IsShort, HasFolder, Says, IsCutAt, IsUnreadAt, IsUnfitAt, IsBadBehindGate, IsDamagedAt}
+use Rattle.chunk_journal.proofs.Gate.{one_held}
+
+-- ---- what stands at a path, by its kind
+
+some_kind : {k l : Kind} → Some k ≡ Some l → k ≡ l
+some_kind e = cc
+
+dir_of : (o : Option Node) → option_map kind_of o ≡ Some Dir → o ≡ Some folder
+dir_of None is = absurd cc
+dir_of (Some folder) is = refl
+dir_of (Some (file bytes)) is = absurd (let e : Some (File (length bytes)) ≡ Some Dir = is in cc)
+
+file_of : (o : Option Node) (len : ℕ) → option_map kind_of o ≡ Some (File len) → (bytes : List ℕ) × (o ≡ Some (file bytes)) × (length bytes ≡ len)
+file_of None len is = absurd cc
+file_of (Some folder) len is = absurd cc
+file_of (Some (file bytes)) len is = (bytes, refl, cc)
+
+none_of : (o : Option Node) → option_map kind_of o ≡ None → o ≡ None
+none_of None is = refl
+none_of (Some node) is = absurd (let e : Some (kind_of node) ≡ None = is in cc)
+
+-- ---- a batch that is whole is nowhere outside of the grammar
+
+front_deed : (d f : PlainDeed) (x y : List ℕ) → IsDeed d → IsDeed f → spelled_deed d ++ x ≡ spelled_deed f ++ y → (d ≡ f) × (x ≡ y)
+front_deed d f x y good_d good_f e =
+    let same = some_is (d, x) (f, y) (sym (deed_again d x good_d) ∙ ap deed_at e ∙ deed_again f y good_f) in
+    (ap (λ (p : PlainDeed × List ℕ). p.0) same, ap (λ (p : PlainDeed × List ℕ). p.1) same)
+
+-- what is left behind deeds that begin the bytes of others
+pub record IsFrontOf (front ds : List PlainDeed) (rest : List ℕ) : Type 0 where
+  pub others : List PlainDeed
+  pub long : length front + length others ≡ length ds
+  pub good : AllByRecursion IsDeed others
+  pub rest_is : rest ≡ spelled_deeds others
+
+one_more : (f d : PlainDeed) (front ds : List PlainDeed) (rest : List ℕ) → IsFrontOf front ds rest → IsFrontOf (f ∷ front) (d ∷ ds) rest
+one_more f d front ds rest is = record { others = is.others; long = omega (arith, is.long); good = is.good; rest_is = is.rest_is }
+
+front_of : (front ds : List PlainDeed) (rest : List ℕ) → AllByRecursion IsDeed front → AllByRecursion IsDeed ds → length front ≤ length ds → spelled_deeds ds ≡ spelled_deeds front ++ rest → IsFrontOf front ds rest
+front_of [] ds rest good_front good le e = record { others = ds; long = omega arith; good = good; rest_is = sym e }
+front_of (f ∷ front) [] rest good_front good le e = absurd (omega (arith, le))
+front_of (f ∷ front) (d ∷ ds) rest good_front good le e =
+    let same = front_deed d f (spelled_deeds ds) (spelled_deeds front ++ rest) good.0 good_front.0 (e ∙ append_assoc (spelled_deed f) (spelled_deeds front) rest) in
+    one_more f d front ds rest (front_of front ds rest good_front.1 good.1 (omega (arith, le)) same.1)
+
+no_more : (others : List PlainDeed) → length others ≡ 0 → spelled_deeds others ≡ []
+no_more [] is = refl
+no_more (d ∷ others) is = absurd (omega (arith, is))
+
+first_of_them : (others : List PlainDeed) (rest : List ℕ) → 0 < length others → AllByRecursion IsDeed others → rest ≡ spelled_deeds others
+    → ((deed : PlainDeed) (tail : List ℕ) → IsDeed deed → rest ≡ spelled_deed deed ++ tail → ⊥) → ⊥
+first_of_them [] rest some good is bad = absurd (omega (arith, some))
+first_of_them (d ∷ others) rest some good is bad = bad d (spelled_deeds others) good.0 is
+
+counted : (ds : List PlainDeed) → IsBatch ds → count_of (spelled ds) ≡ length ds
+counted ds batch = from_be_bytes-to_be_bytes_4 (length ds) batch.few
+
+pub whole_not_bad : (ds : List PlainDeed) (at : ℕ) → IsBatch ds → IsBadAt (spelled ds) at → ⊥
+whole_not_bad ds at batch (inl few) = omega (arith, few.0)
+whole_not_bad ds at batch (inr (inl bad)) =
+    let same = counted ds batch in
+    let f = front_of bad.front ds bad.rest bad.good batch.each (omega (arith, bad.fewer, same)) bad.parts in
+    first_of_them f.others bad.rest (omega (arith, f.long, bad.fewer, same)) f.good f.rest_is bad.bad
+whole_not_bad ds at batch (inr (inr over)) =
+    let same = counted ds batch in
+    let f = front_of over.front ds over.rest over.good batch.each (omega (arith, over.all, same)) over.parts in
+    let none = f.rest_is ∙ no_more f.others (omega (arith, f.long, over.all, same)) in
+    omega (arith, over.left, ap (λ (l : List ℕ). length l) none)
+
+-- ---- the bytes of a journal that holds a batch
+
+abbrev pub held_bytes : List PlainDeed → List ℕ → List ℕ
+held_bytes ds rest = 1 ∷ behind_gate ds ++ rest
+
+held_len : (ds : List PlainDeed) (rest : List ℕ) → IsBatch ds → said_len (held_bytes ds rest) ≡ length (spelled ds)
+held_len ds rest batch = from_be_bytes-to_be_bytes_8 (length (spelled ds)) (omega (arith, batch.short))
+
+held_batch_is : (ds : List PlainDeed) (rest : List ℕ) → IsBatch ds → batch_bytes (held_bytes ds rest) ≡ spelled ds
+held_batch_is ds rest batch =
+    ap (λ (n : ℕ). take n (spelled ds ++ rest)) (held_len ds rest batch) ∙ take_at (spelled ds) rest (length (spelled ds)) refl
+
+held_whole : (ds : List PlainDeed) (rest : List ℕ) → IsBatch ds → IsShort (held_bytes ds rest) → ⊥
+held_whole ds rest batch short =
+    let long : length (held_bytes ds rest) ≡ 9 + (length (spelled ds) + length rest) = omega (arith, length-append (spelled ds) rest) in
+    ⊎_elim (λ (few : length (held_bytes ds rest) < 9). omega (arith, few, long)) (λ (few : length (held_bytes ds rest) < 9 + said_len (held_bytes ds rest)). omega (arith, few, long, held_len ds rest batch)) short
+
+one_file : (o : Option Node) (a b : List ℕ) → o ≡ Some (file a) → o ≡ Some (file b) → a ≡ b
+one_file o a b ea eb = let e : Some (file a) ≡ Some (file b) = sym ea ∙ eb in cc
+
+pub held_not_bad : (disk after : Disk) (ds : List PlainDeed) (at : ℕ) → HoldsBatch disk ds → DoesAll (in_order ds) disk after → IsBadBehindGate disk at → ⊥
+held_not_bad disk after ds at held run bad =
+    let same : bad.bytes ≡ held_bytes ds held.1 = one_file (node_at disk journal_file) bad.bytes (held_bytes ds held.1) bad.here held.2 in
+    ⊎_elim
+    (λ (cut : IsCutAt bad.bytes at). held_whole ds held.1 held.0 (subst IsShort same cut.short))
+    (λ (others : IsUnreadAt bad.bytes at ⊎ IsUnfitAt disk at). ⊎_elim
+    (λ (unread : IsUnreadAt bad.bytes at). whole_not_bad ds unread.fault held.0 (subst (λ (l : List ℕ). IsBadAt l unread.fault) (ap batch_bytes same ∙ held_batch_is ds held.1 held.0) unread.bad))
+    (λ (unfit : IsUnfitAt disk at). refused_cannot ds unfit.index disk after (subst (λ (l : List PlainDeed). IsRefusedAt l unfit.index disk) (one_held disk unfit.deeds ds unfit.held held) unfit.refused) run)
+    others)
+    bad.damage
+
+pub closed_not_bad : (disk : Disk) (at : ℕ) → IsClosed disk → IsBadBehindGate disk at → ⊥
+closed_not_bad disk at (inl none) bad = let e : None ≡ Some (file bad.bytes) = sym none ∙ bad.here in cc
+closed_not_bad disk at (inr f) bad = f.2 (ap (λ (l : List ℕ). get_or l 0 0) (one_file (node_at disk journal_file) f.0 bad.bytes f.1 bad.here) ∙ bad.gate)
+
+no_folder_here : (o : Option Node) (bytes : List ℕ) → o ≡ Some (file bytes) → o ≡ Some folder → ⊥
+no_folder_here o bytes f is = let e : Some (file bytes) ≡ Some folder = sym f ∙ is in cc
+
+pub no_journal_folder : (disk to : Disk) → RecoversTo disk to → IsFolder disk journal_file → ⊥
+no_journal_folder disk to (inl (inl none, same)) is = let e : None ≡ Some folder = sym none ∙ is in cc
+no_journal_folder disk to (inl (inr f, same)) is = no_folder_here _ f.0 f.1 is
+no_journal_folder disk to (inr (ds, held, run)) is = no_folder_here _ (held_bytes ds held.1) held.2 is
+
+not_bad : (disk to : Disk) (at : ℕ) → RecoversTo disk to → IsBadBehindGate disk at → ⊥
+not_bad disk to at (inl (closed, same)) bad = closed_not_bad disk at closed bad
+not_bad disk to at (inr (ds, held, run)) bad = held_not_bad disk to ds at held run bad
+
+-- what recovers to a disk isn't damaged, where no folder stands where the first journal is made
+pub recovers_undamaged : (disk to : Disk) (at : ℕ) → RecoversTo disk to → (IsFolder disk new_file → ⊥) → IsDamagedAt disk at → ⊥
+recovers_undamaged disk to at recovers none (inl (inl journal, place)) = no_journal_folder disk to recovers journal
+recovers_undamaged disk to at recovers none (inl (inr beside, place)) = none beside
+recovers_undamaged disk to at recovers none (inr bad) = not_bad disk to at recovers bad
+
+-- ---- what is read of its front
+
+-- the head of the file that was read
+pub record IsHead (head bytes : List ℕ) (n : ℕ) : Type 0 where
+  pub count : n ≡ min 9 (length bytes)
+  pub same : take n head ≡ take n bytes
+  pub long : length head ≡ 9
+
+first_same : (k : ℕ) (a b : List ℕ) → 0 < k → take k a ≡ take k b → get_or a 0 0 ≡ get_or b 0 0
+first_same zero a b some e = absurd (omega (arith, some))
+first_same (suc k) [] [] some e = refl
+first_same (suc k) [] (y ∷ b) some e = absurd cc
+first_same (suc k) (x ∷ a) [] some e = absurd cc
+first_same (suc k) (x ∷ a) (y ∷ b) some e = cc
+
+no_gate : (bytes : List ℕ) (n : ℕ) → n ≡ min 9 (length bytes) → n ≡ 0 → get_or bytes 0 0 ≡ 1 → ⊥
+no_gate [] n count none open_gate = let e : 0 ≡ 1 = open_gate in omega (arith, e)
+no_gate (b ∷ bytes) n count none open_gate = omega (arith, count, none)
+
+pub empty_closed : (disk : Disk) (head bytes : List ℕ) (n : ℕ) → node_at disk journal_file ≡ Some (file bytes) → IsHead head bytes n → n ≡ 0 → IsClosed disk
+empty_closed disk head bytes n here is none = inr (bytes, here, no_gate bytes n is.count none)
+
+pub shut_closed : (disk : Disk) (head bytes : List ℕ) (n : ℕ) → node_at disk journal_file ≡ Some (file bytes) → IsHead head bytes n → (n ≡ 0 → ⊥) → (get_or head 0 0 ≡ 1 → ⊥) → IsClosed disk
+shut_closed disk head bytes n here is some shut = inr (bytes, here, λ open_gate. shut (first_same n head bytes (some_left n some) is.same ∙ open_gate))
+  where
+    some_left : (n : ℕ) → (n ≡ 0 → ⊥) → 0 < n
+    some_left zero some = absurd (some refl)
+    some_left (suc n) some = omega arith
+
+behind_first : (a b : List ℕ) → take 9 a ≡ take 9 b → take 8 (drop 1 a) ≡ take 8 (drop 1 b)
+behind_first a b e = sym (front a) ∙ ap (λ (l : List ℕ). drop 1 l) e ∙ front b
+  where
+    front : (l : List ℕ) → drop 1 (take 9 l) ≡ take 8 (drop 1 l)
+    front [] = refl
+    front (x ∷ l) = refl
+
+pub same_len : (head bytes : List ℕ) (n : ℕ) → IsHead head bytes n → 9 ≤ n → said_len head ≡ said_len bytes
+same_len head bytes n is full =
+    let nine : n ≡ 9 = omega (arith, is.count) in
+    ap (from_be_bytes w64) (behind_first head bytes (subst (λ (k : ℕ). take k head ≡ take k bytes) nine is.same))
+
+-- what a reading of n bytes from the front says
+abbrev pub HasRead : Path → List ℕ → ℕ → Disk → Type 0
+HasRead path head n d = (was : List ℕ) × (node_at d path ≡ Some (file was)) × (n ≡ min 9 (length was - 0)) × (take n head ≡ take n (drop 0 was))
+
+-- what the reading of a head says of it
+pub read_head : (d : Disk) (path : Path) (head bytes : List ℕ) (n : ℕ) → path ≡ journal_file → length head ≡ 9 → node_at d journal_file ≡ Some (file bytes)
+    → HasRead path head n d → IsHead head bytes n
+read_head d path head bytes n at long here read =
+    let same : read.0 ≡ bytes = one_file (node_at d journal_file) read.0 bytes (subst (λ (p : Path). node_at d p ≡ Some (file read.0)) at read.1) here in
+    record {
+      count = omega (arith, read.2, ap (λ (l : List ℕ). length l) same);
+      same = read.3 ∙ ap (λ (l : List ℕ). take n l) same;
+      long = long;
+    }
+
+take_fits : (k : ℕ) (bytes : List ℕ) → ((i : ℕ) → get_or bytes i 0 < 256) → (i : ℕ) → get_or (take k bytes) i 0 < 256
+take_fits k bytes fits i =
+    elim (cases_lt i k) [
+      | inl lt ↦ rw (get_or-take k bytes i 0 lt) (fits i)
+      | inr le ↦ rw (get_or_past (take k bytes) i 0 (omega (arith, length-take k bytes))) (omega arith)
+    ]
+
+nine_of : (head bytes : List ℕ) (n : ℕ) → IsHead head bytes n → 9 ≤ n → take 9 head ≡ take 9 bytes
+nine_of head bytes n is full = let nine : n ≡ 9 = omega (arith, is.count) in subst (λ (k : ℕ). take k head ≡ take k bytes) nine is.same
+
+whole_of : (bytes : List ℕ) (len : ℕ) → 9 ≤ length bytes → len ≤ length bytes - 9 → len ≡ said_len bytes → IsShort bytes → ⊥
+whole_of bytes len full room is (inl few) = omega (arith, few, full)
+whole_of bytes len full room is (inr few) = omega (arith, few, room, is, full)
+
+-- an open gate before a length that the file has
+pub says : (d : Disk) (head bytes : List ℕ) (n len said : ℕ) → node_at d journal_file ≡ Some (file bytes) → length bytes ≡ len → IsHead head bytes n → ((i : ℕ) → get_or head i 0 < 256)
+    → 9 ≤ n → get_or head 0 0 ≡ 1 → said ≡ said_len head → said ≤ len - 9 → Says said d
+says d head bytes n len said here long is fits full open_gate said_is room = record {
+  bytes = bytes;
+  here = here;
+  gate = sym (first_same n head bytes (omega (arith, full)) is.same) ∙ open_gate;
+  whole = whole_of bytes said (omega (arith, is.count, full)) (omega (arith, room, long)) (said_is ∙ same_len head bytes n is full);
+  is = said_is ∙ same_len head bytes n is full;
+  fits = λ i. subst (λ (l : List ℕ). get_or l i 0 < 256) (nine_of head bytes n is full) (take_fits 9 head fits i);
+}
+
+-- an open gate in a file that ends too early
+pub cut_short : (d : Disk) (head bytes : List ℕ) (n len said : ℕ) → (HasFolder d → ⊥) → node_at d journal_file ≡ Some (file bytes) → length bytes ≡ len → IsHead head bytes n
+    → (n ≡ 0 → ⊥) → get_or head 0 0 ≡ 1 → said ≡ said_len head → (n < 9) ⊎ ((9 ≤ n) × (len - 9 < said)) → IsBadBehindGate d len
+cut_short d head bytes n len said none here long is some open_gate said_is few = record {
+  no_folder = none;
+  bytes = bytes;
+  here = here;
+  gate = sym (first_same n head bytes (some_left n some) is.same) ∙ open_gate;
+  damage = inl (record { short = short few; place = sym long });
+}
+  where
+    some_left : (n : ℕ) → (n ≡ 0 → ⊥) → 0 < n
+    some_left zero some = absurd (some refl)
+    some_left (suc n) some = omega arith
+
+    short : (n < 9) ⊎ ((9 ≤ n) × (len - 9 < said)) → IsShort bytes
+    short (inl few) = inl (omega (arith, few, is.count))
+    short (inr few) = inr (omega (arith, few.1, said_is, same_len head bytes n is few.0, long))
+
+-- ---- what is read behind it
+
+gate_front : (bytes : List ℕ) → get_or bytes 0 0 ≡ 1 → (tail : List ℕ) × (bytes ≡ 1 ∷ tail)
+gate_front [] open_gate = absurd (let e : 0 ≡ 1 = open_gate in omega (arith, e))
+gate_front (b ∷ bytes) open_gate = (bytes, let e : b ≡ 1 = open_gate in λ i. e i ∷ bytes)
+
+long_of : (bytes : List ℕ) (len : ℕ) → (IsShort bytes → ⊥) → len ≡ said_len bytes → 9 + len ≤ length bytes
+long_of bytes len whole is = elim (cases_lt (length bytes) (9 + said_len bytes)) [
+  | inl few ↦ absurd (whole (inr few))
+  | inr le ↦ omega (arith, le, is)
+]
+
+-- the batch that was read stands behind the gate
+pub holds : (d : Disk) (len : ℕ) (text : List ℕ) (ds : List PlainDeed) (s : Says len d) → IsBatch ds → text ≡ spelled ds → text ≡ take len (drop 9 s.bytes) → length text ≡ len → HoldsBatch d ds
+holds d len text ds s batch is read count =
+    let front = gate_front s.bytes s.gate in
+    let tail = front.0 in
+    let same : s.bytes ≡ 1 ∷ tail = front.1 in
+    let long = long_of s.bytes len s.whole s.is in
+    let eight : to_be_bytes w64 (length (spelled ds)) ≡ take 8 tail = be_bytes_8 (take 8 tail) (length (spelled ds))
+    (omega (arith, length-take 8 tail, ap (λ (l : List ℕ). length l) same, long))
+    (λ i. subst (λ (l : List ℕ). get_or (take 8 (drop 1 l)) i 0 < 256) same (fits_behind s.bytes s.fits i))
+    (ap (λ (l : List ℕ). length l) (sym is) ∙ count ∙ s.is ∙ ap said_len same) in
+    let here : tail ≡ (to_be_bytes w64 (length (spelled ds)) ++ spelled ds) ++ drop len (drop 8 tail) =
+    sym (take-append-drop 8 tail)
+    ∙ ap (λ (l : List ℕ). take 8 tail ++ l) (sym (take-append-drop len (drop 8 tail)) ∙ ap (λ (l : List ℕ). l ++ drop len (drop 8 tail)) (ap (λ (l : List ℕ). take len (drop 9 l)) (sym same) ∙ sym read ∙ is))
+    ∙ sym (append_assoc (take 8 tail) (spelled ds) (drop len (drop 8 tail)))
+    ∙ ap (λ (l : List ℕ). (l ++ spelled ds) ++ drop len (drop 8 tail)) (sym eight) in
+    (batch, drop len (drop 8 tail), s.here ∙ ap (λ (l : List ℕ). Some (file l)) (same ∙ ap (λ (l : List ℕ). 1 ∷ l) here))
+  where
+    fits_behind : (l : List ℕ) → ((i : ℕ) → get_or (take 9 l) i 0 < 256) → (i : ℕ) → get_or (take 8 (drop 1 l)) i 0 < 256
+    fits_behind [] fits i = fits (suc i)
+    fits_behind (x ∷ l) fits i = fits (suc i)
+
+-- bytes that are no batch
+pub unread : (d : Disk) (len at : ℕ) (text : List ℕ) (s : Says len d) → (HasFolder d → ⊥) → text ≡ take len (drop 9 s.bytes) → IsBadAt text at → IsBadBehindGate d (9 + at)
+unread d len at text s none read bad = record {
+  no_folder = none;
+  bytes = s.bytes;
+  here = s.here;
+  gate = s.gate;
+  damage = inr (inl (record {
+    whole = s.whole;
+    fault = at;
+    bad = subst (λ (l : List ℕ). IsBadAt l at) (read ∙ ap (λ (n : ℕ). take n (drop 9 s.bytes)) s.is) bad;
+    place = refl;
+  }));
+}
+
+-- the place of a fault is within the bytes, or right behind the count
+pub fault_within : (bytes : List ℕ) (at : ℕ) → IsBadAt bytes at → at ≤ max 4 (length bytes)
+fault_within bytes at (inl few) = omega (arith, few.1)
+fault_within bytes at (inr (inl bad)) = omega (arith, bad.place, ap (λ (l : List ℕ). length l) bad.parts, length-append (spelled_deeds bad.front) bad.rest, length-drop 4 bytes)
+fault_within bytes at (inr (inr over)) = omega (arith, over.place, ap (λ (l : List ℕ). length l) over.parts, length-append (spelled_deeds over.front) over.rest, length-drop 4 bytes)
+
+-- what a reading of n bytes from behind the length says
+abbrev pub HasReadBehind : Path → List ℕ → ℕ → ℕ → Disk → Type 0
+HasReadBehind path out room n d = (was : List ℕ) × (node_at d path ≡ Some (file was)) × (n ≡ min room (length was - 9)) × (take n out ≡ take n (drop 9 was))
+
+-- a buffer that was filled to its end has the bytes behind the length
+pub filled : (d : Disk) (path : Path) (out rest text : List ℕ) (room n len : ℕ) (s : Says len d) → path ≡ journal_file → HasReadBehind path out room n d
+    → text ≡ take len (out ++ rest) → length out ≡ len → n ≡ len → text ≡ take len (drop 9 s.bytes)
+filled d path out rest text room n len s at read is long full =
+    let same : read.0 ≡ s.bytes = one_file (node_at d journal_file) read.0 s.bytes (subst (λ (p : Path). node_at d p ≡ Some (file read.0)) at read.1) s.here in
+    let here : take len out ≡ take len (drop 9 read.0) = subst (λ (k : ℕ). take k out ≡ take k (drop 9 read.0)) full read.3 in
+    let le : len ≤ length out = omega (arith, long) in
+    is ∙ take-append-le len out rest le ∙ here ∙ ap (λ (l : List ℕ). take len (drop 9 l)) same

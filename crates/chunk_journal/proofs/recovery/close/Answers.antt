@@ -1,0 +1,20 @@
+use Rattle.std.proofs.Common.{◌∷◌, [], Option, sym, subst}
+use Rattle.outside.specs.Calls.{Changes}
+use Rattle.outside.specs.Disk.{Path}
+use Rattle.outside.specs.Changes.{Write}
+use Rattle.outside.specs.Images.{Log, now, HasKept}
+use Rattle.outside.proofs.Told.{changed_from}
+use Rattle.chunk_journal.specs.Opening.{HasLen}
+use Rattle.chunk_journal.proofs.Openings.{ClosesBeside, shut_found}
+use Rattle.chunk_journal.proofs.recovery.close.Goals as goal
+
+pub returns-in_ok-write_synced-clause-closed : goal.returns-in_ok-write_synced-clause-closed
+returns-in_ok-write_synced-clause-closed g c =
+    let log = g.D.Reads.log c.args.folder.now in
+    let after = g.D.Reads.log c.write_synced.new.folder in
+    let found = c.in_ok-journal_len.field-0 in
+    let some = sym c.if-is_some.ensures in
+    changed_from log after (λ l. HasLen found (now l)) (HasKept (Write c.args.journal.now 0 (0 ∷ []))) ClosesBeside
+    (λ old new has kept. shut_found found old new some has (subst (λ (p : Path). HasKept (Write p 0 (0 ∷ [])) old new) c.requires.journal kept))
+    c.in_ok-journal_len.ensures.found
+    (subst (λ (o : Option Log). Changes o after (HasKept (Write c.args.journal.now 0 (0 ∷ [])))) c.in_ok-journal_len.ensures.log c.in_ok-write_synced.ensures.written)

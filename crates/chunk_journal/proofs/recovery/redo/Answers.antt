@@ -1,0 +1,66 @@
+use Rattle.std.proofs.Common.{◌≡◌, ◌⊎◌, ◌∷◌, [], inr}
+use Rattle.std.proofs.lemmas.Result.{err_from_is_err_and}
+use Rattle.outside.specs.Calls.{Told}
+use Rattle.outside.specs.Images.{Log, now, IsSteady}
+use Rattle.outside.proofs.Told.{changed_from, told_through, through}
+use Rattle.deeds.specs.Deeds.{PlainDeed, DoesAll, StaysAmid, in_order}
+use Rattle.chunk_journal.specs.Journal.{journal_file, IsFound, IsRepeatable, StaysRecovered}
+use Rattle.chunk_journal.specs.Opening.{HasFolder, IsUnfitAt, LeavesFolder}
+use Rattle.chunk_journal.proofs.Gate.{both, LeavesParts, found_leaves, redone, shut_leaves}
+use Rattle.chunk_journal.proofs.Openings.{damaged_by, told_back, leaves_folder, redone_all, ClosesBeside, HasRedone}
+use Rattle.std.proofs.Common.{List}
+use Rattle.chunk_journal.proofs.recovery.redo.Goals as goal
+
+abbrev Done : List PlainDeed → Log → Log → Type 0
+Done bs old new = IsSteady new × DoesAll (in_order bs) (now old) (now new)
+
+abbrev Stays : List PlainDeed → Log → Log → Type 0
+Stays bs old new = IsRepeatable bs → StaysRecovered bs old new
+
+pub returns-in_err-redo_deeds-clause-any_moment : goal.returns-in_err-redo_deeds-clause-any_moment
+returns-in_err-redo_deeds-clause-any_moment g c =
+    let bs = c.args.batch.now in
+    let k = c.redo_deeds.ensures.batch in
+    let l0 = g.D.Reads.log c.args.folder.now in
+    let l1 = g.D.Reads.log c.redo_deeds.new.folder in
+    changed_from l0 l1 (IsFound bs) (StaysAmid (in_order bs)) (Stays bs) (λ x y f s repeatable. found_leaves bs k repeatable x y f s) c.requires.found c.in_err-redo_deeds.ensures.amid
+
+pub returns-in_err-close-clause-any_moment : goal.returns-in_err-close-clause-any_moment
+returns-in_err-close-clause-any_moment g c =
+    let bs = c.args.batch.now in
+    let k = c.redo_deeds.ensures.batch in
+    let l0 = g.D.Reads.log c.args.folder.now in
+    let l1 = g.D.Reads.log c.redo_deeds.new.folder in
+    let l2 = g.D.Reads.log c.close.new.folder in
+    told_through l0 l1 l2 (IsFound bs) (λ x y. StaysAmid (in_order bs) x y × Done bs x y) (LeavesParts journal_file 0 (0 ∷ [])) (Stays bs)
+    (λ x y z f p q repeatable. shut_leaves bs k repeatable x y z (redone bs k repeatable x y f p.0 p.1) q)
+    c.requires.found (both l0 l1 (StaysAmid (in_order bs)) (Done bs) c.in_ok-redo_deeds.ensures.amid c.in_ok-redo_deeds.ensures.done) c.in_err-close.ensures.any_moment
+
+pub returns-in_err-close-clause-damaged : goal.returns-in_err-close-clause-damaged
+returns-in_err-close-clause-damaged g c =
+    let bs = c.args.batch.now in
+    let l0 = g.D.Reads.log c.args.folder.now in
+    let l1 = g.D.Reads.log c.redo_deeds.new.folder in
+    let q = err_from_is_err_and c.from_residual-in_err-close.result c.from_residual-in_err-close.ensures.1 in
+    rw (q.1, q.2) (damaged_by c.in_err-close.field-0.0 (λ at. Told l1 (λ l. HasFolder (now l) × (at ≡ 0))) (λ at. Told l0 (λ l. IsUnfitAt (now l) at ⊎ LeavesFolder (now l) at))
+    (λ at t. told_back l0 l1 (IsFound bs) (Done bs) (λ l. HasFolder (now l) × (at ≡ 0)) (λ l. IsUnfitAt (now l) at ⊎ LeavesFolder (now l) at) (λ x y f p h. inr (leaves_folder bs at x y f p h)) c.requires.found c.in_ok-redo_deeds.ensures.done t)
+    c.in_err-close.ensures.damaged)
+
+pub returns-clause-redone : goal.returns-clause-redone
+returns-clause-redone g c =
+    let bs = c.args.batch.now in
+    let l0 = g.D.Reads.log c.args.folder.now in
+    let l1 = g.D.Reads.log c.redo_deeds.new.folder in
+    let l2 = g.D.Reads.log c.close.new.folder in
+    through l0 l1 l2 (Done bs) ClosesBeside (HasRedone bs) (redone_all bs) c.in_ok-redo_deeds.ensures.done c.in_ok-close.ensures.closed
+
+pub returns-clause-any_moment : goal.returns-clause-any_moment
+returns-clause-any_moment g c =
+    let bs = c.args.batch.now in
+    let k = c.redo_deeds.ensures.batch in
+    let l0 = g.D.Reads.log c.args.folder.now in
+    let l1 = g.D.Reads.log c.redo_deeds.new.folder in
+    let l2 = g.D.Reads.log c.close.new.folder in
+    told_through l0 l1 l2 (IsFound bs) (λ x y. StaysAmid (in_order bs) x y × Done bs x y) (LeavesParts journal_file 0 (0 ∷ [])) (Stays bs)
+    (λ x y z f p q repeatable. shut_leaves bs k repeatable x y z (redone bs k repeatable x y f p.0 p.1) q)
+    c.requires.found (both l0 l1 (StaysAmid (in_order bs)) (Done bs) c.in_ok-redo_deeds.ensures.amid c.in_ok-redo_deeds.ensures.done) c.in_ok-close.ensures.any_moment

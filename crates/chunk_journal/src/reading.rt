@@ -1,0 +1,131 @@
+ghost use Rattle.std.specs.Prelude.{◌≡◌, ◌≤◌, ◌+◌, ◌<◌, ◌^◌, ◌-◌, ℕ, get_or, Some, IfOk, IfErr, IsErrOf, length};
+ghost use Rattle.outside.specs.Calls.{HasCause, Told};
+ghost use Rattle.outside.specs.Disk.{IsFolder};
+ghost use Rattle.outside.specs.Images.{now};
+ghost use Rattle.chunk_journal.specs.Journal.{journal_file, new_file, HoldsBatch, IsClosed};
+ghost use Rattle.chunk_journal.specs.Opening.{said_len, HasFolder, HasLen, Says, OfLen, OfFound, IsCutAt, IsUnreadAt, IsBadBehindGate, IsDamagedAt, IfDamaged};
+
+use crate::fault::JournalErr;
+use crate::steps::{GATE, OPEN};
+use deeds::{Batch, BatchErr, read_batch};
+use outside::{Kind, Reads};
+use std::alloc::Global;
+use vault_path::VaultPath;
+
+/// How many bytes the gate and the length have.
+const HEAD_LEN: usize = 9;
+
+/// The offset of the batch.
+pub const BATCH: u64 = 9;
+
+/// The journal's length in bytes, where it is there.
+pub fn journal_len<D: Reads>(
+    folder: &mut D,
+    journal: &VaultPath,
+    beside: &VaultPath,
+) -> Result<Option<u64>, JournalErr>
+    requires journal { journal.now ≡ journal_file }
+    requires beside { beside.now ≡ new_file }
+    ensures found { IfOk result (λ len. Told (D.log folder.old) (λ log. HasLen len (now log))) }
+    ensures damaged { IfErr result (λ error. IfDamaged error (λ at. Told (D.log folder.old) (λ log. HasFolder (now log) × (at ≡ 0)))) }
+    ensures log { D.log folder.new ≡ D.log folder.old }
+    ensures cause { HasCause (D.faults folder.old) (D.faults folder.new) (IsErrOf result JournalErr.Device) }
+{
+    if let Some(Kind::Dir) = folder.kind(beside)? {
+        return Err(JournalErr::JournalDamaged(0));
+    }
+    match folder.kind(journal)? {
+        Some(Kind::Dir) => Err(JournalErr::JournalDamaged(0)),
+        Some(Kind::File(len)) => Ok(Some(len)),
+        None => Ok(None),
+    }
+}
+
+/// The length that stands behind a gate.
+fn len_in(head: &[u8; 9]) -> u64
+    ensures len { result ≡ said_len head.now }
+    ensures bytes { (i : ℕ) → get_or head.now i 0 < 256 }
+{
+    let len = &head[1..9];
+    u64::from_be_bytes([
+        len[0], len[1], len[2], len[3], len[4], len[5], len[6], len[7],
+    ])
+}
+
+/// How many bytes the batch of a journal of `len` bytes has, where its gate is open.
+fn batch_len<D: Reads>(
+    folder: &mut D,
+    journal: &VaultPath,
+    len: u64,
+) -> Result<Option<u64>, JournalErr>
+    requires journal { journal.now ≡ journal_file }
+    requires found { Told (D.log folder.old) (λ log. HasLen (Some len) (now log)) }
+    ensures found { IfOk result (λ said. Told (D.log folder.old) (λ log. OfLen said (IsClosed (now log)) (λ n. Says n (now log)))) }
+    ensures short { IfOk result (λ said. OfLen said (len ≡ len) (λ n. n ≤ len - 9)) }
+    ensures damaged { IfErr result (λ error. IfDamaged error (λ at. Told (D.log folder.old) (λ log. IsBadBehindGate (now log) at))) }
+    ensures log { D.log folder.new ≡ D.log folder.old }
+    ensures cause { HasCause (D.faults folder.old) (D.faults folder.new) (IsErrOf result JournalErr.Device) }
+{
+    let mut head = [0; HEAD_LEN];
+    let n = folder.read(journal, GATE, &mut head)?;
+    if n == 0 || head[0] != OPEN {
+        return Ok(None);
+    }
+    let said = len_in(&head);
+    if n < HEAD_LEN || len.saturating_sub(BATCH) < said {
+        return Err(JournalErr::JournalDamaged(len));
+    }
+    Ok(Some(said))
+}
+
+/// The batch of so many bytes that stands behind an open gate.
+fn held_batch<D: Reads>(
+    alloc: Global,
+    folder: &mut D,
+    journal: &VaultPath,
+    len: u64,
+) -> Result<Batch, JournalErr>
+    requires journal { journal.now ≡ journal_file }
+    requires says { Told (D.log folder.old) (λ log. Says len (now log) × (HasFolder (now log) → ⊥)) }
+    requires short { len + 9 < 2 ^ 64 }
+    ensures held { IfOk result (λ batch. Told (D.log folder.old) (λ log. HoldsBatch (now log) batch)) }
+    ensures damaged { IfErr result (λ error. IfDamaged error (λ at. Told (D.log folder.old) (λ log. IsBadBehindGate (now log) at))) }
+    ensures log { D.log folder.new ≡ D.log folder.old }
+    ensures cause { HasCause (D.faults folder.old) (D.faults folder.new) (IsErrOf result JournalErr.Device) }
+{
+    let mut bytes = vec![in alloc; 0; len as usize]?;
+    let n = folder.read(journal, BATCH, &mut bytes)?;
+    if n < bytes.len() {
+        return Err(JournalErr::JournalDamaged(BATCH + n as u64));
+    }
+    match read_batch(alloc, &bytes) {
+        Ok(batch) => Ok(batch),
+        Err(BatchErr::Bad(at)) => Err(JournalErr::JournalDamaged(BATCH + at as u64)),
+        Err(BatchErr::Memory) => Err(JournalErr::Memory),
+    }
+}
+
+/// The batch behind the gate, where that is open.
+pub fn open_batch<D: Reads>(
+    alloc: Global,
+    folder: &mut D,
+    journal: &VaultPath,
+    beside: &VaultPath,
+) -> Result<Option<Batch>, JournalErr>
+    requires journal { journal.now ≡ journal_file }
+    requires beside { beside.now ≡ new_file }
+    ensures found { IfOk result (λ found. Told (D.log folder.old)
+        (λ log. (HasFolder (now log) → ⊥) × OfFound found (IsClosed (now log)) (HoldsBatch (now log)))) }
+    ensures damaged { IfErr result (λ error. IfDamaged error (λ at. Told (D.log folder.old) (λ log. IsDamagedAt (now log) at))) }
+    ensures log { D.log folder.new ≡ D.log folder.old }
+    ensures cause { HasCause (D.faults folder.old) (D.faults folder.new) (IsErrOf result JournalErr.Device) }
+{
+    let Some(len) = journal_len(folder, journal, beside)? else {
+        return Ok(None);
+    };
+    let Some(said) = batch_len(folder, journal, len)? else {
+        return Ok(None);
+    };
+    let batch = held_batch(alloc, folder, journal, said)?;
+    Ok(Some(batch))
+}
