@@ -1,0 +1,5 @@
+pub mod Stages
+pub mod Going
+pub mod Laying
+pub mod First
+pub mod Made

@@ -1,0 +1,35 @@
+-- Why no vault is made, and what stands then.
+use Rattle.std.specs.Prelude.{◌≡◌, ⊤}
+use Rattle.outside.specs.declared.folder.FolderErr.{FolderErr}
+use Rattle.outside.specs.declared.folder.FolderErr.TheVariants as folder_errs
+use Rattle.outside.specs.Calls.{Told}
+use Rattle.outside.specs.Images.{now}
+use Rattle.outside.specs.Views.{FolderView, EntropyView}
+use Rattle.vault_make.specs.Entries.{IsFirstEntry}
+use Rattle.vault_make.specs.declared.error.MakeErr.{MakeErr}
+use Rattle.vault_make.specs.declared.error.MakeErr.TheVariants.{NotEmpty, Device, Entropy, Memory}
+
+abbrev pub of_folder : FolderErr → MakeErr
+of_folder folder_errs.Failed = Device
+of_folder folder_errs.Unfit = Device
+of_folder folder_errs.Memory = Memory
+
+-- nothing was written
+pub record IsUnwritten (folder folder' : FolderView) : Type 0 where
+  pub log : folder'.log ≡ folder.log
+  pub changes : folder'.changes ≡ folder.changes
+
+-- what stands where the folder was empty
+abbrev pub IsBegun : MakeErr → FolderView → FolderView → Type 0
+IsBegun (NotEmpty name) folder folder' = ⊥
+IsBegun Device folder folder' = ⊤
+IsBegun Entropy folder folder' = IsUnwritten folder folder'
+IsBegun Memory folder folder' = IsUnwritten folder folder'
+
+-- what stands after an error: where the folder has entries nothing was drawn, and nothing was written unless the folder failed
+abbrev pub IsUnmade : MakeErr → FolderView → FolderView → EntropyView → EntropyView → Type 0
+IsUnmade (NotEmpty name) folder folder' entropy entropy' =
+    Told folder.log (λ log. IsFirstEntry (now log) name) × IsUnwritten folder folder' × (entropy' ≡ entropy)
+IsUnmade Device folder folder' entropy entropy' = ⊤
+IsUnmade Entropy folder folder' entropy entropy' = IsUnwritten folder folder'
+IsUnmade Memory folder folder' entropy entropy' = IsUnwritten folder folder'

@@ -1,0 +1,37 @@
+-- A vault's folder while a vault is written into it.
+use Rattle.std.specs.Prelude.{◌≡◌, ◌≢◌, ℕ, List, [], ◌∷◌, ◌++◌, Some, None}
+use Rattle.outside.specs.Disk.{Disk, Path, file, node_at, IsFolder}
+use Rattle.key_files.specs.Files.{masterkey_place, config_place, new_config_place}
+
+-- `d`
+abbrev pub top_name : List ℕ
+top_name = 100 ∷ []
+
+-- a folder of a directory: three parts, of which the first is `d`
+abbrev pub IsRootPath : Path → Type 0
+IsRootPath root = (a : List ℕ) × (b : List ℕ) × (root ≡ top_name ∷ a ∷ b ∷ [])
+
+-- the root's folder is there and empty
+pub record HasBareRoot (place : Path) (disk : Disk) : Type 0 where
+  pub path : IsRootPath place
+  pub top : IsFolder disk []
+  pub there : IsFolder disk place
+  pub bare : (name : List ℕ) → node_at disk (place ++ name ∷ []) ≡ None
+
+-- and nothing stands beside it
+pub record HasRoot (place : Path) (disk : Disk) : Type 0 where
+  pub root : HasBareRoot place disk
+  pub free : (name : List ℕ) → name ≢ top_name → node_at disk (name ∷ []) ≡ None
+
+-- besides, the key files are there, the vault file beside its place
+pub record HasKeyFiles (place : Path) (masterkey_bytes config_bytes : List ℕ) (disk : Disk) : Type 0 where
+  pub root : HasBareRoot place disk
+  pub masterkey : node_at disk masterkey_place ≡ Some (file masterkey_bytes)
+  pub config : node_at disk new_config_place ≡ Some (file config_bytes)
+  pub free : node_at disk config_place ≡ None
+
+-- besides, the vault file is at its place
+pub record IsLaidOut (place : Path) (masterkey_bytes config_bytes : List ℕ) (disk : Disk) : Type 0 where
+  pub root : HasBareRoot place disk
+  pub masterkey : node_at disk masterkey_place ≡ Some (file masterkey_bytes)
+  pub config : node_at disk config_place ≡ Some (file config_bytes)

@@ -1,0 +1,41 @@
+-- A new vault: what a folder holds before and after it was made.
+use Rattle.std.specs.Prelude.{◌≡◌, ℕ, List, [], ◌∷◌, ◌++◌, Some, None, Ok, Contains, All, false}
+use Rattle.std.specs.Ordering.{nat_cmp, is_lt}
+use Rattle.std.specs.Cmp.Lexicographic.{slice_cmp}
+use Rattle.outside.specs.Calls.{Changes, Extends}
+use Rattle.outside.specs.Disk.{Disk, file, node_at, IsFolder, IsTree}
+use Rattle.outside.specs.Images.{now, IsSteady}
+use Rattle.outside.specs.Views.{FolderView, EntropyView}
+use Rattle.dir_paths.specs.Folder.{folder_of}
+use Rattle.masterkey_file.specs.KeyFile.{key_file}
+use Rattle.vault_config.specs.Config.{config_file, identifier_of}
+use Rattle.vault_keys.specs.Unlock.{masterkey_opened, vault_opened}
+use Rattle.key_files.specs.Files.{masterkey_place, config_place, found_at}
+use Rattle.vault_make.specs.Draws.{NewSecrets, AreOfLength, drawn_bytes}
+
+-- a folder without an entry
+pub record IsEmpty (disk : Disk) : Type 0 where
+  pub tree : IsTree disk
+  pub bare : (name : List ℕ) → node_at disk (name ∷ []) ≡ None
+
+-- one of some names, and none of them is less by its bytes
+pub record IsLeast (names : List (List ℕ)) (name : List ℕ) : Type 0 where
+  pub among : Contains names name
+  pub least : All (λ other. is_lt (slice_cmp nat_cmp other name) ≡ false) names
+
+-- A vault of these secrets under a password: the password opens its masterkey file to the keys, the keys open its vault file to the threshold
+-- 220, and the folder of its root is there and empty, so that its only node is the root.
+pub record IsNewVault (password : List ℕ) (secrets : NewSecrets) (disk : Disk) : Type 0 where
+  pub masterkey : node_at disk masterkey_place ≡ Some (file (key_file secrets.keys password secrets.salt))
+  pub config : node_at disk config_place ≡ Some (file (config_file secrets.keys 220 (identifier_of secrets.jti)))
+  pub opens : masterkey_opened password (found_at disk masterkey_place) ≡ Ok secrets.keys
+  pub unlocks : vault_opened secrets.keys (found_at disk config_place) ≡ Ok (record { keys = secrets.keys; threshold = 220 })
+  pub root : IsFolder disk (folder_of secrets.keys [])
+  pub bare : (name : List ℕ) → node_at disk (folder_of secrets.keys [] ++ name ∷ []) ≡ None
+
+-- the folder was empty, and holds a vault of secrets that were drawn since, all of it on the disk
+pub record HasMade (password : List ℕ) (folder folder' : FolderView) (entropy entropy' : EntropyView) : Type 0 where
+  pub secrets : NewSecrets
+  pub lengths : AreOfLength secrets
+  pub drawn : Extends entropy.drawn entropy'.drawn (drawn_bytes secrets)
+  pub vault : Changes folder.log folder'.log (λ old new. IsEmpty (now old) × IsNewVault password secrets (now new) × IsSteady new)

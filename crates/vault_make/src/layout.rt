@@ -1,0 +1,73 @@
+//! Writing a vault into an empty folder.
+
+ghost use Rattle.std.specs.Prelude.{OnOk, IsErr};
+ghost use Rattle.outside.specs.Calls.{Changes, HasCause, Told};
+ghost use Rattle.outside.specs.Images.{now, IsSteady};
+ghost use Rattle.vault_make.specs.Vault.{IsEmpty};
+ghost use Rattle.vault_make.specs.Stages.{HasKeyFiles, HasRoot, IsLaidOut, IsRootPath};
+
+use crate::files::KeyFiles;
+use crate::steps::{Device, make_dir, move_file, put, sync};
+use key_files::{config_path, masterkey_path, new_config_path};
+use outside::Folder;
+use vault_path::VaultPath;
+
+/// Writes the root's folder and the key files into an empty folder, the vault file last and whole: up to then the folder is no vault.
+pub(crate) fn lay_out<D: Folder>(
+    folder: &mut D,
+    root: &VaultPath,
+    files: &KeyFiles,
+) -> Result<(), Device>
+    requires empty { Told (D.log folder.old) (λ log. IsEmpty (now log)) }
+    requires root { IsRootPath root.now }
+    ensures laid { OnOk result (Changes (D.log folder.old) (D.log folder.new)
+        (λ old new. IsLaidOut root.now files.now.masterkey.items files.now.config.items (now new) × IsSteady new)) }
+    ensures cause { HasCause (D.faults folder.old) (D.faults folder.new) (IsErr result) }
+{
+    sync(folder)?;
+    make_root(folder, root)?;
+    put_files(folder, root, files)?;
+    install(folder, root, files)?;
+    Ok(())
+}
+
+// Makes the root's folder and those above it.
+fn make_root<D: Folder>(folder: &mut D, root: &VaultPath) -> Result<(), Device>
+    requires empty { Told (D.log folder.old) (λ log. IsEmpty (now log)) }
+    requires root { IsRootPath root.now }
+    ensures made { OnOk result (Changes (D.log folder.old) (D.log folder.new) (λ old new. HasRoot root.now (now new))) }
+    ensures cause { HasCause (D.faults folder.old) (D.faults folder.new) (IsErr result) }
+{
+    let middle = root.parent();
+    let top = middle.parent();
+    make_dir(folder, &top)?;
+    make_dir(folder, &middle)?;
+    make_dir(folder, root)?;
+    Ok(())
+}
+
+// Writes the key files, the vault file beside its place.
+fn put_files<D: Folder>(folder: &mut D, root: &VaultPath, files: &KeyFiles) -> Result<(), Device>
+    requires { Told (D.log folder.old) (λ log. HasRoot root.now (now log)) }
+    ensures put { OnOk result (Changes (D.log folder.old) (D.log folder.new)
+        (λ old new. HasKeyFiles root.now files.now.masterkey.items files.now.config.items (now new))) }
+    ensures cause { HasCause (D.faults folder.old) (D.faults folder.new) (IsErr result) }
+{
+    put(folder, &masterkey_path(), &files.masterkey)?;
+    put(folder, &new_config_path(), &files.config)?;
+    Ok(())
+}
+
+// Moves the vault file to its place, once all that it needs is on the disk.
+fn install<D: Folder>(folder: &mut D, root: &VaultPath, files: &KeyFiles) -> Result<(), Device>
+    requires { Told (D.log folder.old)
+        (λ log. HasKeyFiles root.now files.now.masterkey.items files.now.config.items (now log)) }
+    ensures installed { OnOk result (Changes (D.log folder.old) (D.log folder.new)
+        (λ old new. IsLaidOut root.now files.now.masterkey.items files.now.config.items (now new) × IsSteady new)) }
+    ensures cause { HasCause (D.faults folder.old) (D.faults folder.new) (IsErr result) }
+{
+    sync(folder)?;
+    move_file(folder, &new_config_path(), &config_path())?;
+    sync(folder)?;
+    Ok(())
+}

@@ -1,0 +1,64 @@
+ghost use Rattle.std.specs.Prelude.{OnOk, IfErr, IsErrOf};
+ghost use Rattle.outside.specs.Calls.{HasCause, Told};
+ghost use Rattle.outside.specs.Images.{now};
+ghost use Rattle.outside.specs.Views.{entropy_view, folder_view};
+ghost use Rattle.vault_make.specs.Vault.{HasMade, IsEmpty};
+ghost use Rattle.vault_make.specs.Errors.{IsBegun, IsUnmade};
+
+use crate::draws::draw_all;
+use crate::entries::first_entry;
+use crate::error::MakeErr;
+use crate::files::key_files;
+use crate::layout::lay_out;
+use dir_paths::folder_of;
+use outside::{Entropy, Folder};
+use std::alloc::Global;
+
+/// Makes a new vault in an empty folder under a password (UTF-8 in the form NFC). Where the folder is empty it draws 32 bytes for the
+/// encryption key, 32 for the MAC key, 8 for the salt and 16 for the vault file's identifier, and writes `masterkey.cryptomator`,
+/// `vault.cryptomator` with the threshold 220, and the empty folder of the root. After Ok all of it is on the disk. `MakeErr` tells
+/// each error's cause.
+pub fn make<D: Folder, E: Entropy>(
+    alloc: Global,
+    folder: &mut D,
+    password: &[u8],
+    entropy: &mut E,
+) -> Result<(), MakeErr>
+    ensures made { OnOk result (HasMade password.now
+        (folder_view D.log D.faults D.changes folder.old) (folder_view D.log D.faults D.changes folder.new)
+        (entropy_view E.drawn E.faults entropy.old) (entropy_view E.drawn E.faults entropy.new)) }
+    ensures unmade { IfErr result (λ error. IsUnmade error
+        (folder_view D.log D.faults D.changes folder.old) (folder_view D.log D.faults D.changes folder.new)
+        (entropy_view E.drawn E.faults entropy.old) (entropy_view E.drawn E.faults entropy.new)) }
+    ensures folder { HasCause (D.faults folder.old) (D.faults folder.new) (IsErrOf result MakeErr.Device) }
+    ensures entropy { HasCause (E.faults entropy.old) (E.faults entropy.new) (IsErrOf result MakeErr.Entropy) }
+{
+    match first_entry(alloc, folder)? {
+        Some(name) => Err(MakeErr::NotEmpty(name)),
+        None => make_in_empty(alloc, folder, password, entropy),
+    }
+}
+
+// The same in a folder that is known to be empty.
+fn make_in_empty<D: Folder, E: Entropy>(
+    alloc: Global,
+    folder: &mut D,
+    password: &[u8],
+    entropy: &mut E,
+) -> Result<(), MakeErr>
+    requires { Told (D.log folder.old) (λ log. IsEmpty (now log)) }
+    ensures made { OnOk result (HasMade password.now
+        (folder_view D.log D.faults D.changes folder.old) (folder_view D.log D.faults D.changes folder.new)
+        (entropy_view E.drawn E.faults entropy.old) (entropy_view E.drawn E.faults entropy.new)) }
+    ensures unmade { IfErr result (λ error. IsBegun error
+        (folder_view D.log D.faults D.changes folder.old) (folder_view D.log D.faults D.changes folder.new)) }
+    ensures folder { HasCause (D.faults folder.old) (D.faults folder.new) (IsErrOf result MakeErr.Device) }
+    ensures entropy { HasCause (E.faults entropy.old) (E.faults entropy.new) (IsErrOf result MakeErr.Entropy) }
+{
+    let draws = draw_all(entropy)?;
+    let files = key_files(alloc, &draws, password)?;
+    match lay_out(folder, &folder_of(&draws.keys, b""), &files) {
+        Ok(()) => Ok(()),
+        Err(_) => Err(MakeErr::Device),
+    }
+}

@@ -1,0 +1,5 @@
+pub mod Decoding
+pub mod Lines
+pub mod Passwords
+pub mod ByKind
+pub mod Found

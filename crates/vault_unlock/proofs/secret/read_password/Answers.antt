@@ -1,0 +1,34 @@
+use Rattle.std.proofs.Common.{◌≤◌, ℕ, List, length, take, Some, None, sym, ◌∙◌, refl, arith, length-take}
+use Rattle.std.specs.String.{string_bytes}
+use Rattle.std.proofs.lemmas.Result.{err_from_is_err_and}
+use Rattle.vault_unlock.proofs.Lines.{begun_line}
+use Rattle.vault_unlock.proofs.Decoding.{same_error}
+use Rattle.vault_unlock.proofs.Passwords.{told_password, told_long, bad_password}
+use Rattle.vault_unlock.proofs.secret.read_password.Goals as goal
+
+pub returns-in_err-count-clause-bad : goal.returns-in_err-count-clause-bad
+returns-in_err-count-clause-bad g c =
+    let p = err_from_is_err_and c.from_residual.result c.from_residual.ensures.1 in
+    rw (p.1, p.2) (λ bad. told_long (g.S.Source.left c.args.secret.now) (c.in_err-count.ensures.long (same_error _ _ bad)))
+
+pub returns-in-Ok-clause-password : goal.returns-in-Ok-clause-password
+returns-in-Ok-clause-password g c =
+    told_password (g.S.Source.left c.args.secret.now) (g.S.Source.left c.read_line.new.secret) (take c.in_ok-count.count c.read_line.new.line) (Some (string_bytes c.in-Ok.password))
+    c.in_ok-count.ensures.line c.in-Ok.ensures.password
+
+pub returns-in-Err-clause-bad : goal.returns-in-Err-clause-bad
+returns-in-Err-clause-bad g c =
+    rw c.from.ensures (λ bad. told_password (g.S.Source.left c.args.secret.now) (g.S.Source.left c.read_line.new.secret) (take c.in_ok-count.count c.read_line.new.line) None
+    c.in_ok-count.ensures.line (c.in-Err.ensures.bad (bad_password _ bad)))
+
+pub returns-in-Err-clause-begun : goal.returns-in-Err-clause-begun
+returns-in-Err-clause-begun g c =
+    let line = take c.in_ok-count.count c.read_line.new.line in
+    let few : length line ≤ 1024 = omega (arith, length-take c.in_ok-count.count c.read_line.new.line, c.in_ok-count.ensures.count) in
+    begun_line (g.S.Source.left c.args.secret.now) (g.S.Source.left c.read_line.new.secret) 1024 line few c.in_ok-count.ensures.line
+
+pub returns-in-Ok-clause-begun : goal.returns-in-Ok-clause-begun
+returns-in-Ok-clause-begun g c =
+    let line = take c.in_ok-count.count c.read_line.new.line in
+    let few : length line ≤ 1024 = omega (arith, length-take c.in_ok-count.count c.read_line.new.line, c.in_ok-count.ensures.count) in
+    begun_line (g.S.Source.left c.args.secret.now) (g.S.Source.left c.read_line.new.secret) 1024 line few c.in_ok-count.ensures.line

@@ -1,0 +1,4 @@
+pub mod Secret
+pub mod Reading
+pub mod Unlock
+pub mod Refusals
