@@ -9,4 +9,6 @@ pub mod Queue
 pub mod Prefix
 pub mod Determined
 pub mod Empty
+pub mod Found
+pub mod Keeping
 pub mod Laws

@@ -9,6 +9,7 @@
 //! ```
 #![tactic(auto)]
 
+ghost use Rattle.clear_tree.specs.Kept.{KeepingTellsRows};
 ghost use Rattle.clear_tree.specs.Laws.{EmptyVaultIsClear, OneDirectoryIsMade, OneDirectoryIsRemoved, OnePlaceChanges, OneTree, RowsAreDetermined, WalkEnds, WalkGoesOn};
 
 /// The folders determine the nodes, whoever their owners are said to be.
@@ -34,4 +35,9 @@ pub fn one_place_changes()
 pub fn walk_is_exact()
     ensures ends { WalkEnds }
     ensures goes_on { WalkGoesOn }
+{}
+
+/// What is kept of a disk tells the rows that the disk stands for.
+pub fn keeping_tells_rows()
+    ensures { KeepingTellsRows }
 {}
