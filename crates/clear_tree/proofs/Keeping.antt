@@ -111,10 +111,10 @@ module _ (s : Sealing) (d : Disk) (nodes : rows.Nodes) (marks : Marks) where
   kept-map [] = refl
   kept-map (e ∷ es) = ap (λ (z : List KeptNode). kept_node s d nodes marks e ∷ z) (kept-map es)
 
-  kept_at : (es : List Entry) (k : ℕ) → slice_get (kept_nodes s d nodes marks es) k ≡ option_map (kept_node s d nodes marks) (slice_get es k)
+  pub kept_at : (es : List Entry) (k : ℕ) → slice_get (kept_nodes s d nodes marks es) k ≡ option_map (kept_node s d nodes marks) (slice_get es k)
   kept_at es k = ap (λ (z : List KeptNode). slice_get z k) (kept-map es) ∙ slice_get-map (kept_node s d nodes marks) es k
 
-  length-kept : (es : List Entry) → length (kept_nodes s d nodes marks es) ≡ length es
+  pub length-kept : (es : List Entry) → length (kept_nodes s d nodes marks es) ≡ length es
   length-kept [] = refl
   length-kept (e ∷ es) = ap suc (length-kept es)
 

@@ -11,4 +11,8 @@ pub mod Determined
 pub mod Empty
 pub mod Found
 pub mod Keeping
+pub mod Places
+pub mod Loading
+pub mod Loaded
+pub mod Turns
 pub mod Laws

@@ -10,6 +10,7 @@
 #![tactic(auto)]
 
 ghost use Rattle.clear_tree.specs.Kept.{KeepingTellsRows};
+ghost use Rattle.clear_tree.specs.Loading.{LoadingEnds};
 ghost use Rattle.clear_tree.specs.Laws.{EmptyVaultIsClear, OneDirectoryIsMade, OneDirectoryIsRemoved, OnePlaceChanges, OneTree, RowsAreDetermined, WalkEnds, WalkGoesOn};
 
 /// The folders determine the nodes, whoever their owners are said to be.
@@ -40,4 +41,9 @@ pub fn walk_is_exact()
 /// What is kept of a disk tells the rows that the disk stands for.
 pub fn keeping_tells_rows()
     ensures { KeepingTellsRows }
+{}
+
+/// A load whose walk has ended keeps the disk.
+pub fn loading_ends()
+    ensures { LoadingEnds }
 {}
