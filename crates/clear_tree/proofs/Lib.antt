@@ -10,3 +10,6 @@ pub mod Prefix
 pub mod Determined
 pub mod Empty
 pub mod Laws
+pub mod Names
+pub mod Order
+pub mod Building

@@ -5,4 +5,5 @@ pub mod Queue
 pub mod Rows
 pub mod Kept
 pub mod Scan
+pub mod Built
 pub mod Laws
