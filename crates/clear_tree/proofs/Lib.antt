@@ -16,3 +16,6 @@ pub mod Loading
 pub mod Loaded
 pub mod Turns
 pub mod Laws
+pub mod Names
+pub mod Order
+pub mod Building

@@ -6,4 +6,5 @@ pub mod Rows
 pub mod Kept
 pub mod Scan
 pub mod Loading
+pub mod Built
 pub mod Laws
