@@ -1,11 +1,10 @@
 -- The laws of the clear tree, as the contracts cite them.
-use Rattle.std.proofs.Common.{List, [], ◌++◌, subst, sym}
-use Rattle.clear_tree.specs.Queue.{Row, In}
+use Rattle.std.proofs.Common.{[]}
 use Rattle.clear_tree.specs.Laws.{OneTree, RowsAreDetermined, OnePlaceChanges, OneDirectoryIsMade, OneDirectoryIsRemoved, WalkEnds, WalkGoesOn}
 use Rattle.clear_tree.proofs.Determined.{one_rows}
 use Rattle.clear_tree.proofs.Directory.{create_dir, created_owner, remove_dir, removed_owner}
 use Rattle.clear_tree.proofs.Leaf.{change_leaf, leaf_owner}
-use Rattle.clear_tree.proofs.Queue.{Walked, walk_begun, walk_owner, row_sound, row_complete}
+use Rattle.clear_tree.proofs.Queue.{Walked, walked, walk_owner, row_sound, row_complete}
 use Rattle.clear_tree.proofs.Unique.{one_tree}
 use Rattle.clear_tree.proofs.Prefix.{walk_rows}
 
@@ -34,10 +33,9 @@ one_directory_is_removed s v v' o p i n t c = (
 )
 
 pub walk_ends : WalkEnds
-walk_ends s v listing n rows lists ends =
-    let w : Walked s v listing lists rows [] = subst (λ (z : List Row × List Row). Walked s v listing lists z.0 z.1) ends (walk_begun s v listing lists n) in
-    (walk_owner s v listing lists rows w, row_sound s v listing lists rows w, row_complete s v listing lists rows w)
+walk_ends s v rows walk =
+    let w : Walked s v rows [] = walked s v rows [] walk in
+    (walk_owner s v rows w, row_sound s v rows w, row_complete s v rows w)
 
 pub walk_goes_on : WalkGoesOn
-walk_goes_on s v listing n done todo o lists own ends q x h =
-    walk_rows s v listing lists o own n q x (subst (λ (z : List Row × List Row). In (q, x) (z.0 ++ z.1)) (sym ends) h)
+walk_goes_on s v done todo o own walk q x h = walk_rows s v o own done todo walk q x h

@@ -9,4 +9,13 @@ pub mod Queue
 pub mod Prefix
 pub mod Determined
 pub mod Empty
+pub mod Found
+pub mod Keeping
+pub mod Places
+pub mod Loading
+pub mod Loaded
+pub mod Turns
 pub mod Laws
+pub mod Names
+pub mod Order
+pub mod Building

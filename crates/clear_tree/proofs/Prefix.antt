@@ -6,14 +6,14 @@ use Rattle.std.specs.Ordering.{nat_cmp, is_gt, ordering_then, ordering_reverse}
 use Rattle.std.specs.Cmp.Lexicographic.{slice_cmp}
 use Rattle.std.proofs.lemmas.Cmp.{nat_list_cmp_total}
 use Rattle.clear_tree.specs.Walk.{Path, same_path, walk_cmp, Sealing, Folders, Kind, Plain, Named, Linked, Bare, Node, File, Link, Dir, Bad, look, node, node_at, claimed, IsOwner}
-use Rattle.clear_tree.specs.Queue.{Row, walk, claims, first_claim, row_of, kids, entries_of, In, Ascending, IsListing}
+use Rattle.clear_tree.specs.Queue.{Row, claims, first_claim, row_of, kids, In, Ascending, AreEntriesOf, IsWalk, Begun, Turned}
 use Rattle.clear_tree.proofs.Lists.{in_left, in_right, in_cases, ascending_append, ascending_split, ascending_right}
 use Rattle.clear_tree.proofs.Paths.{root_first, same_path-apart, same_path-itself, walk_itself}
 use Rattle.clear_tree.proofs.Owner.{child_at}
 use Rattle.clear_tree.proofs.Unique.{node_claim, walk_equal, walk_antisymm}
-use Rattle.clear_tree.proofs.Queue.{row_cmp, Follows, Sound, claims-true, first-left, first-right, first-in, first-least, row_path, row_there, below_some, row_ascending, sound_more, name_cmp, Walked, stepped, same_rows, begun, walk_begun}
+use Rattle.clear_tree.proofs.Queue.{row_cmp, Follows, Sound, claims-true, first-left, first-right, first-in, first-least, row_path, row_there, below_some, row_ascending, sound_more, name_cmp, Walked, same_rows, walked}
 
-module _ (s : Sealing) (v : Folders) (listing : List ℕ → List (List ℕ × Kind)) (lists : IsListing s v listing) (o : List ℕ → Path) (own : IsOwner s v o) where
+module _ (s : Sealing) (v : Folders) (o : List ℕ → Path) (own : IsOwner s v o) where
   -- every node before a row of these is a row of these, and the owners go by them
   pub record Leading (acc : List Row) : Type 0 where
     pub follows : Follows s v o acc
@@ -115,7 +115,7 @@ module _ (s : Sealing) (v : Folders) (listing : List ℕ → List (List ℕ × K
     before_next acc e es rd (a ∷ p) x h less = go (walk_cmp p q) refl less
       where
         is_q : walk_cmp p q ≡ Equal → slice_cmp nat_cmp a e.0 ≡ Less → (y : Node) × In (a ∷ p, y) acc
-        is_q ew la = pick (below_some s v listing lists o (a ∷ p) a (node_at s v o p) x h)
+        is_q ew la = pick (below_some s v o (a ∷ p) a (node_at s v o p) x h)
           where
             choose : (k : Kind) → p ≡ q → In (a, k) (e ∷ es) ⊎ ((y : Node) × In (a ∷ q, y) acc) → (y : Node) × In (a ∷ p, y) acc
             choose k ep (inr c) = (c.0, subst (λ (z : Path). In (a ∷ z, c.0) acc) (sym ep) c.1)
@@ -179,9 +179,9 @@ module _ (s : Sealing) (v : Folders) (listing : List ℕ → List (List ℕ × K
   below_parent : (m : List ℕ) (p : Path) (x : Node) → node_at s v o (m ∷ p) ≡ Some x →
       (i : List ℕ) × (node_at s v o p ≡ Some (Dir i)) × ((k : Kind) × (look s v i m ≡ Some k) × (k ≢ Bare))
   unfolding node_at
-  below_parent m p x h = below_some s v listing lists o (m ∷ p) m (node_at s v o p) x h
+  below_parent m p x h = below_some s v o (m ∷ p) m (node_at s v o p) x h
 
-  module _ (done todo : List Row) (r : Row) (w : Walked s v listing lists done (r ∷ todo)) (lead : Leading (done ++ r ∷ todo)) where
+  module _ (done todo : List Row) (r : Row) (es : List (List ℕ × Kind)) (are : AreEntriesOf s v r.1 es) (w : Walked s v done (r ∷ todo)) (lead : Leading (done ++ r ∷ todo)) where
     abbrev acc : List Row
     acc = done ++ r ∷ todo
 
@@ -200,8 +200,8 @@ module _ (s : Sealing) (v : Folders) (listing : List ℕ → List (List ℕ × K
             let f : ordering_reverse (walk_cmp r.0 p) ≡ Greater = ap ordering_reverse g in
             absurd (cc)
 
-    pub next_lead : Leading (acc ++ kids s v acc r.0 (entries_of listing r.1))
-    next_lead = go r.1 refl
+    pub next_lead : Leading (acc ++ kids s v acc r.0 es)
+    next_lead = go r.1 refl are
       where
         late : (m : List ℕ) (p : Path) (x : Node) → In (p, x) acc → walk_cmp p (m ∷ r.0) ≡ Less
         late m [] x h = refl
@@ -219,19 +219,22 @@ module _ (s : Sealing) (v : Folders) (listing : List ℕ → List (List ℕ × K
                 let is : Dir b.0 ≡ d.0 = cc in
                 w.closed p b.0 m b.2.0 (subst (λ (z : Node). In (p, z) done) (sym is) d.1) b.2.1 b.2.2
 
-        go : (x : Node) → r.1 ≡ x → Leading (acc ++ kids s v acc r.0 (entries_of listing x))
-        go (File c) e = subst Leading (sym (append-nil acc)) lead
-        go (Link c) e = subst Leading (sym (append-nil acc)) lead
-        go (Bad t) e = subst Leading (sym (append-nil acc)) lead
-        go (Dir j) e = kids_lead j r.0 no_less_names acc (listing j) (record {
+        no_kids : es ≡ [] → Leading (acc ++ kids s v acc r.0 es)
+        no_kids none = subst (λ (z : List (List ℕ × Kind)). Leading (acc ++ kids s v acc r.0 z)) (sym none) (subst Leading (sym (append-nil acc)) lead)
+
+        go : (x : Node) → r.1 ≡ x → AreEntriesOf s v x es → Leading (acc ++ kids s v acc r.0 es)
+        go (File c) e entries = no_kids entries
+        go (Link c) e entries = no_kids entries
+        go (Bad t) e entries = no_kids entries
+        go (Dir j) e entries = kids_lead j r.0 no_less_names acc es (record {
           sound = w.sound;
           asc = w.ascending;
           dir = subst (λ (z : Node). In (r.0, z) acc) e (in_right r done (r ∷ todo) (inl refl));
           lead = lead;
-          looks = lists.sound j;
-          names = lists.ascending j;
+          looks = entries.sound;
+          names = entries.ascending;
           later = λ f h p x i. late f.0 p x i;
-          covered = λ m k l nb. inl (lists.complete j m k l);
+          covered = λ m k l nb. inl (entries.complete m k l nb);
           earlier = λ m p x h l. early m p x h l;
           root = w.root;
         })
@@ -255,15 +258,11 @@ module _ (s : Sealing) (v : Folders) (listing : List ℕ → List (List ℕ × K
       none [] r (inl is) less = let e : walk_cmp [] r.0 ≡ Equal = ap (λ (z : Row). walk_cmp [] z.0) is in cc
       none (m ∷ q) r (inl is) less = let e : walk_cmp (m ∷ q) r.0 ≡ Greater = ap (λ (z : Row). walk_cmp (m ∷ q) z.0) is in cc
 
-  led : (n : ℕ) (done todo : List Row) → Walked s v listing lists done todo → Leading (done ++ todo) →
-      Leading ((walk s v listing n done todo).0 ++ (walk s v listing n done todo).1)
-  unfolding walk
-  led zero done todo w l = l
-  led (suc n) done [] w l = l
-  led (suc n) done (r ∷ todo) w l =
-      led n (done ++ r ∷ []) (todo ++ kids s v (done ++ r ∷ todo) r.0 (entries_of listing r.1))
-      (stepped s v listing lists done todo r w)
-      (subst Leading (sym (same_rows s v listing lists done todo r w)) (next_lead done todo r w l))
+  led : (done todo : List Row) → IsWalk s v done todo → Leading (done ++ todo)
+  led d t Begun = begun_lead
+  led d t (Turned done todo r es are walk) =
+      subst Leading (sym (same_rows s v done todo r es are (walked s v done (r ∷ todo) walk)))
+      (next_lead done todo r es are (walked s v done (r ∷ todo) walk) (led done (r ∷ todo) walk))
 
-  pub walk_rows : (n : ℕ) (q : Path) (x : Node) → In (q, x) ((walk s v listing n [] (([], Dir []) ∷ [])).0 ++ (walk s v listing n [] (([], Dir []) ∷ [])).1) → node_at s v o q ≡ Some x
-  walk_rows n q x h = (walk_begun s v listing lists n).sound o (led n [] (([], Dir []) ∷ []) (begun s v listing lists) begun_lead).follows q x h
+  pub walk_rows : (done todo : List Row) → IsWalk s v done todo → (q : Path) (x : Node) → In (q, x) (done ++ todo) → node_at s v o q ≡ Some x
+  walk_rows done todo walk q x h = (walked s v done todo walk).sound o (led done todo walk).follows q x h

@@ -7,7 +7,7 @@ use Rattle.std.specs.Cmp.Lexicographic.{slice_cmp}
 use Rattle.std.proofs.lemmas.Slice.Eq.{bytes_eq-Decides}
 use Rattle.std.proofs.lemmas.Bool.{cond-true}
 use Rattle.clear_tree.specs.Walk.{Path, same_path, walk_cmp, Sealing, Folders, Kind, Plain, Named, Linked, Bare, Node, File, Link, Dir, Bad, look, node, below, node_at, claimed, is_good, IsOwner}
-use Rattle.clear_tree.specs.Queue.{Row, claims, first_claim, row_of, kids, entries_of, walk, In, Ascending, IsListing}
+use Rattle.clear_tree.specs.Queue.{Row, claims, first_claim, row_of, kids, In, Ascending, AreEntriesOf, IsWalk, Begun, Turned}
 use Rattle.clear_tree.proofs.Lists.{in_left, in_right, in_cases, ascending_append, ascending_split}
 use Rattle.clear_tree.proofs.Paths.{same_path-from, same_path-apart, walk_itself, walk_not_after}
 use Rattle.clear_tree.proofs.Owner.{child_at}
@@ -211,7 +211,7 @@ module _ (s : Sealing) (v : Folders) where
           came r (inr h) = inr h
 
 -- what stands once some rows are done and some wait
-module _ (s : Sealing) (v : Folders) (listing : List ℕ → List (List ℕ × Kind)) (lists : IsListing s v listing) where
+module _ (s : Sealing) (v : Folders) where
   pub record Walked (done todo : List Row) : Type 0 where
     pub sound : Sound s v (done ++ todo)
     pub ascending : Ascending row_cmp (done ++ todo)
@@ -229,21 +229,24 @@ module _ (s : Sealing) (v : Folders) (listing : List ℕ → List (List ℕ × K
     root = inl refl;
   }
 
-  module _ (done todo : List Row) (r : Row) (w : Walked done (r ∷ todo)) where
+  module _ (done todo : List Row) (r : Row) (es : List (List ℕ × Kind)) (are : AreEntriesOf s v r.1 es) (w : Walked done (r ∷ todo)) where
     abbrev acc : List Row
     acc = done ++ r ∷ todo
 
     abbrev more : List Row
-    more = kids s v acc r.0 (entries_of listing r.1)
+    more = kids s v acc r.0 es
 
     r_in : In r acc
     r_in = in_right r done (r ∷ todo) (inl refl)
 
-    dirs : (x : Node) → r ≡ (r.0, x) → (e : List ℕ × Kind) → In e (entries_of listing x) → (j : List ℕ) × In (r.0, Dir j) acc × (look s v j e.0 ≡ Some e.1)
-    dirs (Dir j) is e h = (j, subst (λ (z : Row). In z acc) is r_in, lists.sound j e h)
-    dirs (File c) is e h = absurd h
-    dirs (Link c) is e h = absurd h
-    dirs (Bad t) is e h = absurd h
+    none_in : {A : Type 0} (xs : List A) (x : A) → xs ≡ [] → In x xs → ⊥
+    none_in xs x is h = subst (In x) is h
+
+    dirs : (x : Node) → r ≡ (r.0, x) → AreEntriesOf s v x es → (e : List ℕ × Kind) → In e es → (j : List ℕ) × In (r.0, Dir j) acc × (look s v j e.0 ≡ Some e.1)
+    dirs (Dir j) is entries e h = (j, subst (λ (z : Row). In z acc) is r_in, entries.sound e h)
+    dirs (File c) is entries e h = absurd (none_in es e entries h)
+    dirs (Link c) is entries e h = absurd (none_in es e entries h)
+    dirs (Bad t) is entries e h = absurd (none_in es e entries h)
 
     later : (m : List ℕ) (p : Path) (x : Node) → In (p, x) acc → walk_cmp p (m ∷ r.0) ≡ Less
     later m [] x h = refl
@@ -251,14 +254,14 @@ module _ (s : Sealing) (v : Folders) (listing : List ℕ → List (List ℕ × K
         let y : (y : Node) × In (p, y) done = w.parents a p x h in
         ap (λ (o : Ordering). ordering_then o (slice_cmp nat_cmp a m)) (ascending_split row_cmp done (r ∷ todo) w.ascending (p, y.0) r y.1 (inl refl))
 
-    names : (x : Node) → Ascending name_cmp (entries_of listing x)
-    names (Dir j) = lists.ascending j
-    names (File c) = tt
-    names (Link c) = tt
-    names (Bad t) = tt
+    names : (x : Node) → AreEntriesOf s v x es → Ascending name_cmp es
+    names (Dir j) entries = entries.ascending
+    names (File c) entries = subst (Ascending name_cmp) (sym entries) tt
+    names (Link c) entries = subst (Ascending name_cmp) (sym entries) tt
+    names (Bad t) entries = subst (Ascending name_cmp) (sym entries) tt
 
-    grew : Grown s v acc r.0 (entries_of listing r.1) (acc ++ more)
-    grew = grown s v acc r.0 (entries_of listing r.1) w.sound w.ascending (dirs r.1 refl) (λ e h p x i. later e.0 p x i) (names r.1)
+    grew : Grown s v acc r.0 es (acc ++ more)
+    grew = grown s v acc r.0 es w.sound w.ascending (dirs r.1 refl are) (λ e h p x i. later e.0 p x i) (names r.1 are)
 
     pub same_rows : (done ++ r ∷ []) ++ (todo ++ more) ≡ acc ++ more
     same_rows = append_assoc done (r ∷ []) (todo ++ more) ∙ sym (append_assoc done (r ∷ todo) more)
@@ -272,8 +275,8 @@ module _ (s : Sealing) (v : Folders) (listing : List ℕ → List (List ℕ × K
     closed_by q j m k (inl h) l nb = let a : (x : Node) × In (m ∷ q, x) acc = w.closed q j m k h l nb in (a.0, in_left (m ∷ q, a.0) acc more a.1)
     closed_by q j m k (inr (inr h)) l nb = absurd h
     closed_by q j m k (inr (inl is)) l nb =
-        let a : (x : Node) × In (m ∷ r.0, x) (acc ++ more) = grew.covers (m, k)
-        (subst (λ (z : Row). In (m, k) (entries_of listing z.1)) is (lists.complete j m k l)) nb in
+        let entries : AreEntriesOf s v (Dir j) es = subst (λ (z : Row). AreEntriesOf s v z.1 es) (sym is) are in
+        let a : (x : Node) × In (m ∷ r.0, x) (acc ++ more) = grew.covers (m, k) (entries.complete m k l nb) nb in
         (a.0, subst (λ (z : Row). In (m ∷ z.0, a.0) (acc ++ more)) (sym is) a.1)
 
     parents_by : (m : List ℕ) (q : Path) (x : Node) → In (m ∷ q, x) acc ⊎ ((a : List ℕ) × (m ∷ q ≡ a ∷ r.0)) → (y : Node) × In (q, y) (done ++ r ∷ [])
@@ -301,14 +304,9 @@ module _ (s : Sealing) (v : Folders) (listing : List ℕ → List (List ℕ × K
       root = n.1.1.1.1;
     }
 
-  pub walked : (n : ℕ) (done todo : List Row) → Walked done todo → Walked (walk s v listing n done todo).0 (walk s v listing n done todo).1
-  unfolding walk
-  walked zero done todo w = w
-  walked (suc n) done [] w = w
-  walked (suc n) done (r ∷ todo) w = walked n (done ++ r ∷ []) (todo ++ kids s v (done ++ r ∷ todo) r.0 (entries_of listing r.1)) (stepped done todo r w)
-
-  pub walk_begun : (n : ℕ) → Walked (walk s v listing n [] (([], Dir []) ∷ [])).0 (walk s v listing n [] (([], Dir []) ∷ [])).1
-  walk_begun n = walked n [] (([], Dir []) ∷ []) begun
+  pub walked : (done todo : List Row) → IsWalk s v done todo → Walked done todo
+  walked d t Begun = begun
+  walked d t (Turned done todo r es are walk) = stepped done todo r es are (walked done (r ∷ todo) walk)
 
   -- the first row that names a folder
   abbrev pub owner_of : List Row → List ℕ → Path

@@ -5,7 +5,7 @@ use Rattle.std.specs.Option.{unwrap_or}
 use Rattle.outside.specs.Disk.{Disk}
 use Rattle.tree_model.specs.Rows.{Rows}
 use Rattle.clear_tree.specs.Walk.{Path, same_path, Sealing, Kind, Named, Node, Dir, Folders, is_name, look, node, node_at, claimed, IsOwner, NamedOnce, new_owner, ChangedAt}
-use Rattle.clear_tree.specs.Queue.{Row, In, IsListing, walk, first_claim}
+use Rattle.clear_tree.specs.Queue.{Row, In, IsWalk, first_claim}
 use Rattle.clear_tree.specs.Rows.{IsClear}
 
 -- who is first doesn't matter to the nodes: the folders determine them
@@ -73,14 +73,12 @@ OneDirectoryIsRemoved = (s : Sealing) (v v' : Folders) (owner : List ℕ → Pat
 
 -- a walk with a queue that has ended gives just the nodes
 abbrev pub WalkEnds : Type 0
-WalkEnds = (s : Sealing) (v : Folders) (listing : List ℕ → List (List ℕ × Kind)) (n : ℕ) (rows : List Row) → IsListing s v listing →
-    walk s v listing n [] (([], Dir []) ∷ []) ≡ (rows, []) →
+WalkEnds = (s : Sealing) (v : Folders) (rows : List Row) → IsWalk s v rows [] →
     IsOwner s v (λ f. unwrap_or (first_claim s f rows) []) ×
     ((q : Path) (x : Node) → In (q, x) rows → node_at s v (λ f. unwrap_or (first_claim s f rows) []) q ≡ Some x) ×
     ((q : Path) (x : Node) → node_at s v (λ f. unwrap_or (first_claim s f rows) []) q ≡ Some x → In (q, x) rows)
 
 -- the rows of a walk that has not ended are nodes too, whoever the owners are: one with too many rows shows that there are too many nodes
 abbrev pub WalkGoesOn : Type 0
-WalkGoesOn = (s : Sealing) (v : Folders) (listing : List ℕ → List (List ℕ × Kind)) (n : ℕ) (done todo : List Row) (o : List ℕ → Path) → IsListing s v listing → IsOwner s v o →
-    walk s v listing n [] (([], Dir []) ∷ []) ≡ (done, todo) →
+WalkGoesOn = (s : Sealing) (v : Folders) (done todo : List Row) (o : List ℕ → Path) → IsOwner s v o → IsWalk s v done todo →
     (q : Path) (x : Node) → In (q, x) (done ++ todo) → node_at s v o q ≡ Some x

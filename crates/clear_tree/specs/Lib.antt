@@ -5,4 +5,6 @@ pub mod Queue
 pub mod Rows
 pub mod Kept
 pub mod Scan
+pub mod Loading
+pub mod Built
 pub mod Laws

@@ -1,5 +1,5 @@
 -- The walk with a queue, as a loader does it.
-use Rattle.std.specs.Prelude.{◌≡◌, ℕ, zero, suc, Bool, false, cond, not, ◌&&◌, List, [], ◌∷◌, ◌++◌, Option, Some, None, bytes_eq, is_some, ◌⊎◌}
+use Rattle.std.specs.Prelude.{◌≡◌, ◌≢◌, ℕ, Bool, false, cond, not, ◌&&◌, List, [], ◌∷◌, ◌++◌, Option, Some, None, bytes_eq, is_some, ◌⊎◌}
 use Rattle.std.specs.declared.cmp.Ordering.{Ordering}
 use Rattle.std.specs.declared.cmp.Ordering.TheVariants.{Less}
 use Rattle.std.specs.Ordering.{nat_cmp}
@@ -31,18 +31,6 @@ abbrev pub kids : Sealing → Folders → List Row → Path → List (List ℕ �
 kids s v rows q [] = []
 kids s v rows q (e ∷ es) = row_of s v rows (e.0 ∷ q) e.1 ++ kids s v (rows ++ row_of s v rows (e.0 ∷ q) e.1) q es
 
-abbrev pub entries_of : (List ℕ → List (List ℕ × Kind)) → Node → List (List ℕ × Kind)
-entries_of listing (Dir i) = listing i
-entries_of listing (File c) = []
-entries_of listing (Link c) = []
-entries_of listing (Bad t) = []
-
--- the rows that are done, and those that wait
-unfoldable pub walk : Sealing → Folders → (List ℕ → List (List ℕ × Kind)) → ℕ → List Row → List Row → List Row × List Row
-walk s v listing zero done todo = (done, todo)
-walk s v listing (suc n) done [] = (done, [])
-walk s v listing (suc n) done (r ∷ todo) = walk s v listing n (done ++ r ∷ []) (todo ++ kids s v (done ++ r ∷ todo) r.0 (entries_of listing r.1))
-
 abbrev pub In : {A : Type 0} → A → List A → Type 0
 In x [] = ⊥
 In x (y ∷ ys) = (x ≡ y) ⊎ In x ys
@@ -51,8 +39,22 @@ abbrev pub Ascending : {A : Type 0} → (A → A → Ordering) → List A → Ty
 Ascending R [] = Unit {0}
 Ascending {A} R (x ∷ xs) = ((y : A) → In y xs → R x y ≡ Less) × Ascending R xs
 
--- a directory's entries by name, in order of the names' bytes
-pub record IsListing (s : Sealing) (v : Folders) (listing : List ℕ → List (List ℕ × Kind)) : Type 0 where
-  pub sound : (i : List ℕ) (e : List ℕ × Kind) → In e (listing i) → look s v i e.0 ≡ Some e.1
-  pub complete : (i m : List ℕ) (k : Kind) → look s v i m ≡ Some k → In (m, k) (listing i)
-  pub ascending : (i : List ℕ) → Ascending (λ (a b : List ℕ × Kind). slice_cmp nat_cmp a.0 b.0) (listing i)
+-- a directory's entries by name, in order of the names' bytes. Those without a known file may be left out
+pub record AreEntries (s : Sealing) (v : Folders) (i : List ℕ) (es : List (List ℕ × Kind)) : Type 0 where
+  pub sound : (e : List ℕ × Kind) → In e es → look s v i e.0 ≡ Some e.1
+  pub complete : (m : List ℕ) (k : Kind) → look s v i m ≡ Some k → k ≢ Bare → In (m, k) es
+  pub ascending : Ascending (λ (a b : List ℕ × Kind). slice_cmp nat_cmp a.0 b.0) es
+
+-- the entries of a node: none but a directory has any
+abbrev pub AreEntriesOf : Sealing → Folders → Node → List (List ℕ × Kind) → Type 0
+AreEntriesOf s v (Dir i) es = AreEntries s v i es
+AreEntriesOf s v (File c) es = es ≡ []
+AreEntriesOf s v (Link c) es = es ≡ []
+AreEntriesOf s v (Bad t) es = es ≡ []
+
+-- A walk with a queue, from the root on: the rows that are done, and those that wait. A turn takes the first row that waits, and the rows of
+-- its entries wait behind the others.
+pub data IsWalk (s : Sealing) (v : Folders) : List Row → List Row → Type 0 where
+  Begun : IsWalk s v [] (([], Dir []) ∷ [])
+  Turned : (done todo : List Row) (r : Row) (es : List (List ℕ × Kind)) → AreEntriesOf s v r.1 es → IsWalk s v done (r ∷ todo) →
+      IsWalk s v (done ++ r ∷ []) (todo ++ kids s v (done ++ r ∷ todo) r.0 es)

@@ -1,15 +1,25 @@
 //! The clear tree that a vault's disk stands for, defined by path: which node stands at each path, who has each directory's
-//! folder, what is marked, and the rows that follow.
-//!
-//! Its functions are laws: they do nothing, and their clauses hold.
+//! folder, what is marked, and the rows that follow. And [`Tree`], what is kept of it in memory.
 //!
 //! ```
-//! // The rows of a disk are determined, whichever paths the owners of folders are said to be.
-//! clear_tree::rows_are_determined();
+//! let mut tree = Tree::with_root(alloc, folder)?;
+//! tree.push(Node::new(0, name, What::File { size: 68 }, entry, false, false))?;
+//! let number = tree.look(0, b"notes")?;
+//! let host = tree.path(number)?;
 //! ```
+//!
+//! Its functions that stand alone are laws: they do nothing, and their clauses hold.
 #![tactic(auto)]
 
+mod node;
+mod tree;
+
+ghost use Rattle.clear_tree.specs.Kept.{KeepingTellsRows};
+ghost use Rattle.clear_tree.specs.Loading.{LoadingEnds};
 ghost use Rattle.clear_tree.specs.Laws.{EmptyVaultIsClear, OneDirectoryIsMade, OneDirectoryIsRemoved, OnePlaceChanges, OneTree, RowsAreDetermined, WalkEnds, WalkGoesOn};
+
+pub use node::{Node, What};
+pub use tree::Tree;
 
 /// The folders determine the nodes, whoever their owners are said to be.
 pub fn tree_is_determined()
@@ -34,4 +44,14 @@ pub fn one_place_changes()
 pub fn walk_is_exact()
     ensures ends { WalkEnds }
     ensures goes_on { WalkGoesOn }
+{}
+
+/// What is kept of a disk tells the rows that the disk stands for.
+pub fn keeping_tells_rows()
+    ensures { KeepingTellsRows }
+{}
+
+/// A load whose walk has ended keeps the disk.
+pub fn loading_ends()
+    ensures { LoadingEnds }
 {}

@@ -1,0 +1,383 @@
+-- What holds of a tree that is built a node at a time.
+use Rattle.std.proofs.Common.{◌≡◌, ◌≢◌, ℕ, zero, suc, ◌+◌, ◌-◌, ◌<◌, ◌≤◌, List, [], ◌∷◌, ◌++◌, length, get_or, slice_get, slice_set, Bool, true, false, Option, Some, None, IsSome, IsTrue, inl, inr, refl, sym, ap, ap₂, ◌∙◌, subst, arith, add-one}
+use Rattle.std.specs.declared.cmp.Ordering.{Ordering}
+use Rattle.std.specs.declared.cmp.Ordering.TheVariants.{Less, Equal, Greater}
+use Rattle.std.specs.Cmp.Lexicographic.{slice_cmp}
+use Rattle.std.specs.Ordering.{nat_cmp, is_gt}
+use Rattle.std.specs.Option.{option_and_then}
+use Rattle.std.proofs.lemmas.Bool.{cases_lt}
+use Rattle.std.proofs.lemmas.Cmp.{tied_itself}
+use Rattle.std.proofs.lemmas.Grind.{common_steps}
+use Rattle.std.proofs.lemmas.Option.{slice_get-get_or, slice_get_within, slice_get_read, same_Some}
+use Rattle.vault_path.specs.Parts.{is_part}
+use Rattle.tree_model.specs.Rows.{root}
+use Rattle.clear_tree.specs.Kept.{KeptNode, KeptTree, folder_in, node_of, parent_folder, IsChild, IsNamed, IsBehind, IsNext, IsNoNext, IsTree}
+use Rattle.clear_tree.specs.Built.{Place, place_of, place_cmp, is_past, AreInOrder, HasParent, AreKept, FitsBehind, marked_node, marked_at, with_foreign, root_node}
+use Rattle.clear_tree.proofs.Order.{place_total, before, beside, behind, by_place}
+
+abbrev pub tree_of : KeptNode → List KeptNode → Bool → KeptTree
+tree_of first others twice = record { nodes = first ∷ others; twice = twice }
+
+not_less_itself : (a b : Place) → place_cmp a b ≡ Less → a ≡ b → ⊥
+not_less_itself a b less same =
+    let equal : place_cmp a b ≡ Equal = ap (λ (p : Place). place_cmp p b) same ∙ tied_itself place_total b in
+    absurd (cc (less, equal))
+
+-- ---- the tree of kept nodes
+
+module _ (first : KeptNode) (others : List KeptNode) (twice : Bool) (kept : AreKept first others) where
+  parents_less : (number : ℕ) (node : KeptNode) → node_of (tree_of first others twice) number ≡ Some node → number ≢ root → node.parent < number
+  parents_less zero node is below = absurd (below refl)
+  parents_less (suc index) node is below = let up = (kept.parents index node is).before in omega arith
+
+  own_folder : (parent : ℕ) → parent ≡ root → IsSome (option_and_then (λ (p : KeptNode). folder_in p.what) (slice_get (first ∷ others) parent))
+  own_folder zero e = kept.folder
+  own_folder (suc n) e = absurd cc
+
+  all_folders : (number : ℕ) (node : KeptNode) → node_of (tree_of first others twice) number ≡ Some node → IsSome (parent_folder (tree_of first others twice) node)
+  all_folders zero node is = own_folder node.parent (ap (λ (n : KeptNode). n.parent) (sym (same_Some first node is)) ∙ kept.own)
+  all_folders (suc index) node is = (kept.parents index node is).folder
+
+  same_index : (parent : ℕ) (name : List ℕ) (i j : ℕ) (a b : KeptNode) → slice_get others i ≡ Some a → slice_get others j ≡ Some b
+      → place_of a ≡ place_of b → i ≡ j
+  same_index parent name i j a b at_i at_j same = elim (cases_lt i j) [
+    | inl low ↦ absurd (not_less_itself (place_of a) (place_of b) (kept.ordered i j a b low at_i at_j) same)
+    | inr up ↦ elim (cases_lt j i) [
+      | inl high ↦ absurd (not_less_itself (place_of b) (place_of a) (kept.ordered j i b a high at_j at_i) (sym same))
+      | inr eq ↦ omega arith
+    ]
+  ]
+
+  one_name : (parent : ℕ) (name : List ℕ) (a b : ℕ) → IsNamed (tree_of first others twice) parent name a → IsNamed (tree_of first others twice) parent name b → a ≡ b
+  one_name parent name zero b x y = absurd (x.child.below refl)
+  one_name parent name (suc i) zero x y = absurd (y.child.below refl)
+  one_name parent name (suc i) (suc j) x y =
+      ap suc (same_index parent name i j x.node y.node x.child.there y.child.there
+      (ap₂ (λ (n : ℕ) (l : List ℕ). (n, l)) (x.child.inside ∙ sym y.child.inside) (x.named ∙ sym y.named)))
+
+  pub whole_tree : IsTree (tree_of first others twice)
+  whole_tree = record {
+    first = (first, record { there = refl; own = kept.own; folder = kept.folder });
+    parents = parents_less;
+    folders = all_folders;
+    names = one_name;
+  }
+
+  root_folder_is : (node : KeptNode) → first ≡ node → folder_in node.what ≡ None → ⊥
+  root_folder_is node same none =
+      let has : IsSome (folder_in node.what) = subst (λ (n : KeptNode). IsSome (folder_in n.what)) same kept.folder in
+      let lacks : IsSome {T = List ℕ} None = subst IsSome none has in
+      absurd cc
+
+  -- what isn't a directory has an entry that can be a part of a path
+  pub leaf_entry : (number : ℕ) (node : KeptNode) → node_of (tree_of first others twice) number ≡ Some node → folder_in node.what ≡ None → IsTrue (is_part node.entry)
+  leaf_entry zero node is none = absurd (root_folder_is node (same_Some first node is) none)
+  leaf_entry (suc index) node is none = kept.entries index node is
+
+  -- ---- a name that was looked for
+
+  pub named_is : (parent : ℕ) (name : List ℕ) (index : ℕ) (node : KeptNode) → slice_get others index ≡ Some node → place_of node ≡ (parent, name)
+      → IsNamed (tree_of first others twice) parent name (index + 1)
+  named_is parent name index node is same = record {
+    node = node;
+    child = record {
+      there = rw add-one is;
+      below = λ e. absurd (omega arith);
+      inside = ap (λ (p : Place). p.0) same;
+    };
+    named = ap (λ (p : Place). p.1) same;
+  }
+
+  pub named_none : (parent : ℕ) (name : List ℕ) → ((index : ℕ) (node : KeptNode) → slice_get others index ≡ Some node → place_of node ≢ (parent, name))
+      → (number : ℕ) → IsNamed (tree_of first others twice) parent name number → ⊥
+  named_none parent name apart zero x = x.child.below refl
+  named_none parent name apart (suc index) x =
+      apart index x.node x.child.there (ap₂ (λ (n : ℕ) (l : List ℕ). (n, l)) x.child.inside x.named)
+
+  -- ---- the next name
+
+  past_from_behind : (parent : ℕ) (last : Option (List ℕ)) (place : Place) → place.0 ≡ parent → IsBehind last place.1 → is_past parent last place ≡ true
+  past_from_behind parent None place inside is = grind (arith, common_steps, inside)
+  past_from_behind parent (Some last) place inside is = elim (by_place place (parent, last)) [
+    | before h e ↦ absurd (omega arith)
+    | beside h e ↦ ap is_gt (e ∙ is)
+    | behind h e ↦ ap is_gt e
+  ]
+
+  behind_from_past : (parent : ℕ) (last : Option (List ℕ)) (place : Place) → place.0 ≡ parent → is_past parent last place ≡ true → IsBehind last place.1
+  behind_from_past parent None place inside past = tt
+  behind_from_past parent (Some last) place inside past = elim (by_place place (parent, last)) [
+    | before h e ↦ absurd (omega arith)
+    | beside h e ↦ sym e ∙ greater_from (place_cmp place (parent, last)) past
+    | behind h e ↦ absurd (omega arith)
+  ]
+    where
+      greater_from : (o : Ordering) → is_gt o ≡ true → o ≡ Greater
+      greater_from Less h = absurd cc
+      greater_from Equal h = absurd cc
+      greater_from Greater h = refl
+
+  -- a place of a lower directory is past no name of this one
+  not_past_below : (parent : ℕ) (last : Option (List ℕ)) (place : Place) → place.0 < parent → is_past parent last place ≡ true → ⊥
+  not_past_below parent None place low past = grind (arith, common_steps, low, past)
+  not_past_below parent (Some last) place low past = elim (by_place place (parent, last)) [
+    | before h e ↦ let no : is_gt (place_cmp place (parent, last)) ≡ false = ap is_gt e in absurd (cc (no, past))
+    | beside h e ↦ omega arith
+    | behind h e ↦ omega arith
+  ]
+
+  module _ (parent : ℕ) (last : Option (List ℕ)) (at : ℕ)
+      (before_at : (index : ℕ) (node : KeptNode) → index < at → slice_get others index ≡ Some node → is_past parent last (place_of node) ≡ false)
+      (behind_at : (index : ℕ) (node : KeptNode) → at ≤ index → slice_get others index ≡ Some node → is_past parent last (place_of node) ≡ true) where
+    child_behind : (index : ℕ) (node : KeptNode) → slice_get others index ≡ Some node → node.parent ≡ parent → IsBehind last node.name → at ≤ index
+    child_behind index node is inside behind_last = elim (cases_lt index at) [
+      | inl low ↦ absurd (cc (before_at index node low is, past_from_behind parent last (place_of node) inside behind_last))
+      | inr up ↦ up
+    ]
+
+    pub no_next_past_end : slice_get others at ≡ None → IsNoNext (tree_of first others twice) parent last
+    no_next_past_end none zero node child behind_last = child.below refl
+    no_next_past_end none (suc index) node child behind_last =
+        let up : at ≤ index = child_behind index node child.there child.inside behind_last in
+        let inside : index < length others = slice_get_within others index node child.there in
+        absurd (cc (none, slice_get-get_or others at node (omega arith)))
+
+    module _ (node : KeptNode) (is : slice_get others at ≡ Some node) where
+      pub no_next_elsewhere : node.parent ≢ parent → IsNoNext (tree_of first others twice) parent last
+      no_next_elsewhere other_parent zero node' child behind_last = child.below refl
+      no_next_elsewhere other_parent (suc index) node' child behind_last =
+          let up : at ≤ index = child_behind index node' child.there child.inside behind_last in
+          let inside : node'.parent ≡ parent = child.inside in
+          elim (cases_lt at index) [
+            | inl low ↦ elim (by_place (place_of node) (place_of node')) [
+              | before h e ↦ not_past_below parent last (place_of node) (subst (λ (n : ℕ). node.parent < n) inside h) (behind_at at node (omega arith) is)
+              | beside h e ↦ other_parent (h ∙ inside)
+              | behind h e ↦ absurd (cc (e, kept.ordered at index node node' low is child.there))
+            ]
+            | inr high ↦
+                let same : index ≡ at = omega arith in
+                let one : node' ≡ node = same_Some node' node (sym child.there ∙ ap (slice_get others) same ∙ is) in
+                other_parent (ap (λ (n : KeptNode). n.parent) (sym one) ∙ inside)
+          ]
+
+      next_first : node.parent ≡ parent → (other : ℕ) (node' : KeptNode) → IsChild (tree_of first others twice) parent other node' → IsBehind last node'.name
+          → other ≢ at + 1 → slice_cmp nat_cmp node.name node'.name ≡ Less
+      next_first inside zero node' child behind_last apart = absurd (child.below refl)
+      next_first inside (suc index) node' child behind_last apart =
+          let up : at ≤ index = child_behind index node' child.there child.inside behind_last in
+          let inside' : node'.parent ≡ parent = child.inside in
+          let other_index : index ≢ at = λ e. apart (omega arith) in
+          let low : at < index = omega arith in
+          let less : place_cmp (place_of node) (place_of node') ≡ Less = kept.ordered at index node node' low is child.there in
+          elim (by_place (place_of node) (place_of node')) [
+            | before h e ↦ absurd (omega arith)
+            | beside h e ↦ sym e ∙ less
+            | behind h e ↦ absurd (omega arith)
+          ]
+
+      pub next_is : node.parent ≡ parent → IsNext (tree_of first others twice) parent last (at + 1)
+      next_is inside = record {
+        node = node;
+        child = record { there = rw add-one is; below = λ e. absurd (omega arith); inside = inside };
+        behind = behind_from_past parent last (place_of node) inside (behind_at at node (omega arith) is);
+        first = next_first inside;
+      }
+
+-- ---- one node more
+
+data AtEnd {A : Type 0} (xs : List A) (x : A) (i : ℕ) (y : A) : Type 0 where
+  older : slice_get xs i ≡ Some y → AtEnd xs x i y
+  newest : i ≡ length xs → x ≡ y → AtEnd xs x i y
+
+at_end : {A : Type 0} (xs : List A) (x : A) (i : ℕ) (y : A) → slice_get (xs ++ x ∷ []) i ≡ Some y → AtEnd xs x i y
+at_end [] x zero y is = newest refl (same_Some x y is)
+at_end [] x (suc i) y is = absurd cc
+at_end (z ∷ xs) x zero y is = older is
+at_end (z ∷ xs) x (suc i) y is = elim (at_end xs x i y is) [
+  | older there ↦ older there
+  | newest e same ↦ newest (ap suc e) same
+]
+
+folder_of : KeptNode → Option (List ℕ)
+folder_of node = folder_in node.what
+
+longer : {A B : Type 0} (f : A → Option B) (xs ys : List A) (i : ℕ) → IsSome (option_and_then f (slice_get xs i)) → IsSome (option_and_then f (slice_get (xs ++ ys) i))
+longer f [] ys i is = absurd cc
+longer f (x ∷ xs) ys zero is = is
+longer f (x ∷ xs) ys (suc i) is = longer f xs ys i is
+
+inside_list : {A B : Type 0} (f : A → Option B) (xs : List A) (i : ℕ) → IsSome (option_and_then f (slice_get xs i)) → i < length xs
+inside_list f [] i is = absurd cc
+inside_list f (x ∷ xs) zero is = omega arith
+inside_list f (x ∷ xs) (suc i) is = let rest = inside_list f xs i is in omega arith
+
+pred_of : (n i : ℕ) → i < n → (m : ℕ) × (n ≡ suc m)
+pred_of zero i low = absurd (omega arith)
+pred_of (suc m) i low = (m, refl)
+
+module _ (first : KeptNode) (others : List KeptNode) (twice : Bool) (kept : AreKept first others) (new : KeptNode) (fits : FitsBehind (tree_of first others twice) new) where
+  last_before : (m : ℕ) → length others ≡ suc m → (last : KeptNode) → slice_get others m ≡ Some last → place_cmp (place_of last) (place_of new) ≡ Less
+  last_before m len last is =
+      let at : length (first ∷ others) - 1 ≡ suc m = omega arith in
+      fits.behind last (subst (λ (k : ℕ). slice_get (first ∷ others) k ≡ Some last) (sym at) is) (λ e. absurd (omega arith))
+
+  new_behind : (i : ℕ) (a : KeptNode) → slice_get others i ≡ Some a → place_cmp (place_of a) (place_of new) ≡ Less
+  new_behind i a is =
+      let inside : i < length others = slice_get_within others i a is in
+      let m : (m : ℕ) × (length others ≡ suc m) = pred_of (length others) i inside in
+      let m_len : length others ≡ suc m.0 = m.1 in
+      let last_is : slice_get others m.0 ≡ Some (get_or others m.0 a) = slice_get-get_or others m.0 a (omega arith) in
+      let less = last_before m.0 m.1 (get_or others m.0 a) last_is in
+      elim (cases_lt i m.0) [
+        | inl low ↦ place_total.trans (place_of a) (place_of (get_or others m.0 a)) (place_of new) (kept.ordered i m.0 a (get_or others m.0 a) low is last_is) less
+        | inr up ↦
+            let same : i ≡ m.0 = omega arith in
+            let one : get_or others m.0 a ≡ a = same_Some (get_or others m.0 a) a (sym last_is ∙ ap (slice_get others) (sym same) ∙ is) in
+            subst (λ (n : KeptNode). place_cmp (place_of n) (place_of new) ≡ Less) one less
+      ]
+
+  in_order : AreInOrder (others ++ new ∷ [])
+  in_order i j a b low at_i at_j = elim (at_end others new i a at_i) [
+    | older is_a ↦ elim (at_end others new j b at_j) [
+      | older is_b ↦ kept.ordered i j a b low is_a is_b
+      | newest e same ↦ subst (λ (n : KeptNode). place_cmp (place_of a) (place_of n) ≡ Less) same (new_behind i a is_a)
+    ]
+    | newest e same ↦ elim (at_end others new j b at_j) [
+      | older is_b ↦ let inside = slice_get_within others j b is_b in absurd (omega arith)
+      | newest e' same' ↦ absurd (omega arith)
+    ]
+  ]
+
+  parent_of_new : HasParent first (others ++ new ∷ []) (length others) new
+  parent_of_new = record {
+    before = let within = inside_list (λ (p : KeptNode). folder_in p.what) (first ∷ others) new.parent fits.inside in omega arith;
+    folder = longer (λ (p : KeptNode). folder_in p.what) (first ∷ others) (new ∷ []) new.parent fits.inside;
+  }
+
+  all_parents : (index : ℕ) (node : KeptNode) → slice_get (others ++ new ∷ []) index ≡ Some node → HasParent first (others ++ new ∷ []) index node
+  all_parents index node is = elim (at_end others new index node is) [
+    | older there ↦ record {
+      before = (kept.parents index node there).before;
+      folder = longer (λ (p : KeptNode). folder_in p.what) (first ∷ others) (new ∷ []) node.parent (kept.parents index node there).folder;
+    }
+    | newest e same ↦ subst (λ (n : KeptNode). HasParent first (others ++ new ∷ []) index n) same
+        (subst (λ (k : ℕ). HasParent first (others ++ new ∷ []) k new) (sym e) parent_of_new)
+  ]
+
+  pub kept_with : AreKept first (others ++ new ∷ [])
+  kept_with = record {
+    own = kept.own;
+    folder = kept.folder;
+    ordered = in_order;
+    parents = all_parents;
+    entries = λ index node is. elim (at_end others new index node is) [
+      | older there ↦ kept.entries index node there
+      | newest e same ↦ subst (λ (n : KeptNode). IsTrue (is_part n.entry)) same fits.entry
+    ];
+  }
+
+-- ---- another mark
+
+-- a node that has at most another mark
+record IsMarkOf (old new : KeptNode) : Type 0 where
+  parent : new.parent ≡ old.parent
+  name : new.name ≡ old.name
+  entry : new.entry ≡ old.entry
+
+mark_itself : (node : KeptNode) → IsMarkOf node node
+mark_itself node = record { parent = refl; name = refl; entry = refl }
+
+before_mark : (xs : List KeptNode) (i : ℕ) (foreign : Bool) (k : ℕ) (y : KeptNode) → slice_get (marked_at i foreign xs) k ≡ Some y
+    → (x : KeptNode) × (slice_get xs k ≡ Some x) × IsMarkOf x y
+before_mark [] i foreign k y is = absurd cc
+before_mark (x ∷ xs) zero foreign zero y is = (x, refl, subst (IsMarkOf x) (same_Some (marked_node foreign x) y is) (record { parent = refl; name = refl; entry = refl }))
+before_mark (x ∷ xs) zero foreign (suc k) y is = (y, is, mark_itself y)
+before_mark (x ∷ xs) (suc i) foreign zero y is = (x, refl, subst (IsMarkOf x) (same_Some x y is) (mark_itself x))
+before_mark (x ∷ xs) (suc i) foreign (suc k) y is = before_mark xs i foreign k y is
+
+same_folders : (xs : List KeptNode) (i : ℕ) (foreign : Bool) (k : ℕ)
+    → option_and_then (λ (p : KeptNode). folder_in p.what) (slice_get (marked_at i foreign xs) k) ≡ option_and_then (λ (p : KeptNode). folder_in p.what) (slice_get xs k)
+same_folders [] i foreign k = refl
+same_folders (x ∷ xs) zero foreign zero = refl
+same_folders (x ∷ xs) zero foreign (suc k) = refl
+same_folders (x ∷ xs) (suc i) foreign zero = refl
+same_folders (x ∷ xs) (suc i) foreign (suc k) = same_folders xs i foreign k
+
+same_places : (x x' y y' : KeptNode) → IsMarkOf x x' → IsMarkOf y y' → place_cmp (place_of x) (place_of y) ≡ Less → place_cmp (place_of x') (place_of y') ≡ Less
+same_places x x' y y' mx my less =
+    let ex : place_of x' ≡ place_of x = ap₂ (λ (n : ℕ) (l : List ℕ). (n, l)) mx.parent mx.name in
+    let ey : place_of y' ≡ place_of y = ap₂ (λ (n : ℕ) (l : List ℕ). (n, l)) my.parent my.name in
+    ap₂ place_cmp ex ey ∙ less
+
+module _ (first : KeptNode) (others : List KeptNode) (kept : AreKept first others) (foreign : Bool) where
+  pub kept_marked_root : AreKept (marked_node foreign first) others
+  kept_marked_root = record {
+    own = kept.own;
+    folder = kept.folder;
+    ordered = kept.ordered;
+    parents = λ index node is. record {
+      before = (kept.parents index node is).before;
+      folder = subst IsSome (sym (same_folders (first ∷ others) zero foreign node.parent)) (kept.parents index node is).folder;
+    };
+    entries = kept.entries;
+  }
+
+  pub kept_marked : (i : ℕ) → AreKept first (marked_at i foreign others)
+  kept_marked i = record {
+    own = kept.own;
+    folder = kept.folder;
+    ordered = λ k l a b low at_k at_l.
+        let x = before_mark others i foreign k a at_k in
+        let y = before_mark others i foreign l b at_l in
+        same_places x.0 a y.0 b x.2 y.2 (kept.ordered k l x.0 y.0 low x.1 y.1);
+    parents = λ index node is.
+        let x = before_mark others i foreign index node is in
+        let has = kept.parents index x.0 x.1 in
+        record {
+          before = subst (λ (n : ℕ). n ≤ index) (sym x.2.parent) has.before;
+          folder = subst (λ (n : ℕ). IsSome (option_and_then (λ (p : KeptNode). folder_in p.what) (slice_get (first ∷ marked_at i foreign others) n))) (sym x.2.parent)
+              (subst IsSome (sym (same_folders (first ∷ others) (suc i) foreign x.0.parent)) has.folder);
+        };
+    entries = λ index node is.
+        let x = before_mark others i foreign index node is in
+        subst (λ (e : List ℕ). IsTrue (is_part e)) (sym x.2.entry) (kept.entries index x.0 x.1);
+  }
+
+-- a mark as a write at an index
+pub mark_is_set : (xs : List KeptNode) (i : ℕ) (foreign : Bool) (x : KeptNode) → slice_get xs i ≡ Some x → slice_set xs i (marked_node foreign x) ≡ marked_at i foreign xs
+mark_is_set [] i foreign x is = absurd cc
+mark_is_set (y ∷ xs) zero foreign x is = ap (λ (n : KeptNode). marked_node foreign n ∷ xs) (sym (same_Some y x is))
+mark_is_set (y ∷ xs) (suc i) foreign x is = ap (λ (l : List KeptNode). y ∷ l) (mark_is_set xs i foreign x is)
+
+-- ---- the root alone
+
+pub root_is_kept : (folder : List ℕ) → AreKept (root_node folder) []
+root_is_kept folder = record {
+  own = refl;
+  folder = refl;
+  ordered = λ i j a b low at_i at_j. absurd cc;
+  parents = λ index node is. absurd cc;
+  entries = λ index node is. absurd cc;
+}
+
+-- a node that was written over with its mark
+pub written_is : (xs : List KeptNode) (i : ℕ) (foreign : Bool) (x new : KeptNode) → slice_get xs i ≡ Some x → new ≡ marked_node foreign x
+    → slice_set xs i new ≡ marked_at i foreign xs
+written_is xs i foreign x new is same = ap (λ (n : KeptNode). slice_set xs i n) same ∙ mark_is_set xs i foreign x is
+
+pub kept_written : (first : KeptNode) (others : List KeptNode) → AreKept first others → (i : ℕ) (foreign : Bool) (x new : KeptNode) → slice_get others i ≡ Some x
+    → new ≡ marked_node foreign x → AreKept first (slice_set others i new)
+kept_written first others kept i foreign x new is same = subst (AreKept first) (sym (written_is others i foreign x new is same)) (kept_marked first others kept foreign i)
+
+pub tree_written : (first : KeptNode) (others : List KeptNode) (twice : Bool) (number i : ℕ) (foreign : Bool) (x new : KeptNode) → number ≡ suc i → slice_get others i ≡ Some x
+    → new ≡ marked_node foreign x → tree_of first (slice_set others i new) twice ≡ with_foreign (tree_of first others twice) number foreign
+tree_written first others twice number i foreign x new numbered is same =
+    ap (λ (l : List KeptNode). tree_of first l twice) (written_is others i foreign x new is same)
+    ∙ ap (λ (n : ℕ). with_foreign (tree_of first others twice) n foreign) (sym numbered)
+
+-- the node at an index behind the root
+pub node_read : (tree : KeptTree) (first : KeptNode) (others : List KeptNode) (twice : Bool) (number i : ℕ) (x : KeptNode) → tree_of first others twice ≡ tree → number < length tree.nodes
+    → 1 ≤ number → i ≡ number - 1 → x ≡ get_or others i x → slice_get others i ≡ Some x
+node_read tree first others twice number i x is inside low at there =
+    let within : number < length (first ∷ others) = subst (λ (t : KeptTree). number < length t.nodes) (sym is) inside in
+    slice_get_read others (length others) i x refl (omega arith) there
