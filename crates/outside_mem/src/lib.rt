@@ -1,5 +1,12 @@
 //! The outside of the program in memory, for tests: every object tells what it holds, counts its calls, and fails at listed
 //! calls and where memory is refused, and nowhere else.
+//!
+//! ```
+//! let mut folder = MemFolder::new(alloc)?.failing_at(vec![in alloc; 2]?);
+//! folder.put(&path, b"abc")?;
+//! folder.sync()?;
+//! assert_eq!(rt; folder.kind(&path), Err(FolderErr::Failed)); // call 2, counted from 0
+//! ```
 #![tactic(auto)]
 
 mod applying;

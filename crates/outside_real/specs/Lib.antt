@@ -2,3 +2,4 @@ pub mod HostPath
 pub mod Behind
 pub mod Missing
 pub mod Same
+pub mod Untold

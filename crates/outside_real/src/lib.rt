@@ -6,13 +6,17 @@
 //! folder.sync()?; // fsync of the file and of the folder that it is in
 //! ```
 //!
-//! This is the trusted edge of a server. No clause can say what a file, a stream, the random device or the clock gives or
-//! takes, so no object here tells its contents. What is proved of each call is its shape: it is safe, its counts stay
-//! within the buffers, it leaves the rest of a buffer as it was, and it answers that it failed, or that its condition
-//! fails, only after raising the object's count of faults, which stands still at 2^64 - 1. A folder counts the calls that
-//! change it, and fails each `sync` after a flush that failed. Trusted is the rest: that the system's calls do what their
-//! manuals say, that `/dev/urandom` gives bytes that nobody can foresee, that the clock is right, and that nobody else
-//! changes the folder.
+//! This is the trusted edge of a server. No clause can say what a file, a standard stream, the random device or the clock
+//! gives or takes, so no object over the host tells its contents. What is proved of each call is its shape: it is safe,
+//! its counts stay within the buffers, it leaves the rest of a buffer as it was, and it answers that it failed, or that
+//! its condition fails, only after raising the object's count of faults, which stands still at 2^64 - 1. A folder counts
+//! the calls that change it, and fails each `sync` after a flush that failed. Trusted is the rest: that the system's calls
+//! do what their manuals say, that `/dev/urandom` gives bytes that nobody can foresee, that the clock is right, and that
+//! nobody else changes the folder.
+//!
+//! A link, a source and a sink stand over any reader and writer, and tell what these tell. Over bytes in memory
+//! (`StreamLink::over`, `StdSource::over`, `StdSink::over`) everything that their traits say of contents is proved of the
+//! code that serves the standard streams; of those only std's own reader and writer are trusted.
 //!
 //! Where another process does, no file outside of the folder is cut or written by way of a link at the end of a path: what
 //! is opened is compared (device, inode, kind) with what was seen before a byte is read or written, a new file is made
@@ -23,11 +27,13 @@
 
 mod clock;
 mod count;
+mod ends;
 mod entropy;
 mod folder;
 mod found;
 mod host;
 mod link;
+mod listen;
 mod opened;
 mod room;
 mod stream;
@@ -35,7 +41,9 @@ mod touched;
 mod transfer;
 
 pub use clock::HostClock;
+pub use ends::{Incoming, Outgoing, Output, Untold};
 pub use entropy::OsEntropy;
 pub use folder::HostFolder;
-pub use link::{HostLink, HostListen};
+pub use link::{HostLink, StreamLink};
+pub use listen::HostListen;
 pub use stream::{NullSink, StdSink, StdSource};

@@ -1,43 +1,66 @@
-ghost use Rattle.std.specs.Prelude.{◌≡◌, ◌≤◌, ◌<◌, drop, length, take, IfOk, IsErr, IsOk, IsSome, None, Ok};
+ghost use Rattle.std.specs.Prelude.{◌≡◌, ◌≤◌, ◌<◌, [], drop, length, take, if◌then◌else◌, IfOk, OnErr, IsErr, IsTrue, None, Ok};
 ghost use Rattle.std.specs.Io.KnownBytes.{Consumes, IsAtEnd};
-ghost use Rattle.outside.specs.Calls.{HasCause};
-ghost use Rattle.outside_real.specs.Behind.{link_reader, link_to_come};
+ghost use Rattle.outside.specs.Calls.{HasCause, TakesFront, Told};
+ghost use Rattle.outside_real.specs.Behind.{link_reader, link_writer};
 
 use crate::count::counted;
+use crate::ends::{Incoming, Outgoing, Output, Untold};
 use crate::transfer::{read_some, write_some};
-use outside::{Failed, Link, Listener};
-use std::io;
+use outside::{Failed, Link};
 use std::io::Input;
 
-/// The client at the standard streams.
+/// A client at a reader and a writer. It tells what they tell.
 #[derive(Drop)]
-pub struct HostLink<R: Input> {
-    rt: R,
-    input: R::Reader,
+pub struct StreamLink<I, O> {
+    input: I,
+    output: O,
     read_faults: u64,
     write_faults: u64,
 }
 
-impl<R: Input + Print> HostLink<R> {
+/// The client at the standard streams of a runtime, of which nothing is told.
+pub type HostLink<R> = StreamLink<Untold<<R as Input>::Reader>, Output<R>>;
+
+impl<R: Input + Print> StreamLink<Untold<R::Reader>, Output<R>> {
     /// The link over the runtime's standard input and output.
     pub fn new(rt: R) -> HostLink<R>
         ensures reads { ⟦<HostLink<R> as Link>⟧.read_faults result ≡ 0 }
         ensures writes { ⟦<HostLink<R> as Link>⟧.write_faults result ≡ 0 }
     {
         let input = rt.reader();
-        HostLink {
-            rt,
+        StreamLink::over(Untold::new(input), Output::new(rt))
+    }
+}
+
+impl<I: Incoming, O: Outgoing> StreamLink<I, O> {
+    /// The link over a reader and a writer.
+    pub fn over(input: I, output: O) -> StreamLink<I, O>
+        ensures left { ⟦<StreamLink<I, O> as Link>⟧.left result ≡ (if I.tells then I.Read.remaining input else None) }
+        ensures taken { ⟦<StreamLink<I, O> as Link>⟧.taken result ≡ (if O.tells then O.Write.contents output else None) }
+        ensures reads { ⟦<StreamLink<I, O> as Link>⟧.read_faults result ≡ 0 }
+        ensures writes { ⟦<StreamLink<I, O> as Link>⟧.write_faults result ≡ 0 }
+    {
+        StreamLink {
             input,
+            output,
             read_faults: 0,
             write_faults: 0,
         }
     }
+
+    /// The reader, with what is left in it, and the writer, with what it has taken.
+    pub fn into_parts(self) -> (I, O)
+        ensures input { result.0 ≡ link_reader self }
+        ensures output { result.1 ≡ link_writer self }
+    {
+        (self.input, self.output)
+    }
 }
 
-impl<R: Input + Print> Link for HostLink<R> {
-    ghost left = { λ _. None };
+impl<I: Incoming, O: Outgoing> Link for StreamLink<I, O> {
+    ghost left = { λ link. if I.tells then I.Read.remaining link.input else None };
 
-    ghost taken = { λ _. None };
+    ghost taken = { λ link. if O.tells then O.Write.contents link.output else None };
 
     ghost read_faults = { λ link. link.read_faults };
 
@@ -46,60 +69,23 @@ impl<R: Input + Print> Link for HostLink<R> {
     fn read(&mut self, out: &mut [u8]) -> Result<usize, Failed>
         ensures count { IfOk result (λ n. n ≤ length out.old) }
         ensures rest { IfOk result (λ n. drop n out.new ≡ drop n out.old) }
-        ensures cause { HasCause (⟦<HostLink<R> as Link>⟧.read_faults self.old) (⟦<HostLink<R> as Link>⟧.read_faults self.new) (IsErr result) }
-        ensures writes { ⟦<HostLink<R> as Link>⟧.write_faults self.new ≡ ⟦<HostLink<R> as Link>⟧.write_faults self.old }
+        ensures bytes { IfOk result (λ n. TakesFront (⟦<StreamLink<I, O> as Link>⟧.left self.old) (⟦<StreamLink<I, O> as Link>⟧.left self.new) (take n out.new)) }
+        ensures end { result ≡ Ok 0 → 0 < length out.old → Told (⟦<StreamLink<I, O> as Link>⟧.left self.old) (λ bytes. bytes ≡ []) }
+        ensures failed { OnErr result (⟦<StreamLink<I, O> as Link>⟧.left self.new ≡ ⟦<StreamLink<I, O> as Link>⟧.left self.old) }
+        ensures cause { HasCause (⟦<StreamLink<I, O> as Link>⟧.read_faults self.old) (⟦<StreamLink<I, O> as Link>⟧.read_faults self.new) (IsErr result) }
+        ensures taken { ⟦<StreamLink<I, O> as Link>⟧.taken self.new ≡ ⟦<StreamLink<I, O> as Link>⟧.taken self.old }
+        ensures writes { ⟦<StreamLink<I, O> as Link>⟧.write_faults self.new ≡ ⟦<StreamLink<I, O> as Link>⟧.write_faults self.old }
 
-        // What is read, and nothing else, comes from the runtime's reader.
-        ensures bytes { IfOk result (λ n. Consumes (R.Reader.Read.remaining (link_reader self.old)) (R.Reader.Read.remaining (link_reader self.new)) (take n out.new)) }
-        ensures end { result ≡ Ok 0 → 0 < length out.old → IsAtEnd (R.Reader.Read.remaining (link_reader self.new)) }
+        // What is read, and nothing else, comes from the reader, whether the link tells or not.
+        ensures reader { IfOk result (λ n. Consumes (I.Read.remaining (link_reader self.old)) (I.Read.remaining (link_reader self.new)) (take n out.new)) }
+        ensures reader_end { result ≡ Ok 0 → 0 < length out.old → IsAtEnd (I.Read.remaining (link_reader self.new)) }
     {
         let answer = read_some(&mut self.input, out);
         counted(&mut self.read_faults, answer)
     }
 
     fn write(&mut self, piece: &[u8]) -> Result<usize, Failed> {
-        let answer = write_some(&mut io::writer(&self.rt), piece);
+        let answer = write_some(&mut self.output, piece);
         counted(&mut self.write_faults, answer)
-    }
-}
-
-/// Gives the link over the standard streams once, and then no more. It never fails.
-#[derive(Drop)]
-pub struct HostListen<R: Input> {
-    link: Option<HostLink<R>>,
-}
-
-impl<R: Input + Print + Drop> HostListen<R> {
-    /// A listener whose one link is over the runtime's standard streams.
-    pub fn new(rt: R) -> HostListen<R>
-        ensures { IsSome (link_to_come result) }
-    {
-        HostListen {
-            link: Some(HostLink::new(rt)),
-        }
-    }
-}
-
-impl<R: Input + Print + Drop> Listener for HostListen<R> {
-    type Conn = HostLink<R>;
-
-    ghost to_come = { λ _. None };
-
-    ghost given_back = { λ _. None };
-
-    ghost faults = { λ _. 0 };
-
-    fn next(&mut self) -> Result<Option<HostLink<R>>, Failed>
-        ensures link { IfOk result (λ link. link ≡ link_to_come self.old) }
-        ensures once { link_to_come self.new ≡ None }
-        ensures never_fails { IsOk result }
-    {
-        Ok(self.link.take())
-    }
-
-    fn back(&mut self, link: HostLink<R>)
-        ensures { link_to_come self.new ≡ link_to_come self.old }
-    {
-        let _ = link;
     }
 }

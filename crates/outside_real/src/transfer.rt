@@ -1,5 +1,5 @@
-ghost use Rattle.std.specs.Prelude.{◌≡◌, ◌≤◌, ◌<◌, ℕ, length, take, drop, min, IfOk, Ok, OnOk};
-ghost use Rattle.std.specs.Io.KnownBytes.{Consumes, Appends, IsAtEnd};
+ghost use Rattle.std.specs.Prelude.{◌≡◌, ◌≤◌, ◌<◌, ℕ, length, take, drop, min, IfOk, Ok, OnErr};
+ghost use Rattle.std.specs.Io.KnownBytes.{Consumes, Appends, IsAtEnd, Keeps};
 
 use std::io;
 use std::io::{Error, ErrorKind, Read, Write};
@@ -12,6 +12,7 @@ fn read_once<I: Read>(input: &mut I, out: &mut [u8]) -> io::Result<usize>
     ensures count { IfOk result (λ n. n ≤ length out.old) }
     ensures bytes { IfOk result (λ n. Consumes (I.remaining input.old) (I.remaining input.new) (take n out.new)) }
     ensures end { result ≡ Ok 0 → 0 < length out.old → IsAtEnd (I.remaining input.new) }
+    ensures failed { OnErr result (Keeps (I.remaining input.old) (I.remaining input.new)) }
 {
     for _ in 0..u64::MAX {
         match input.read(out) {
@@ -28,6 +29,7 @@ pub(crate) fn read_some<I: Read>(input: &mut I, out: &mut [u8]) -> io::Result<us
     ensures rest { IfOk result (λ n. drop n out.new ≡ drop n out.old) }
     ensures bytes { IfOk result (λ n. Consumes (I.remaining input.old) (I.remaining input.new) (take n out.new)) }
     ensures end { result ≡ Ok 0 → 0 < length out.old → IsAtEnd (I.remaining input.new) }
+    ensures failed { OnErr result (Keeps (I.remaining input.old) (I.remaining input.new)) }
 {
     let mut chunk = [0u8; CHUNK];
     let most = out.len().min(CHUNK);
@@ -42,6 +44,7 @@ pub(crate) fn read_one<I: Read>(input: &mut I, out: &mut [u8]) -> io::Result<usi
     ensures rest { IfOk result (λ n. drop n out.new ≡ drop n out.old) }
     ensures bytes { IfOk result (λ n. Consumes (I.remaining input.old) (I.remaining input.new) (take n out.new)) }
     ensures end { result ≡ Ok 0 → 0 < length out.old → IsAtEnd (I.remaining input.new) }
+    ensures failed { OnErr result (Keeps (I.remaining input.old) (I.remaining input.new)) }
 {
     if out.is_empty() {
         return Ok(0);
@@ -72,21 +75,20 @@ pub(crate) fn read_full<I: Read>(input: &mut I, out: &mut [u8]) -> io::Result<us
     Ok(filled)
 }
 
-/// Writes some bytes from the front of a piece, at least one unless it is empty, and says how many. They leave at once.
+/// Writes some bytes from the front of a piece, at least one unless it is empty, and says how many. The writer has no buffer, so
+/// nothing is flushed: a flush could fail after the bytes were taken.
 pub(crate) fn write_some<O: Write>(output: &mut O, piece: &[u8]) -> io::Result<usize>
     ensures count { IfOk result (λ n. n ≤ length piece.now) }
     ensures some { IfOk result (λ n. 0 < length piece.now → 0 < n) }
     ensures bytes { IfOk result (λ n. Appends (O.contents output.old) (O.contents output.new) (take n piece.now)) }
+    ensures failed { OnErr result (Keeps (O.contents output.old) (O.contents output.new)) }
 {
     for _ in 0..u64::MAX {
         match output.write(piece) {
             Err(e) if e.kind() == ErrorKind::Interrupted => {}
             Err(e) => return Err(e),
             Ok(0) if !piece.is_empty() => return Err(Error::from(ErrorKind::WriteZero)),
-            Ok(count) => {
-                output.flush()?;
-                return Ok(count);
-            }
+            Ok(count) => return Ok(count),
         }
     }
     Err(Error::from(ErrorKind::TimedOut))

@@ -2,7 +2,9 @@
 
 use crate::script::Script;
 use outside::{Clock, Entropy, Failed, Link, Listener, Sink, Source};
-use outside_real::{HostClock, HostLink, HostListen, NullSink, OsEntropy, StdSink, StdSource};
+use outside_real::{
+    HostClock, HostLink, HostListen, NullSink, OsEntropy, StdSink, StdSource, StreamLink,
+};
 use std::test::Fail;
 
 #[test]
@@ -39,6 +41,25 @@ fn streams_take_some_or_fail(rt: HostRuntime) {
         assert_eq!(rt; sink.write(b"abc"), want);
     }
     assert_eq!(rt; NullSink.write(b"abc"), Ok(3));
+}
+
+#[test]
+fn bytes_in_memory_come_and_go(rt: HostRuntime) {
+    let mut link = StreamLink::over(b"abc".as_slice(), Vec::new(rt.alloc()));
+    let mut source = StdSource::over(b"abc".as_slice());
+    let mut sink = StdSink::over(Vec::new(rt.alloc()));
+    let mut out = *b"---";
+    assert_eq!(rt; link.read(&mut out[..2]), Ok(2));
+    assert!(rt; out == *b"ab-");
+    assert_eq!(rt; source.read(&mut out), Ok(1));
+    assert_eq!(rt; source.read(&mut out[1..]), Ok(1));
+    assert!(rt; out == *b"ab-");
+    assert_eq!(rt; link.write(b"xyz"), Ok(3));
+    assert_eq!(rt; sink.write(b"uv"), Ok(2));
+    let (left, taken) = link.into_parts();
+    assert!(rt; left == b"c".as_slice());
+    assert!(rt; taken.as_slice() == b"xyz".as_slice());
+    assert!(rt; sink.into_writer().as_slice() == b"uv".as_slice());
 }
 
 #[test]

@@ -1,6 +1,7 @@
 -- Histories in which nothing of the outside failed.
 use Rattle.std.proofs.Common.{◌≡◌, ℕ, zero, suc, Bool, true, false, not, ◌&&◌, cond, List, [], ◌∷◌, Option, Some, None, IsNone, MatchOption, refl, sym, ap, subst, inl, inr}
 use Rattle.std.specs.Option.{option_map_or}
+use Rattle.std.proofs.lemmas.Bool.{false_from_ne_true}
 use Rattle.std.proofs.lemmas.Option.{same_Some}
 use Rattle.outside.specs.Disk.{Path}
 use Rattle.tree_model.specs.declared.refusal.Refusal.{Refusal}
@@ -11,11 +12,6 @@ use Rattle.tree_model.specs.Step.{Answer, refuses, step}
 use Rattle.tree_model.specs.NotBuilt.{withheld}
 use Rattle.tree_model.specs.History.{Made, Entry, Tally, Origin, answer_of, entry_at, places, is_refusal, HasCause, IsCaused, AreCaused, IsTreeAnswer, IsAnswered, AreAnswered, IsLegal, next, after, tally_at, rows_then, rows_at}
 use Rattle.tree_model.specs.Laws.{IsFaultless, AreFaultless, IsStepAnswer, IsStepped, AreStepped}
-
--- a fact of a Bool that would be absurd if it were true
-is_false : (b : Bool) → (b ≡ true → ⊥) → b ≡ false
-is_false true never = absurd (never refl)
-is_false false never = refl
 
 -- an Option without a value is None
 none_of : {X : Type 0} (o : Option X) → IsNone o → o ≡ None
@@ -30,7 +26,7 @@ cause_of made refusal is cause =
 -- no commit failed
 committed : (tally : Tally) (entry : Entry) → IsNone tally.stopped → IsCaused tally entry → IsFaultless entry.made → entry.made.commit_failed ≡ false
 committed tally entry running caused faultless =
-    is_false entry.made.commit_failed
+    false_from_ne_true entry.made.commit_failed
     (λ failed. faultless.folder (subst (λ (reply : PlainReply). HasCause entry.made reply) (caused.flag failed).0 (caused.running running).0))
 
 -- the step's answer, or that the place is taken
