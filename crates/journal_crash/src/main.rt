@@ -1,0 +1,164 @@
+//! Commits numbered batches to the journal of a folder on disk, until it has done so often or is killed, and shows the newest
+//! number that the folder has. `bench/crash` kills it at random moments and looks that nothing is lost.
+//!
+//! ```text
+//! journal_crash run FOLDER COUNT   # a line with each number once its commit was acknowledged
+//! journal_crash show FOLDER        # a line with the newest number, after recovery
+//! ```
+#![tactic(auto)]
+
+use chunk_journal::{Device, Journal, JournalErr};
+use deeds::{Batch, BatchErr, is_repeatable, read_batch};
+use outside::{FolderErr, Kind, Reads};
+use outside_real::HostFolder;
+use std::alloc::{AllocError, Global};
+use std::rt::Files;
+use std::{env, io};
+use thiserror::Error;
+use vault_path::VaultPath;
+
+/// How many bytes each batch puts.
+const PUT_LEN: usize = 100;
+
+/// A batch up to the number: three deeds, the first of which puts the file `a`.
+const HEAD: [u8; 12] = [0, 0, 0, 3, 2, 1, 1, b'a', 0, 0, 0, 100];
+
+/// Puts the file `b` behind it.
+const SECOND: [u8; 8] = [2, 1, 1, b'b', 0, 0, 0, 100];
+
+/// Moves `c` to `d`, or back: every other batch each.
+const MOVES: [[u8; 7]; 2] = [[3, 1, 1, b'c', 1, 1, b'd'], [3, 1, 1, b'd', 1, 1, b'c']];
+
+/// Makes the first file `c`: the number 0.
+const FIRST: [u8; 12] = [0, 0, 0, 1, 2, 1, 1, b'c', 0, 0, 0, 0];
+
+/// Why it ends with status 1.
+#[derive(Debug, Drop, Error)]
+enum CrashErr {
+    #[error("the words are: run FOLDER COUNT, or show FOLDER")]
+    Words,
+    #[error("{0}")]
+    Io(#[from] io::Error),
+    #[error("out of memory")]
+    Alloc(#[from] AllocError),
+    #[error("{0}")]
+    Folder(#[from] FolderErr),
+    #[error("{0}")]
+    Device(#[from] Device),
+    #[error("{0}")]
+    Journal(#[from] JournalErr),
+    #[error("{0}")]
+    Batch(#[from] BatchErr),
+    #[error("a path is bad")]
+    Path,
+    #[error("the folder has parts of two batches")]
+    Mixed,
+}
+
+/// The bytes that a batch puts: its number, and zeros.
+fn bytes_of(number: u64) -> [u8; PUT_LEN] {
+    let mut bytes = [0; PUT_LEN];
+    bytes[..8].copy_from_slice(&number.to_be_bytes());
+    bytes
+}
+
+/// The batch of a number.
+fn batch_of(alloc: Global, number: u64) -> Result<Batch, CrashErr> {
+    let bytes = bytes_of(number);
+    let mut text = Vec::new(alloc);
+    text.extend_from_slice(&HEAD)?;
+    text.extend_from_slice(&bytes)?;
+    text.extend_from_slice(&SECOND)?;
+    text.extend_from_slice(&bytes)?;
+    let moves = if number % 2 == 1 {
+        &MOVES[0]
+    } else {
+        &MOVES[1]
+    };
+    text.extend_from_slice(moves)?;
+    let batch = read_batch(alloc, &text)?;
+    Ok(batch)
+}
+
+/// The number that a file has, or 0 where it isn't there.
+fn number_in<D: Reads>(folder: &mut D, path: &VaultPath) -> Result<u64, CrashErr> {
+    let mut bytes = [0; 8];
+    match folder.kind(path)? {
+        Some(Kind::File(_)) => {
+            let _count = folder.read(path, 0, &mut bytes)?;
+        }
+        _ => {}
+    }
+    Ok(u64::from_be_bytes(bytes))
+}
+
+fn name(text: &[u8]) -> Result<VaultPath, CrashErr> {
+    VaultPath::root().join(text).map_err(|_| CrashErr::Path)
+}
+
+/// The number that the folder has, all parts of which have to be of one batch.
+fn newest<D: Reads>(folder: &mut D) -> Result<u64, CrashErr> {
+    let number = number_in(folder, &name(b"a")?)?;
+    let other = number_in(folder, &name(b"b")?)?;
+    let at_first = folder.kind(&name(b"c")?)?.is_some();
+    let moved = folder.kind(&name(b"d")?)?.is_some();
+    let is_odd = number % 2 == 1;
+    if number != other || moved != is_odd || (at_first == moved && number > 0) {
+        return Err(CrashErr::Mixed);
+    }
+    Ok(number)
+}
+
+/// The journal of the folder on disk.
+fn opened<'a>(
+    rt: &'a HostRuntime,
+    place: &str,
+) -> Result<Journal<HostFolder<&'a HostRuntime>>, CrashErr> {
+    let folder = HostFolder::new(rt, rt.alloc(), place)?;
+    match Journal::open(rt.alloc(), folder) {
+        Ok(journal) => Ok(journal),
+        Err(refused) => Err(CrashErr::Journal(refused.cause)),
+    }
+}
+
+/// Commits a batch that names no path twice.
+fn commit<'a>(
+    journal: &mut Journal<HostFolder<&'a HostRuntime>>,
+    batch: &Batch,
+) -> Result<(), CrashErr> {
+    if !is_repeatable(batch) {
+        return Err(CrashErr::Path);
+    }
+    journal.commit(batch)?;
+    Ok(())
+}
+
+/// Commits so many batches more, and says so of each.
+fn run(rt: &HostRuntime, place: &str, count: u64) -> Result<(), CrashErr> {
+    let mut journal = opened(rt, place)?;
+    let mut number = newest(&mut journal)?;
+    if number == 0 {
+        commit(&mut journal, &read_batch(rt.alloc(), &FIRST)?)?;
+    }
+    for _ in 0..count {
+        number = number.saturating_add(1);
+        commit(&mut journal, &batch_of(rt.alloc(), number)?)?;
+        println!(rt; "{number}")?;
+    }
+    Ok(())
+}
+
+fn main(rt: HostRuntime) -> Result<(), CrashErr> {
+    let mut words = env::args(&rt)?.skip(1);
+    let word = words.next().ok_or(CrashErr::Words)?;
+    let place = words.next().ok_or(CrashErr::Words)?;
+    if word.as_str() == "show" {
+        let mut journal = opened(&rt, place.as_str())?;
+        let number = newest(&mut journal)?;
+        println!(&rt; "{number}")?;
+        return Ok(());
+    }
+    let count = words.next().ok_or(CrashErr::Words)?;
+    let count = count.as_str().parse::<u64>().map_err(|_| CrashErr::Words)?;
+    run(&rt, place.as_str(), count)
+}
