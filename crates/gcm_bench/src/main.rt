@@ -36,11 +36,19 @@ fn number(word: Option<String>) -> Result<u64, BenchErr> {
     text.as_str().parse::<u64>().map_err(|_| BenchErr::Words)
 }
 
+// A nonce that the compiler doesn't know, as it doesn't know that of a chunk.
+fn nonce_of(repetitions: u64) -> [u8; 12] {
+    let mut nonce = *NONCE;
+    nonce[11] = (repetitions & 0xff) as u8;
+    nonce
+}
+
 // Seals the text, and what that gives, and so on.
 fn sealed(key: &BulkGcmKey, text: &mut [u8], repetitions: u64) -> [u8; 16] {
+    let nonce = nonce_of(repetitions);
     let mut tag = [0; 16];
     for _repetition in 0..repetitions {
-        tag = key.seal_in_place(NONCE, ASSOCIATED, text);
+        tag = key.seal_in_place(&nonce, ASSOCIATED, text);
     }
     tag
 }
@@ -52,12 +60,13 @@ fn opened(
     room: &mut [u8],
     repetitions: u64,
 ) -> Result<[u8; 16], BadTag> {
-    let tag = key.seal_in_place(NONCE, ASSOCIATED, text);
+    let nonce = nonce_of(repetitions);
+    let tag = key.seal_in_place(&nonce, ASSOCIATED, text);
     for _repetition in 0..repetitions {
         if room.len() == text.len() {
             room.copy_from_slice(text);
         }
-        key.open_in_place(NONCE, ASSOCIATED, room, &tag)?;
+        key.open_in_place(&nonce, ASSOCIATED, room, &tag)?;
     }
     Ok(tag)
 }

@@ -1,9 +1,9 @@
 // GHASH (SP 800-38D, 6) over u128 words: the coefficient of x^i is bit 127 - i.
 
-ghost use Rattle.std.specs.Prelude.{◌≡◌, ℕ, ◌+◌, ◌*◌, ◌<◌, List, ◌++◌, length};
+ghost use Rattle.std.specs.Prelude.{◌≡◌, ℕ, ◌+◌, ◌*◌, ◌/◌, ◌^◌, ◌<◌, ◌≤◌, List, ◌++◌, length};
 ghost use Rattle.aes_block.specs.Bytes.{bytes_of, number_of};
 ghost use Rattle.gcm_mode.specs.Gcm.{hashed_text};
-ghost use Rattle.gcm_mode.specs.Ghash.{block_at, ghash, IsHashed, product, product_of, times_x, zero_padded};
+ghost use Rattle.gcm_mode.specs.Ghash.{block_at, ghash, hashed, IsHashed, product, product_of, times_x, zero_padded};
 
 use crate::stream::BLOCK_LEN;
 use std::marker::Model;
@@ -17,6 +17,9 @@ const REDUCTIONS: [u16; 16] = [
     0x0000, 0x1c20, 0x3840, 0x2460, 0x7080, 0x6ca0, 0x48c0, 0x54e0, 0xe100, 0xfd20, 0xd940, 0xc560,
     0x9180, 0x8da0, 0xa9c0, 0xb5e0,
 ];
+
+// The fewest bytes of a text for which it pays to make a table for the subkey's square.
+const LONG: usize = 0x2000;
 
 // The product with x, without a branch on a bit of v, which is a secret.
 fn times_x(v: u128) -> u128
@@ -48,6 +51,14 @@ fn nibble_product(nibble: usize, v: u128) -> u128
     sum
 }
 
+// States that a number is a block's.
+#[inline(always)]
+fn is_block(x: u128)
+    ensures { x < 2 ^ 128 }
+{
+    let _number = x;
+}
+
 // A hash subkey, made ready for products.
 pub(crate) trait Subkey {
     // The subkey as a number.
@@ -56,6 +67,18 @@ pub(crate) trait Subkey {
     // The product of a block with the subkey (6.3).
     fn product(&self, x: u128) -> u128
         ensures { result ≡ product x (subkey self.now) };
+
+    // The hash of what was hashed before and of a text behind it, padded with zeros (6.4).
+    fn absorb(&self, before: u128, text: &[u8]) -> u128
+        ensures { (front : List ℕ) → IsHashed (subkey self.now) front before
+            → IsHashed (subkey self.now) (front ++ zero_padded text.now) result }
+    {
+        let mut hash = before;
+        for i in 0..text.len().div_ceil(BLOCK_LEN) {
+            hash = self.product(hash ^ block_number(text, i));
+        }
+        hash
+    }
 }
 
 // The products of a subkey with each 4 bits, for few blocks: 256 bytes, soon made.
@@ -132,6 +155,29 @@ impl PlaceTable {
         }
         PlaceTable { table }
     }
+
+    // The hash of what was hashed before and of the first pairs of blocks of a text behind it, in
+    // two sums side by side: of the blocks at even and at odd places, each times the square of the
+    // subkey, so that neither waits for the other. The second one is behind by one product.
+    fn absorb_pairs(&self, before: u128, text: &[u8], pairs: usize) -> u128
+        requires { 32 * pairs ≤ length text.now }
+        ensures { (front : List ℕ) → IsHashed self.now front before
+            → hashed self.now (front ++ zero_padded text.now) (length front / 16 + 2 * pairs) ≡ result }
+    {
+        if pairs == 0 {
+            return before;
+        }
+        let subkey = self.table[8];
+        is_block(subkey);
+        let square = PlaceTable::new(self.product(subkey));
+        let mut even = before;
+        let mut odd = 0;
+        for i in 0..pairs {
+            even = square.product(even ^ block_number(text, 2 * i));
+            odd = square.product(odd) ^ block_number(text, 2 * i + 1);
+        }
+        even ^ self.product(odd)
+    }
 }
 
 impl Subkey for PlaceTable {
@@ -150,6 +196,20 @@ impl Subkey for PlaceTable {
             sum ^= upper ^ lower;
         }
         sum
+    }
+
+    // Whole pairs first, where they are many.
+    fn absorb(&self, before: u128, text: &[u8]) -> u128 {
+        let pairs = if text.len() < LONG {
+            0
+        } else {
+            text.len() / (2 * BLOCK_LEN)
+        };
+        let mut hash = self.absorb_pairs(before, text, pairs);
+        for i in 2 * pairs..text.len().div_ceil(BLOCK_LEN) {
+            hash = self.product(hash ^ block_number(text, i));
+        }
+        hash
     }
 }
 
@@ -170,18 +230,6 @@ fn block_number(text: &[u8], i: usize) -> u128
     u128::from_be_bytes(block)
 }
 
-// The hash of what was hashed before and of a text behind it, padded with zeros.
-fn absorb<K: Subkey>(key: &K, before: u128, text: &[u8]) -> u128
-    ensures { (front : List ℕ) → IsHashed (K.subkey key.now) front before
-        → IsHashed (K.subkey key.now) (front ++ zero_padded text.now) result }
-{
-    let mut hash = before;
-    for i in 0..text.len().div_ceil(BLOCK_LEN) {
-        hash = key.product(hash ^ block_number(text, i));
-    }
-    hash
-}
-
 // The lengths of both in bits, modulo 2^64.
 fn length_block(ad: &[u8], ciphertext: &[u8]) -> [u8; BLOCK_LEN]
     ensures { result ≡ bytes_of 8 (8 * length ad.now) ++ bytes_of 8 (8 * length ciphertext.now) }
@@ -198,7 +246,8 @@ fn length_block(ad: &[u8], ciphertext: &[u8]) -> [u8; BLOCK_LEN]
 pub(crate) fn hash_of<K: Subkey>(key: &K, ad: &[u8], ciphertext: &[u8]) -> [u8; BLOCK_LEN]
     ensures { result ≡ ghash (K.subkey key.now) (hashed_text ad.now ciphertext.now) }
 {
-    let ad_hash = absorb(key, 0, ad);
-    let text_hash = absorb(key, ad_hash, ciphertext);
-    absorb(key, text_hash, &length_block(ad, ciphertext)).to_be_bytes()
+    let ad_hash = key.absorb(0, ad);
+    let text_hash = key.absorb(ad_hash, ciphertext);
+    key.absorb(text_hash, &length_block(ad, ciphertext))
+        .to_be_bytes()
 }

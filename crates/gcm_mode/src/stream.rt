@@ -4,10 +4,11 @@ ghost use Rattle.std.specs.Prelude.{◌≡◌, ◌≤◌, ◌<◌, ◌+◌, ◌*
 ghost use Rattle.aes_block.specs.Aes.{aes};
 ghost use Rattle.aes_block.specs.Bytes.{MakesBlocks};
 ghost use Rattle.gcm_mode.specs.Gcm.{counted, counter_block};
+ghost use Rattle.aes_bits.specs.Circuit.{AreRoundKeys};
 ghost use Rattle.gcm_mode.specs.Counted.{Counted};
 
-use aes_bits::encrypt_blocks;
-use aes_block::{BlockKey, Key256, xor_onto};
+use aes_bits::{RoundKeys, encrypted_eight, round_keys};
+use aes_block::{BlockKey, xor_onto};
 use aes_lanes::LaneKey;
 
 pub(crate) const BLOCK_LEN: usize = 16;
@@ -20,7 +21,10 @@ const FIRST_COUNTER: u32 = 2;
 // How many blocks are encrypted at a time by lanes, and how many bitsliced.
 const LANES: usize = 4;
 
-const BITSLICED: usize = 256;
+const BITSLICED: usize = 8;
+
+// The fewest bytes of a text for which it pays to bring the round keys into planes.
+const LONG: usize = 512;
 
 // Counter block i of a nonce.
 fn counter_block(nonce: &[u8; NONCE_LEN], i: u32) -> [u8; BLOCK_LEN]
@@ -45,17 +49,29 @@ fn four_masks(key: &LaneKey, nonce: &[u8; NONCE_LEN], first: u32) -> [[u8; BLOCK
     ])
 }
 
-// 256 encrypted counter blocks, from `first` on, modulo 2^32.
-fn many_masks(key: &Key256, nonce: &[u8; NONCE_LEN], first: u32) -> [[u8; BLOCK_LEN]; BITSLICED]
-    ensures { (j : ℕ) → j < BITSLICED → slice_index_or result j []
-        ≡ aes key.now (counter_block nonce.now ((first + j) % 2 ^ 32)) }
+// Eight encrypted counter blocks, from `first` on, modulo 2^32.
+#[inline(always)]
+fn eight_masks(
+    keys: &RoundKeys,
+    nonce: &[u8; NONCE_LEN],
+    first: u32,
+) -> [[u8; BLOCK_LEN]; BITSLICED]
+    ensures { (key : List ℕ) → AreRoundKeys key keys.now → (j : ℕ) → j < BITSLICED
+        → slice_index_or result j [] ≡ aes key (counter_block nonce.now ((first + j) % 2 ^ 32)) }
 {
-    let mut blocks = [[0u8; BLOCK_LEN]; BITSLICED];
-    for j in 0..BITSLICED {
-        blocks[j] = counter_block(nonce, first.wrapping_add(j as u32));
-    }
-    encrypt_blocks(key, &mut blocks);
-    blocks
+    encrypted_eight(
+        keys,
+        &[
+            counter_block(nonce, first),
+            counter_block(nonce, first.wrapping_add(1)),
+            counter_block(nonce, first.wrapping_add(2)),
+            counter_block(nonce, first.wrapping_add(3)),
+            counter_block(nonce, first.wrapping_add(4)),
+            counter_block(nonce, first.wrapping_add(5)),
+            counter_block(nonce, first.wrapping_add(6)),
+            counter_block(nonce, first.wrapping_add(7)),
+        ],
+    )
 }
 
 // The encrypted counter block 1, which masks the tag (7.1, step 6).
@@ -100,20 +116,40 @@ fn xor_rest(key: &LaneKey, nonce: &[u8; NONCE_LEN], first: u32, text: &mut [u8],
     }
 }
 
+// Xors encrypted counter blocks, from 2 on, onto the first groups of eight blocks of a text, and
+// returns the counter behind them.
+fn xor_groups(key: &LaneKey, nonce: &[u8; NONCE_LEN], text: &mut [u8], groups: usize) -> u32
+    requires { 128 * groups ≤ length text.old }
+    ensures counter { result ≡ (8 * groups + 2) % 2 ^ 32 }
+    ensures text { Counted (aes key.now) nonce.now text.old (8 * groups) text.new }
+{
+    if groups == 0 {
+        return FIRST_COUNTER;
+    }
+    key.key().makes_blocks();
+    let keys = round_keys(key.key());
+    let mut counter = FIRST_COUNTER;
+    for i in 0..groups {
+        let masks = eight_masks(&keys, nonce, counter);
+        xor_masks(text, BITSLICED * i, &masks);
+        counter = counter.wrapping_add(BITSLICED as u32);
+    }
+    counter
+}
+
 // Encrypts or decrypts a text in place, from counter block 2 on.
 pub(crate) fn count_over(key: &LaneKey, nonce: &[u8; NONCE_LEN], text: &mut [u8])
     ensures { text.new ≡ counted (aes key.now) nonce.now text.old }
 {
     key.key().makes_blocks();
-    let mut counter = FIRST_COUNTER;
-    let many = text.len() / (BLOCK_LEN * BITSLICED);
-    for i in 0..many {
-        let masks = many_masks(key.key(), nonce, counter);
-        xor_masks(text, BITSLICED * i, &masks);
-        counter = counter.wrapping_add(BITSLICED as u32);
-    }
+    let done = if text.len() < LONG {
+        0
+    } else {
+        text.len() / (BLOCK_LEN * BITSLICED)
+    };
+    let mut counter = xor_groups(key, nonce, text, done);
     let groups = text.len() / (BLOCK_LEN * LANES);
-    for i in BITSLICED / LANES * many..groups {
+    for i in BITSLICED / LANES * done..groups {
         let masks = four_masks(key, nonce, counter);
         xor_masks(text, LANES * i, &masks);
         counter = counter.wrapping_add(LANES as u32);

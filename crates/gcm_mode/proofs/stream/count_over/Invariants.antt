@@ -3,10 +3,6 @@ use Rattle.aes_block.specs.Aes.{aes}
 use Rattle.gcm_mode.specs.Counted.{Counted}
 use Rattle.gcm_mode.proofs.stream.count_over.Given as goal
 
--- the first 256 * i blocks are done
-abbrev pub invariant-loop-i : goal.invariant-loop-i
-invariant-loop-i l = (l.counter ≡ (256 * l.i + 2) % 2 ^ 32) × Counted (aes l.key) l.nonce l.fn.text (256 * l.i) l.text
-
 -- the first 4 * i blocks are done
-abbrev pub invariant-loop-i-2 : goal.invariant-loop-i-2
-invariant-loop-i-2 l = (l.counter ≡ (4 * l.i + 2) % 2 ^ 32) × Counted (aes l.key) l.nonce l.fn.text (4 * l.i) l.text
+abbrev pub invariant-loop-i : goal.invariant-loop-i
+invariant-loop-i l = (l.counter ≡ (4 * l.i + 2) % 2 ^ 32) × Counted (aes l.key) l.nonce l.fn.text (4 * l.i) l.text
