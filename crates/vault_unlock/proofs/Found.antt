@@ -2,14 +2,13 @@
 use Rattle.std.proofs.Common.{◌≡◌, ℕ, ◌<◌, List, length, Option, Some, None, Result, Ok, Err, refl, sym, ap, subst, ◌∙◌}
 use Rattle.std.proofs.lemmas.Bool.{lt-ltb}
 use Rattle.std.specs.Result.{result_map_both}
-use Rattle.outside.specs.Calls.{Told}
 use Rattle.outside.specs.Disk.{Disk}
 use Rattle.outside.specs.Images.{Log, disk_in}
 use Rattle.siv_mode.specs.Keys.{KeyPair}
 use Rattle.json_members.specs.Steps.{result_and_then}
 use Rattle.masterkey_file.proofs.Members.{keys_of-long}
 use Rattle.vault_config.proofs.Reading.{config_of-long}
-use Rattle.vault_keys.specs.Unlock.{FoundFile, absent, file, UnlockedVault, Cause as KeyCause, bad_masterkey_file, masterkey_too_long, vault_too_long, masterkey_opened, vault_opened}
+use Rattle.vault_keys.specs.Unlock.{FoundFile, absent, UnlockedVault, Cause as KeyCause, bad_masterkey_file, masterkey_too_long, vault_too_long, masterkey_opened, vault_opened}
 use Rattle.vault_keys.specs.Errors.{IsCause}
 use Rattle.vault_keys.specs.declared.errors.UnlockErr.{UnlockErr}
 use Rattle.vault_keys.proofs.Opening.{with_keys, IsCause-then}

@@ -9,7 +9,6 @@ use Rattle.key_files.specs.declared.finding.FindErr.{FindErr}
 use Rattle.key_files.specs.declared.finding.FindErr.TheVariants as find_errs
 use Rattle.vault_keys.specs.Unlock as unlock
 use Rattle.vault_keys.specs.Errors.{IsCause}
-use Rattle.vault_keys.specs.declared.errors.UnlockErr.{UnlockErr}
 use Rattle.vault_keys.specs.declared.errors.UnlockErr.TheVariants as unlock_errs
 use Rattle.vault_unlock.specs.Unlock.{IsUnlocking}
 use Rattle.vault_unlock.specs.declared.unlocking.SecretKind.{SecretKind}

@@ -1,5 +1,5 @@
 -- What a secret and a vault's folder unlock, or the first cause against it.
-use Rattle.std.specs.Prelude.{◌≡◌, ℕ, List, Option, Some, None, Result, Ok, Err}
+use Rattle.std.specs.Prelude.{◌≡◌, ℕ, List, Option, Result}
 use Rattle.std.specs.Option.{option_map, ok_or}
 use Rattle.outside.specs.Calls.{Told}
 use Rattle.outside.specs.Disk.{Disk}

@@ -1,4 +1,4 @@
-use Rattle.std.proofs.Common.{◌≤◌, ℕ, List, length, take, Some, None, sym, ◌∙◌, refl, arith, length-take}
+use Rattle.std.proofs.Common.{◌≤◌, length, take, Some, None, arith, length-take}
 use Rattle.std.specs.String.{string_bytes}
 use Rattle.std.proofs.lemmas.Result.{err_from_is_err_and}
 use Rattle.vault_unlock.proofs.Lines.{begun_line}
