@@ -1,0 +1,4 @@
+pub mod Spans
+pub mod Pieces
+pub mod ReadLemmas
+pub mod ReaderLemmas

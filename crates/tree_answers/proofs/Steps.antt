@@ -1,0 +1,64 @@
+-- Answers that are the step's.
+use Rattle.std.proofs.Common.{◌≡◌, ℕ, ◌&&◌, ◌||◌, ◌*◌, ◌%◌, ◌/◌, Bool, true, false, cond, bit_and, eq-eqb, Some, None, refl, sym, ap, ◌∙◌, arith, inl, inr}
+use Rattle.std.proofs.lemmas.Bool.{ne_eqb, cases_lt}
+use Rattle.std.proofs.lemmas.Nat.Bits.{and_pow}
+use Rattle.tree_model.specs.declared.refusal.Refusal.{Refusal}
+use Rattle.tree_model.specs.declared.refusal.Refusal.TheVariants as refusals
+use Rattle.tree_model.specs.declared.stat.Qid.{Qid}
+use Rattle.tree_model.specs.Rows.{Content}
+use Rattle.tree_model.specs.Asked.{PlainRequest, look, open_node, sync, qid, done}
+use Rattle.tree_model.specs.Step.{Stepped, stepped, says, refuses, open_refusal, is_bad_size, open_step, truncates, writes, node_of}
+use Rattle.tree_model.proofs.Steps.{step_removed, step_worked, step_refused}
+use Rattle.clear_tree.specs.Kept.{What, KeptFile, KeptLink, KeptDir, KeptBad, KeptNode, KeptTree, kind_of, row_of as kept_row, tree_rows, node_of as node_in}
+use Rattle.tree_answers.specs.Answers.{IsStepOf, open_fault, qid_in}
+use Rattle.tree_answers.proofs.Rows.{row_there, row_absent}
+
+answer_of : {a b : Stepped} → a ≡ b → a.answer ≡ b.answer
+answer_of e = ap (λ (s : Stepped). s.answer) e
+
+pub removed : (tree : KeptTree) (request : PlainRequest) → node_in tree (node_of request) ≡ None → IsStepOf tree request (refuses refusals.Removed)
+removed tree request none contents at second = sym (answer_of (step_removed (tree_rows contents at tree) request second (row_absent contents at tree (node_of request) none)))
+
+pub looked : (tree : KeptTree) (number : ℕ) (node : KeptNode) (q : Qid) → node_in tree number ≡ Some node → q ≡ qid_in number node → IsStepOf tree (look number) (says (qid q))
+looked tree number node q there is contents at second =
+    ap (λ (q : Qid). says (qid q)) is
+    ∙ sym (answer_of (step_worked (tree_rows contents at tree) (look number) second (kept_row contents at number node) (row_there contents at tree number node there) refl))
+
+pub synced : (tree : KeptTree) (number : ℕ) (node : KeptNode) → node_in tree number ≡ Some node → IsStepOf tree (sync number) (says done)
+synced tree number node there contents at second =
+    sym (answer_of (step_worked (tree_rows contents at tree) (sync number) second (kept_row contents at number node) (row_there contents at tree number node there) refl))
+
+-- ---- opening
+
+pub truncates_set : (mode : ℕ) → (bit_and mode 16 ≡ 0 → ⊥) → truncates mode ≡ true
+truncates_set mode set =
+    let bit : bit_and mode 16 ≡ mode / 16 % 2 * 16 = and_pow mode 4 in
+    eq-eqb (mode / 16 % 2) 1 (elim (cases_lt (mode / 16 % 2) 1) [ inl low ↦ absurd (set (omega arith)) | inr high ↦ omega arith ])
+
+pub truncates_clear : (mode : ℕ) → bit_and mode 16 ≡ 0 → truncates mode ≡ false
+truncates_clear mode clear =
+    let bit : bit_and mode 16 ≡ mode / 16 % 2 * 16 = and_pow mode 4 in
+    ne_eqb (mode / 16 % 2) 1 (λ one. omega arith)
+
+or_false : (a b : Bool) → b ≡ false → (a || b) ≡ a
+or_false true b e = refl
+or_false false b e = e
+
+open_early : (what : What) (content : Content) (mode : ℕ) → truncates mode ≡ false → open_refusal (kind_of what) content mode ≡ open_fault what mode
+open_early (KeptFile size) content mode keeps = ap (λ (b : Bool). cond (b && is_bad_size content) (Some refusals.Damaged) None) keeps
+open_early (KeptLink size) content mode keeps = ap (λ (b : Bool). cond b (Some refusals.NotPermitted) None) (or_false (writes mode) (truncates mode) keeps)
+open_early (KeptDir identifier folder) content mode keeps = refl
+open_early (KeptBad text) content mode keeps = refl
+
+module _ (tree : KeptTree) (number mode : ℕ) (node : KeptNode) (there : node_in tree number ≡ Some node) (keeps : truncates mode ≡ false) where
+  pub open_refused : (refusal : Refusal) → open_fault node.what mode ≡ Some refusal → IsStepOf tree (open_node number mode) (refuses refusal)
+  open_refused refusal fault contents at second =
+      sym (answer_of (step_refused (tree_rows contents at tree) (open_node number mode) second (kept_row contents at number node) refusal (row_there contents at tree number node there)
+      (open_early node.what (kept_row contents at number node).content mode keeps ∙ fault)))
+
+  pub opened : (q : Qid) → open_fault node.what mode ≡ None → q ≡ qid_in number node → IsStepOf tree (open_node number mode) (says (qid q))
+  opened q free is contents at second =
+      ap (λ (q : Qid). says (qid q)) is
+      ∙ sym (ap (λ (b : Bool). (cond b (open_step (tree_rows contents at tree) (kept_row contents at number node) 16 second) (stepped (tree_rows contents at tree) (says (qid (qid_in number node))))).answer) keeps)
+      ∙ sym (answer_of (step_worked (tree_rows contents at tree) (open_node number mode) second (kept_row contents at number node) (row_there contents at tree number node there)
+      (open_early node.what (kept_row contents at number node).content mode keeps ∙ free)))
