@@ -312,7 +312,7 @@ module _ (s : Sealing) (v : Folders) where
   abbrev pub owner_of : List Row → List ℕ → Path
   owner_of rows f = unwrap_or (first_claim s f rows) []
 
-  follows_itself : (rows : List Row) → Follows s v (owner_of rows) rows
+  pub follows_itself : (rows : List Row) → Follows s v (owner_of rows) rows
   follows_itself rows f q h = ap (λ (z : Option Path). unwrap_or z []) h
 
   pub below_some : (o : List ℕ → Path) (p : Path) (m : List ℕ) (y : Option Node) (x : Node) → below s v o p m y ≡ Some x →
