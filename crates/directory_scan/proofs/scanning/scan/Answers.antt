@@ -1,0 +1,24 @@
+use Rattle.std.proofs.Common.{refl, ◌∙◌}
+use Rattle.outside.specs.Disk.{IsFolder, IsListing, IsTree}
+use Rattle.clear_tree.specs.Scan.{IsScanned}
+use Rattle.directory_scan.specs.Format.{sealing_of}
+use Rattle.directory_scan.specs.Scanned.{all_found}
+use Rattle.directory_scan.specs.Entries.{AreThere, IsGathered}
+use Rattle.directory_scan.proofs.Files.{told_kept3}
+use Rattle.directory_scan.proofs.Listing.{is_scanned}
+use Rattle.directory_scan.proofs.scanning.scan.Goals as goal
+
+-- the folder's log stayed the same from call to call
+pub returns-clause-scanned : goal.returns-clause-scanned
+returns-clause-scanned g c =
+    rw c.new-scanned.ensures
+    (told_kept3 (g.R.Reads.log c.args.from.now) (g.R.Reads.log c.args.from.now) (g.R.Reads.log c.kind.new.self) (g.R.Reads.log c.list.new.self)
+    IsTree
+    (λ d. IsFolder d c.args.folder.now × IsListing d c.args.folder.now c.in_ok-entries.entries.items)
+    (λ d. AreThere (sealing_of c.args.keys.now) d c.args.identifier.now c.in_ok-entries.entries.items
+    → IsGathered (sealing_of c.args.keys.now) d c.args.identifier.now c.in_ok-entries.entries.items c.in_ok-gathered.gathered.nodes.entries c.in_ok-gathered.gathered.foreign)
+    (λ d. IsFolder d c.args.folder.now → IsScanned (sealing_of c.args.keys.now) d c.args.identifier.now (all_found c.in_ok-nodes.nodes.items) c.in_ok-gathered.gathered.foreign)
+    refl c.kind.ensures.log (c.list.ensures.log ∙ c.kind.ensures.log)
+    c.kind.ensures.tree c.in_ok-entries.ensures.names c.in_ok-gathered.ensures.gathered
+    (λ d tree listed all folder. is_scanned (sealing_of c.args.keys.now) c.are_ciphers.ensures d c.args.identifier.now c.args.folder.now c.in_ok-entries.entries.items
+    c.in_ok-gathered.gathered.nodes.entries c.in_ok-nodes.nodes.items c.in_ok-gathered.gathered.foreign c.requires c.in_ok-nodes.ensures.same c.in_ok-nodes.ensures.sorted tree listed.1 all))
