@@ -1,6 +1,5 @@
 -- The turns of a load.
 use Rattle.std.proofs.Common.{◌≡◌, ◌≢◌, ◌↔◌, ℕ, zero, suc, ◌+◌, ◌<◌, ◌≤◌, Bool, true, false, cond, bytes_eq, List, [], ◌∷◌, ◌++◌, append_assoc, append-nil, length, length-append, take, map, Option, Some, None, IsTrue, IsSome, is_some, Contains, refl, sym, ap, ◌∙◌, subst, inl, inr, ◌⊎◌, arith, slice_get, true≢false}
-use Rattle.std.specs.declared.cmp.Ordering.{Ordering}
 use Rattle.std.specs.declared.cmp.Ordering.TheVariants.{Less}
 use Rattle.std.specs.List.{AllByRecursion}
 use Rattle.std.specs.List.Sorted.{IsStrictlySortedBy}
@@ -9,22 +8,22 @@ use Rattle.std.specs.Cmp.Lexicographic.{slice_cmp}
 use Rattle.std.specs.Option.{option_map}
 use Rattle.std.proofs.lemmas.List.{length-map, length-take-le}
 use Rattle.std.proofs.lemmas.Map.Keys.{sorted_head, sorted_tail}
-use Rattle.std.proofs.lemmas.Option.{slice_get_within, slice_get_past, slice_get-map}
+use Rattle.std.proofs.lemmas.Option.{slice_get_within, slice_get-map}
 use Rattle.std.proofs.lemmas.Bool.{cases_lt, and_parts}
 use Rattle.outside.specs.Disk.{Disk, Node as Thing, folder as Folder, file as Bytes, IsFolder}
-use Rattle.clear_tree.specs.Walk.{Path, walk_cmp, Sealing, Folders, Kind, Bare, Plain, Linked, Named, Node, File, Link, Dir, Bad, look, node_at, is_good, IsOwner}
+use Rattle.clear_tree.specs.Walk.{Path, Sealing, Folders, Kind, Bare, Plain, Linked, Named, Node, File, Link, Dir, Bad, look, node_at, is_good, IsOwner}
 use Rattle.clear_tree.specs.Places.{folders_of, host_folder, is_folder}
-use Rattle.clear_tree.specs.Marks.{Foreign, HasForeign}
+use Rattle.clear_tree.specs.Marks.{HasForeign}
 use Rattle.clear_tree.specs.Queue.{Row, kids, row_of, In, Ascending, AreEntries, AreEntriesOf, IsWalk, Begun, Turned}
 use Rattle.clear_tree.specs.Rows.{number_of}
-use Rattle.clear_tree.specs.Kept.{KeptNode, KeptTree, KeptDir, KeptFile, KeptLink, KeptBad, What, what_of}
-use Rattle.clear_tree.specs.Scan.{Found, Shown, ShowsAs, IsFound, IsScanned, names_of}
+use Rattle.clear_tree.specs.Kept.{KeptNode, KeptTree, KeptDir, what_of}
+use Rattle.clear_tree.specs.Scan.{Found, ShowsAs, IsFound, IsScanned, names_of}
 use Rattle.clear_tree.specs.Loading.{IsKeptRoot, IsKeptAt, IsKeptRow, NamesTwice, AreLoaded, IsLoading, AreShown, AreAdded, KeepsIdentifiers, HasNodes, with_found, with_claims}
-use Rattle.clear_tree.proofs.Places.{get_left, in_at, at_in, get_there, contains_at, at_contains}
+use Rattle.clear_tree.proofs.Places.{get_left, in_at, contains_at, at_contains}
 use Rattle.clear_tree.proofs.Loading.{found_more, kids-push}
 use Rattle.clear_tree.proofs.Loaded.{number_one}
 use Rattle.clear_tree.proofs.Owner.{below_dir}
-use Rattle.clear_tree.proofs.Queue.{row_cmp, name_cmp, Walked, walked, owner_of, follows_itself}
+use Rattle.clear_tree.proofs.Queue.{name_cmp, Walked, walked, owner_of, follows_itself}
 use Rattle.clear_tree.proofs.Prefix.{walk_rows}
 
 -- ---- the entries of a directory, as they were found
