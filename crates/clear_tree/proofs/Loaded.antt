@@ -2,21 +2,21 @@
 use Rattle.std.specs.Prelude.{T}
 use Rattle.std.proofs.Common.{◌≡◌, ◌≢◌, ◌↔◌, ℕ, zero, suc, ◌<◌, ◌≤◌, Bool, true, false, cond, ◌&&◌, List, [], ◌∷◌, ◌++◌, append-nil, length, length-append, ◌+◌, Option, Some, None, IsTrue, refl, sym, ap, ◌∙◌, subst, inl, inr, ◌⊎◌, arith, slice_get, true≢false}
 use Rattle.std.specs.declared.cmp.Ordering.{Ordering}
-use Rattle.std.specs.declared.cmp.Ordering.TheVariants.{Less, Equal, Greater}
+use Rattle.std.specs.declared.cmp.Ordering.TheVariants.{Less, Equal}
 use Rattle.std.specs.FinMap as finmap
 use Rattle.std.specs.FinMap.Entries.{is_sorted, below_all, find}
-use Rattle.std.specs.Ordering.{is_lt, is_eq}
+use Rattle.std.specs.Ordering.{is_lt}
 use Rattle.std.specs.Option.{option_map}
 use Rattle.std.proofs.lemmas.Option.{slice_get_within, slice_get_past}
 use Rattle.std.proofs.lemmas.Bool.{cases_lt}
 use Rattle.outside.specs.Disk.{Disk, IsFolder}
-use Rattle.clear_tree.specs.Walk.{Path, same_path, walk_cmp, Sealing, Folders, Node, Dir, node_at, claimed, IsOwner}
+use Rattle.clear_tree.specs.Walk.{Path, same_path, walk_cmp, Sealing, Folders, Node, Dir, node_at, claimed}
 use Rattle.clear_tree.specs.Places.{folders_of, host_folder}
 use Rattle.clear_tree.specs.Marks.{Marks, AreMarks, HasForeign, IsShadowedIn, IsShadowed, NamedTwice}
 use Rattle.clear_tree.specs.Queue.{Row, In, Ascending, IsWalk}
 use Rattle.clear_tree.specs.Rows as rows_specs
 use Rattle.clear_tree.specs.Kept.{KeptNode, KeptTree, IsKept, kept_node, kept_nodes, entry_in, long_in}
-use Rattle.clear_tree.specs.Loading.{IsKeptAt, IsKeptBelow, IsKeptRow, NamesTwice, AreLoaded, IsLoading, LoadingEnds}
+use Rattle.clear_tree.specs.Loading.{IsKeptRow, NamesTwice, AreLoaded, LoadingEnds}
 use Rattle.clear_tree.proofs.Places.{in_at, at_in, get_there, same_lists}
 use Rattle.clear_tree.proofs.Paths.{walk_itself, same_path-itself, same_path-true}
 use Rattle.clear_tree.proofs.Queue.{row_cmp, Walked, walked, owner_of, walk_owner, row_sound, row_complete}

@@ -1,19 +1,18 @@
 -- A load goes on: one node more.
-use Rattle.std.proofs.Common.{◌≡◌, ◌≢◌, ◌↔◌, ℕ, zero, suc, ◌<◌, ◌≤◌, Bool, true, false, cond, not, ◌&&◌, ◌||◌, List, [], ◌∷◌, ◌++◌, append_assoc, append-nil, length, length-append, length-take, ◌+◌, take, min, Option, Some, None, is_some, IsTrue, bytes_eq, refl, sym, ap, ap₂, ◌∙◌, subst, inl, inr, ◌⊎◌, arith, slice_get, true≢false}
-use Rattle.std.proofs.lemmas.Bool.{cond-true, cond-false, and_parts, and_from}
+use Rattle.std.proofs.Common.{◌≡◌, ◌↔◌, ℕ, zero, suc, ◌<◌, ◌≤◌, Bool, true, false, cond, not, ◌&&◌, ◌||◌, List, [], ◌∷◌, ◌++◌, append_assoc, append-nil, length, length-append, length-take, ◌+◌, min, Option, Some, None, is_some, IsTrue, bytes_eq, refl, sym, ap, ◌∙◌, subst, inl, inr, ◌⊎◌, arith, slice_get, true≢false}
+use Rattle.std.proofs.lemmas.Bool.{and_parts, and_from}
 use Rattle.std.proofs.lemmas.Slice.Eq.{bytes_eq-Decides}
 use Rattle.std.proofs.lemmas.List.{take_all}
 use Rattle.std.proofs.lemmas.Option.{slice_get_within}
 use Rattle.outside.specs.Disk.{Disk}
-use Rattle.clear_tree.specs.Walk.{Path, Sealing, Folders, Kind, Plain, Named, Linked, Bare, Node, File, Link, Dir, Bad, look, claimed}
-use Rattle.clear_tree.specs.Places.{folders_of, entry_at, entry_of}
-use Rattle.clear_tree.specs.Marks.{HasForeign, IsShadowed}
+use Rattle.clear_tree.specs.Walk.{Path, Sealing, Folders, Kind, Plain, Named, Linked, Bare, Node, File, Link, Dir, Bad, claimed}
+use Rattle.clear_tree.specs.Places.{folders_of}
 use Rattle.clear_tree.specs.Queue.{Row, claims as claims_test, first_claim, row_of, kids, In}
-use Rattle.clear_tree.specs.Kept.{What, KeptFile, KeptLink, KeptDir, KeptBad, KeptNode, KeptTree, what_of, kept_text, text_limit, is_absent}
+use Rattle.clear_tree.specs.Kept.{KeptFile, KeptLink, KeptDir, KeptBad, KeptNode, KeptTree, what_of, kept_text, text_limit}
 use Rattle.clear_tree.specs.Scan.{Shown, ShownFile, ShownLink, ShownText, Found, ShowsAs, IsFound}
-use Rattle.clear_tree.specs.Loading.{IsKeptRoot, IsKeptBelow, IsKeptAt, IsKeptRow, NamesTwice, AreLoaded, new_what, names_again, names_folder, new_node, with_found, with_claims, KeepsIdentifiers}
+use Rattle.clear_tree.specs.Loading.{IsKeptAt, IsKeptRow, NamesTwice, AreLoaded, new_what, names_again, new_node, with_found, with_claims, KeepsIdentifiers}
 use Rattle.clear_tree.proofs.Paths.{bytes_same}
-use Rattle.clear_tree.proofs.Places.{get_left, get_last, get_cases, in_at, at_in}
+use Rattle.clear_tree.proofs.Places.{get_left, get_last, get_cases, at_in}
 use Rattle.clear_tree.proofs.Queue.{claims-true, claims-from, first-left, first-right, first-in}
 
 -- ---- claims
@@ -242,8 +241,7 @@ module _ (s : Sealing) (keeps : KeepsIdentifiers s) where
     again_is x t is = (
       λ h.
           let v : s.valid_id t ≡ true = (and_parts (s.valid_id t) (claims (s.folder_of t)) h).0 in
-          let c : claims (s.folder_of t) ≡ true = (and_parts (s.valid_id t) (claims (s.folder_of t)) h).1 in
-          (
+          let c : claims (s.folder_of t) ≡ true = (and_parts (s.valid_id t) (claims (s.folder_of t)) h).1 in (
             s.folder_of t,
             claims-true (claimed s (Some x)) (s.folder_of t) (is (s.folder_of t) ∙ and_from (s.valid_id t) (bytes_eq (s.folder_of t) (s.folder_of t)) v (bytes_same (s.folder_of t))),
             sym (loaded.named (s.folder_of t)) ∙ c,
@@ -303,8 +301,7 @@ module _ (s : Sealing) (keeps : KeepsIdentifiers s) where
         × ((f : List ℕ) → with_claims s claims (ShownText (kept_text t)) f ≡ (claims f || claims_test (claimed s (Some x)) f))
     new_text t =
         let x : Node = cond (good t) (Dir t) (Bad t) in
-        let named : (f : List ℕ) → claims_test (claimed s (Some x)) f ≡ (s.valid_id t && bytes_eq (s.folder_of t) f) = claims_is t (good t) (good_valid t) in
-        (
+        let named : (f : List ℕ) → claims_test (claimed s (Some x)) f ≡ (s.valid_id t && bytes_eq (s.folder_of t) f) = claims_is t (good t) (good_valid t) in (
           x,
           refl,
           what_is t,

@@ -1,5 +1,5 @@
 -- The walk with a queue gives the nodes, in the walk's order.
-use Rattle.std.proofs.Common.{◌≡◌, ◌≢◌, ◌&&◌, not, ℕ, zero, suc, Bool, true, false, cond, List, [], ◌∷◌, ◌++◌, append_assoc, append-nil, Option, Some, None, is_some, unwrap_or, refl, sym, ap, ◌∙◌, subst, inl, inr, ◌⊎◌, ⊎_elim, true≢false}
+use Rattle.std.proofs.Common.{◌≡◌, ◌≢◌, ◌&&◌, not, ℕ, Bool, true, false, cond, List, [], ◌∷◌, ◌++◌, append_assoc, append-nil, Option, Some, None, is_some, unwrap_or, refl, sym, ap, ◌∙◌, subst, inl, inr, ◌⊎◌, ⊎_elim, true≢false}
 use Rattle.std.specs.declared.cmp.Ordering.{Ordering}
 use Rattle.std.specs.declared.cmp.Ordering.TheVariants.{Less, Equal}
 use Rattle.std.specs.Ordering.{nat_cmp, is_gt, ordering_then}
@@ -312,7 +312,7 @@ module _ (s : Sealing) (v : Folders) where
   abbrev pub owner_of : List Row → List ℕ → Path
   owner_of rows f = unwrap_or (first_claim s f rows) []
 
-  follows_itself : (rows : List Row) → Follows s v (owner_of rows) rows
+  pub follows_itself : (rows : List Row) → Follows s v (owner_of rows) rows
   follows_itself rows f q h = ap (λ (z : Option Path). unwrap_or z []) h
 
   pub below_some : (o : List ℕ → Path) (p : Path) (m : List ℕ) (y : Option Node) (x : Node) → below s v o p m y ≡ Some x →

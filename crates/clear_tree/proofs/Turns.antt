@@ -1,6 +1,5 @@
 -- The turns of a load.
 use Rattle.std.proofs.Common.{◌≡◌, ◌≢◌, ◌↔◌, ℕ, zero, suc, ◌+◌, ◌<◌, ◌≤◌, Bool, true, false, cond, bytes_eq, List, [], ◌∷◌, ◌++◌, append_assoc, append-nil, length, length-append, take, map, Option, Some, None, IsTrue, IsSome, is_some, Contains, refl, sym, ap, ◌∙◌, subst, inl, inr, ◌⊎◌, arith, slice_get, true≢false}
-use Rattle.std.specs.declared.cmp.Ordering.{Ordering}
 use Rattle.std.specs.declared.cmp.Ordering.TheVariants.{Less}
 use Rattle.std.specs.List.{AllByRecursion}
 use Rattle.std.specs.List.Sorted.{IsStrictlySortedBy}
@@ -9,21 +8,22 @@ use Rattle.std.specs.Cmp.Lexicographic.{slice_cmp}
 use Rattle.std.specs.Option.{option_map}
 use Rattle.std.proofs.lemmas.List.{length-map, length-take-le}
 use Rattle.std.proofs.lemmas.Map.Keys.{sorted_head, sorted_tail}
-use Rattle.std.proofs.lemmas.Option.{slice_get_within, slice_get_past, slice_get-map}
-use Rattle.std.proofs.lemmas.Bool.{cases_lt}
-use Rattle.outside.specs.Disk.{Disk}
-use Rattle.clear_tree.specs.Walk.{Path, walk_cmp, Sealing, Folders, Kind, Bare, Plain, Linked, Named, Node, File, Link, Dir, Bad, look, node_at, IsOwner}
-use Rattle.clear_tree.specs.Places.{folders_of}
-use Rattle.clear_tree.specs.Marks.{Foreign, HasForeign}
+use Rattle.std.proofs.lemmas.Option.{slice_get_within, slice_get-map}
+use Rattle.std.proofs.lemmas.Bool.{cases_lt, and_parts}
+use Rattle.outside.specs.Disk.{Disk, Node as Thing, folder as Folder, file as Bytes, IsFolder}
+use Rattle.clear_tree.specs.Walk.{Path, Sealing, Folders, Kind, Bare, Plain, Linked, Named, Node, File, Link, Dir, Bad, look, node_at, is_good, IsOwner}
+use Rattle.clear_tree.specs.Places.{folders_of, host_folder, is_folder}
+use Rattle.clear_tree.specs.Marks.{HasForeign}
 use Rattle.clear_tree.specs.Queue.{Row, kids, row_of, In, Ascending, AreEntries, AreEntriesOf, IsWalk, Begun, Turned}
 use Rattle.clear_tree.specs.Rows.{number_of}
-use Rattle.clear_tree.specs.Kept.{KeptNode, KeptTree, KeptDir, KeptFile, KeptLink, KeptBad, What, what_of}
-use Rattle.clear_tree.specs.Scan.{Found, Shown, ShowsAs, IsFound, IsScanned, names_of}
+use Rattle.clear_tree.specs.Kept.{KeptNode, KeptTree, KeptDir, what_of}
+use Rattle.clear_tree.specs.Scan.{Found, ShowsAs, IsFound, IsScanned, names_of}
 use Rattle.clear_tree.specs.Loading.{IsKeptRoot, IsKeptAt, IsKeptRow, NamesTwice, AreLoaded, IsLoading, AreShown, AreAdded, KeepsIdentifiers, HasNodes, with_found, with_claims}
-use Rattle.clear_tree.proofs.Places.{get_left, in_at, at_in, get_there, contains_at, at_contains}
+use Rattle.clear_tree.proofs.Places.{get_left, in_at, contains_at, at_contains}
 use Rattle.clear_tree.proofs.Loading.{found_more, kids-push}
 use Rattle.clear_tree.proofs.Loaded.{number_one}
-use Rattle.clear_tree.proofs.Queue.{row_cmp, name_cmp, Walked, walked}
+use Rattle.clear_tree.proofs.Owner.{below_dir}
+use Rattle.clear_tree.proofs.Queue.{name_cmp, Walked, walked, owner_of, follows_itself}
 use Rattle.clear_tree.proofs.Prefix.{walk_rows}
 
 -- ---- the entries of a directory, as they were found
@@ -162,7 +162,7 @@ module _ (s : Sealing) (d : Disk) (i : List ℕ) where
 
 -- ---- turns
 
-nat_cases : (a b : ℕ) → (a ≡ b) ⊎ (a ≢ b)
+pub nat_cases : (a b : ℕ) → (a ≡ b) ⊎ (a ≢ b)
 nat_cases a b = go (cases_lt a b) (cases_lt b a)
   where
     go : (a < b) ⊎ (b ≤ a) → (b < a) ⊎ (a ≤ b) → (a ≡ b) ⊎ (a ≢ b)
@@ -414,3 +414,24 @@ too_many s d turns tree claims next i found b count at scanned many =
     let kid : length more ≡ length found = length-kids s d i rows next.row.0 found e.0 e.1 in
     let was : length tree.nodes ≡ length rows = next.loaded.count in
     has_nodes s d count (next.done ++ next.row ∷ []) (next.todo ++ more) (Turned next.done next.todo next.row e.0 are next.walk) (omega (arith, same, all, kid, was, many))
+
+-- ---- folders
+
+is_folder_there : (o : Option Thing) → is_folder o ≡ true → o ≡ Some Folder
+is_folder_there None h = absurd (true≢false (sym h))
+is_folder_there (Some Folder) h = refl
+is_folder_there (Some (Bytes b)) h = absurd (true≢false (sym h))
+
+-- the folder of each directory is there, where the root's is
+pub folder_present : (s : Sealing) (d : Disk) (done todo : List Row) → IsWalk s (folders_of s d) done todo → IsFolder d (host_folder (s.folder_of [])) → (q : Path) (i : List ℕ) → In (q, Dir i) (done ++ todo) →
+    IsFolder d (host_folder (s.folder_of i))
+unfolding node_at
+folder_present s d done todo walk root q i h =
+    go q ((walked s (folders_of s d) done todo walk).sound (owner_of s (folders_of s d) (done ++ todo)) (follows_itself s (folders_of s d) (done ++ todo)) q (Dir i) h)
+  where
+    go : (q : Path) → node_at s (folders_of s d) (owner_of s (folders_of s d) (done ++ todo)) q ≡ Some (Dir i) → IsFolder d (host_folder (s.folder_of i))
+    go [] is = let e : [] ≡ i = cc in subst (λ (z : List ℕ). IsFolder d (host_folder (s.folder_of z))) e root
+    go (m ∷ p) is =
+        let good : is_good s (folders_of s d) (owner_of s (folders_of s d) (done ++ todo)) (m ∷ p) i ≡ true =
+        below_dir s (folders_of s d) (owner_of s (folders_of s d) (done ++ todo)) (m ∷ p) m (node_at s (folders_of s d) (owner_of s (folders_of s d) (done ++ todo)) p) i is in
+        is_folder_there _ (and_parts _ _ (and_parts _ _ good).1).0

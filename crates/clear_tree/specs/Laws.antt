@@ -4,7 +4,7 @@ use Rattle.std.specs.Map.{update}
 use Rattle.std.specs.Option.{unwrap_or}
 use Rattle.outside.specs.Disk.{Disk}
 use Rattle.tree_model.specs.Rows.{Rows}
-use Rattle.clear_tree.specs.Walk.{Path, same_path, Sealing, Kind, Named, Node, Dir, Folders, is_name, look, node, node_at, claimed, IsOwner, NamedOnce, new_owner, ChangedAt}
+use Rattle.clear_tree.specs.Walk.{Path, same_path, Sealing, Named, Node, Dir, Folders, is_name, look, node, node_at, claimed, IsOwner, NamedOnce, new_owner, ChangedAt}
 use Rattle.clear_tree.specs.Queue.{Row, In, IsWalk, first_claim}
 use Rattle.clear_tree.specs.Rows.{IsClear}
 

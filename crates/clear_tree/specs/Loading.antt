@@ -1,8 +1,8 @@
 -- A tree under way: what is kept of the rows of a walk with a queue, turn by turn, and when that is what is kept of the disk.
-use Rattle.std.specs.Prelude.{◌≡◌, ◌↔◌, ◌<◌, ◌≤◌, ℕ, Bool, true, false, cond, not, ◌&&◌, ◌||◌, List, [], ◌∷◌, ◌++◌, length, Option, Some, None, IsSome, IsTrue, Contains, bytes_eq, is_some, slice_get}
+use Rattle.std.specs.Prelude.{◌≡◌, ◌↔◌, ◌<◌, ◌≤◌, ℕ, Bool, true, false, cond, not, ◌&&◌, ◌||◌, List, [], ◌∷◌, ◌++◌, length, Some, IsSome, IsTrue, Contains, bytes_eq, is_some, slice_get}
 use Rattle.outside.specs.Disk.{Disk, IsFolder}
 use Rattle.tree_model.specs.Rows.{root}
-use Rattle.clear_tree.specs.Walk.{Path, Sealing, Kind, Node, File, Link, Dir, Bad, claimed, node_at, IsOwner}
+use Rattle.clear_tree.specs.Walk.{Path, Sealing, Kind, Dir, claimed, node_at, IsOwner}
 use Rattle.clear_tree.specs.Places.{folders_of, host_folder, entry_at, entry_of}
 use Rattle.clear_tree.specs.Marks.{IsShadowed, HasForeign}
 use Rattle.clear_tree.specs.Queue.{Row, first_claim, kids, IsWalk}

@@ -1,5 +1,6 @@
 pub mod Clear
-pub mod Loaded
-pub mod Entries
 pub mod Faults
-pub mod Tree
+pub mod Under
+pub mod Settled
+pub mod Added
+pub mod Turned

@@ -1,15 +1,18 @@
-//! The clear tree of a vault's folder: which files it stands for, and where each of them stands.
+//! The clear tree of a vault's folder, loaded into memory.
 //!
 //! ```
-//! let loaded = load(alloc, &mut folder, &keys, 220)?;
-//! let number = loaded.look(b"notes")?;
-//! let path = loaded.path(number)?;
+//! let tree = load(alloc, &mut folder, &keys, 220)?;
+//! let number = tree.look(0, b"notes")?;
+//! let path = tree.path(number)?;
 //! ```
 #![tactic(auto)]
 
-mod entry;
+mod fault;
+mod folders;
 mod loading;
-mod tree;
+mod naming;
+mod nodes;
+mod turns;
 
-pub use loading::{LoadErr, load, loading_is_clear};
-pub use tree::Loaded;
+pub use fault::LoadErr;
+pub use loading::{load, loading_is_clear};

@@ -1,5 +1,4 @@
 use Rattle.clear_tree.proofs.Loaded.{loading_ends}
-use Rattle.clear_tree.proofs.Turns.{next_row}
 use Rattle.clear_tree.proofs.loading_ends.Goals as goal
 
 pub returns : goal.returns
