@@ -1,3 +1,4 @@
 pub mod Talk
 pub mod Served
 pub mod Steps
+pub mod Backward

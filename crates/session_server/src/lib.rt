@@ -9,7 +9,9 @@
 mod ending;
 mod frame;
 mod full;
+mod laws;
 mod server;
 
 pub use ending::SessionEnd;
+pub use laws::talks_look_back;
 pub use server::serve_session;
