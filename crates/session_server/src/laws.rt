@@ -1,3 +1,4 @@
+<<<<<<< HEAD
 //! What the definitions say of every talk.
 
 ghost use Rattle.std.specs.Prelude.{ℕ, List, Option};
@@ -15,3 +16,17 @@ pub fn a_session_of_whole_messages_is_done()
         (talked : TalkedOn before after second end asked) (whole : IsWhole before.left) → IsFaultless before after
         → IsServedWhole whole.messages talked.talk.frames before after end }
 {}
+=======
+//! What the definition of a talk amounts to.
+
+ghost use Rattle.session_server.specs.Backward.{TalksLookBack};
+
+use session_core::fids_are_found_by_looking_back;
+
+/// In each talk, what each fid is before a message is found by looking back over the messages before it and their answers.
+pub fn talks_look_back()
+    ensures { TalksLookBack }
+{
+    fids_are_found_by_looking_back();
+}
+>>>>>>> 71d64f41232ab2ad0df04d4b1aac8d7b07ac2778

@@ -1,0 +1,94 @@
+//! A tree for tests that does whatever it is asked.
+
+ghost use Rattle.std.specs.Prelude.{◌≡◌, ◌≤◌, length, take, drop};
+ghost use Rattle.tree_model.specs.Asked.{IsOneStat};
+
+use ninep_wire::write_stat;
+use tree_model::{Qid, Reply, Request, Stat, TreeObject};
+
+const ROOT: Qid = Qid {
+    kind: Qid::DIRECTORY,
+    version: 0,
+    path: 0,
+};
+
+const FILE: Qid = Qid {
+    kind: Qid::FILE,
+    version: 0,
+    path: 1,
+};
+
+const MADE_FILE: Qid = Qid {
+    kind: Qid::FILE,
+    version: 1,
+    path: 2,
+};
+
+const MADE_DIRECTORY: Qid = Qid {
+    kind: Qid::DIRECTORY,
+    version: 1,
+    path: 2,
+};
+
+const STAT: Stat<'static> = Stat {
+    kind: 0,
+    device: 0,
+    qid: FILE,
+    mode: 420,
+    accessed: 100,
+    modified: 100,
+    length: 5,
+    name: "a",
+    owner: "vault",
+    group: "vault",
+    modifier: "vault",
+};
+
+// The stat of `a`, at the front of a buffer.
+fn put_stat(buffer: &mut [u8]) -> u32
+    requires { 1088 ≤ length buffer.old }
+    ensures stat { IsOneStat (take result buffer.new) × (length (take result buffer.new) ≡ result) }
+    ensures rest { drop result buffer.new ≡ drop result buffer.old }
+{
+    write_stat(&STAT, buffer) as u32
+}
+
+/// A tree where each name is a file that holds as many `x` as are read, and each change is done. Its directories list nothing. It
+/// notes where it was last read.
+#[derive(Drop)]
+pub struct Obliging {
+    pub at: u64,
+}
+
+impl Obliging {
+    pub fn new() -> Obliging {
+        Obliging { at: 0 }
+    }
+}
+
+impl TreeObject for Obliging {
+    ghost stands = { λ object origin before. Unit {0} };
+
+    fn ask(&mut self, request: &Request<'_>, _now: u32, buffer: &mut [u8]) -> Reply {
+        match request {
+            Request::Look { .. } => Reply::Qid(ROOT),
+            Request::Walk { names, .. } => Reply::Walked {
+                count: usize::from(names.count),
+                qids: [FILE; 16],
+            },
+            Request::OpenNode { node, .. } => Reply::Qid(if *node == 0 { ROOT } else { FILE }),
+            Request::Create { is_dir, .. } => {
+                Reply::Qid(if *is_dir { MADE_DIRECTORY } else { MADE_FILE })
+            }
+            Request::Read { at, count, .. } => {
+                self.at = *at;
+                buffer[..*count as usize].fill(b'x');
+                Reply::Count(*count)
+            }
+            Request::List { .. } => Reply::Count(0),
+            Request::Write { bytes, .. } => Reply::Count(bytes.len() as u32),
+            Request::StatOf { .. } => Reply::Stat(put_stat(buffer)),
+            Request::Remove { .. } | Request::Change { .. } | Request::Sync { .. } => Reply::Done,
+        }
+    }
+}
