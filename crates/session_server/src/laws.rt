@@ -1,4 +1,3 @@
-<<<<<<< HEAD
 //! What the definitions say of every talk.
 
 ghost use Rattle.std.specs.Prelude.{ℕ, List, Option};
@@ -6,8 +5,10 @@ ghost use Rattle.outside.specs.Views.{LinkView};
 ghost use Rattle.tree_model.specs.Asked.{Asked};
 ghost use Rattle.session_server.specs.Served.{TalkedOn};
 ghost use Rattle.session_server.specs.Whole.{IsWhole, IsFaultless, IsServedWhole};
+ghost use Rattle.session_server.specs.Backward.{TalksLookBack};
 
 use crate::ending::SessionEnd;
+use session_core::fids_are_found_by_looking_back;
 
 /// A session of whole messages over a link that never fails is done, and answered them all; but for want of memory, where it
 /// read nothing. It does nothing.
@@ -16,12 +17,6 @@ pub fn a_session_of_whole_messages_is_done()
         (talked : TalkedOn before after second end asked) (whole : IsWhole before.left) → IsFaultless before after
         → IsServedWhole whole.messages talked.talk.frames before after end }
 {}
-=======
-//! What the definition of a talk amounts to.
-
-ghost use Rattle.session_server.specs.Backward.{TalksLookBack};
-
-use session_core::fids_are_found_by_looking_back;
 
 /// In each talk, what each fid is before a message is found by looking back over the messages before it and their answers.
 pub fn talks_look_back()
@@ -29,4 +24,3 @@ pub fn talks_look_back()
 {
     fids_are_found_by_looking_back();
 }
->>>>>>> 71d64f41232ab2ad0df04d4b1aac8d7b07ac2778

@@ -13,9 +13,5 @@ mod laws;
 mod server;
 
 pub use ending::SessionEnd;
-<<<<<<< HEAD
-pub use laws::a_session_of_whole_messages_is_done;
-=======
-pub use laws::talks_look_back;
->>>>>>> 71d64f41232ab2ad0df04d4b1aac8d7b07ac2778
+pub use laws::{a_session_of_whole_messages_is_done, talks_look_back};
 pub use server::serve_session;
