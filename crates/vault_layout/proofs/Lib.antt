@@ -1,5 +1,5 @@
-pub mod Digits
-pub mod Settling
-pub mod Adding
-pub mod Turning
-pub mod Ending
+pub mod EntryLemmas
+pub mod Gathering
+pub mod Listing
+pub mod Searching
+pub mod Folders

@@ -1,16 +1,10 @@
--- The errors of a folder and of a scan as those of loading.
+-- The errors of a folder as those of loading.
 use Rattle.outside.specs.declared.folder.FolderErr.{FolderErr}
 use Rattle.outside.specs.declared.folder.FolderErr.TheVariants as folder
-use Rattle.directory_scan.specs.declared.fault.ScanErr.{ScanErr}
-use Rattle.directory_scan.specs.declared.fault.ScanErr.TheVariants as scan
-use Rattle.vault_layout.specs.declared.fault.LoadErr.{LoadErr}
-use Rattle.vault_layout.specs.declared.fault.LoadErr.TheVariants.{Device, Memory}
+use Rattle.vault_layout.specs.declared.loading.LoadErr.{LoadErr}
+use Rattle.vault_layout.specs.declared.loading.LoadErr.TheVariants.{Device, Memory}
 
 abbrev pub load_err_of : FolderErr → LoadErr
 load_err_of folder.Failed = Device
 load_err_of folder.Unfit = Device
 load_err_of folder.Memory = Memory
-
-abbrev pub load_err_from : ScanErr → LoadErr
-load_err_from scan.Device = Device
-load_err_from scan.Memory = Memory

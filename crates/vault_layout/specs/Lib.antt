@@ -1,6 +1,4 @@
 pub mod Clear
+pub mod Loaded
+pub mod Entries
 pub mod Faults
-pub mod Under
-pub mod Settled
-pub mod Added
-pub mod Turned

@@ -1,18 +1,15 @@
-//! The clear tree of a vault's folder, loaded into memory.
+//! The clear tree of a vault's folder: which files it stands for, and where each of them stands.
 //!
 //! ```
-//! let tree = load(alloc, &mut folder, &keys, 220)?;
-//! let number = tree.look(0, b"notes")?;
-//! let path = tree.path(number)?;
+//! let loaded = load(alloc, &mut folder, &keys, 220)?;
+//! let number = loaded.look(b"notes")?;
+//! let path = loaded.path(number)?;
 //! ```
 #![tactic(auto)]
 
-mod fault;
-mod folders;
+mod entry;
 mod loading;
-mod naming;
-mod nodes;
-mod turns;
+mod tree;
 
-pub use fault::LoadErr;
-pub use loading::{load, loading_is_clear};
+pub use loading::{LoadErr, load, loading_is_clear};
+pub use tree::Loaded;

@@ -1,95 +1,152 @@
-ghost use Rattle.std.specs.Prelude.{◌≡◌, ◌≤◌, ◌<◌, ◌+◌, ℕ, [], length, OnOk, IfOk, IsErrOf};
-ghost use Rattle.outside.specs.Disk.{Disk, IsFolder};
+ghost use Rattle.std.specs.Prelude.{◌≡◌, ◌≤◌, ℕ, List, [], ◌∷◌, ◌++◌, Contains, IsSome, IfOk, IsErrOf};
+ghost use Rattle.std.specs.Ordering.{nat_cmp};
+ghost use Rattle.std.specs.Cmp.Lexicographic.{slice_cmp};
+ghost use Rattle.std.specs.List.Sorted.{IsStrictlySortedBy};
+ghost use Rattle.std.specs.Map.{keys_of};
+ghost use Rattle.siv_mode.specs.Keys.{KeyPair};
+ghost use Rattle.outside.specs.Disk.{Disk, IsFolder, node_at};
 ghost use Rattle.outside.specs.Calls.{HasCause, Told};
 ghost use Rattle.outside.specs.Images.{disk_in};
-ghost use Rattle.clear_tree.specs.Kept.{IsKept};
-ghost use Rattle.clear_tree.specs.Loading.{IsLoading};
-ghost use Rattle.directory_scan.specs.Format.{sealing_of};
-ghost use Rattle.vault_layout.specs.Clear.{HasTooMany, LoadingIsClear, root_folder};
-ghost use Rattle.vault_layout.specs.Under.{IsReady, is_claimed, node_limit};
-ghost use Rattle.vault_layout.specs.Turned.{FindsTooMany, GoesOn};
+ghost use Rattle.vault_layout.specs.Clear.{IsClear, root_folder, rows_of};
+ghost use Rattle.vault_layout.specs.Loaded.{IsLoaded, LoadedTree};
+ghost use Rattle.vault_layout.specs.Entries.{AreThere, IsGathered};
 
-use crate::fault::LoadErr;
-use crate::folders::characters_of;
-use crate::naming::is_there;
-use crate::nodes::Loading;
-use crate::turns::turn;
-use clear_tree::Tree;
+use crate::entry::{Entry, HostFile, entry_of};
+use crate::tree::Loaded;
 use dir_paths::folder_of;
-use outside::Reads;
+use name_cipher::Name;
+use outside::{FolderErr, Kind, Reads};
 use siv_mode::VaultKeys;
-use std::alloc::Global;
-use std::collections::BTreeSet;
+use std::alloc::{AllocError, AllocFailed, Global};
+use std::collections::BTreeMap;
+use thiserror::Error;
+use vault_path::{Text, VaultPath};
 
-/// Loads the tree of a vault's folder: each directory by its identifier from the root on, breadth first, in O(n log n) for
-/// n nodes and entries. `threshold` is the vault's shortening threshold; it decides nothing, since a name of any length is
-/// read at its short place and at its long one. No changing call is made.
+/// Why a vault's tree can't be loaded.
+#[derive(Clone, Copy, Debug, PartialEq, Eq, Error)]
+pub enum LoadErr {
+    /// The vault's folder failed: its count of faults rose in this call.
+    #[error("the vault's folder failed")]
+    Device,
+    /// The root's folder is absent.
+    #[error("the vault has no folder for its root")]
+    NoRoot,
+    /// Memory ran out.
+    #[error("out of memory")]
+    Memory,
+}
+
+impl From<FolderErr> for LoadErr {
+    ghost use Rattle.std.specs.Prelude.{◌≡◌};
+    ghost use Rattle.vault_layout.specs.Faults.{load_err_of};
+
+    ghost from_gives = { λ fault e. e ≡ load_err_of fault };
+
+    fn from(fault: FolderErr) -> LoadErr {
+        match fault {
+            FolderErr::Failed | FolderErr::Unfit => LoadErr::Device,
+            FolderErr::Memory => LoadErr::Memory,
+        }
+    }
+}
+
+impl From<AllocError> for LoadErr {
+    ghost use Rattle.std.specs.Prelude.{◌≡◌};
+    ghost use Rattle.vault_layout.specs.declared.loading.LoadErr.TheVariants.{Memory};
+
+    ghost from_gives = { λ _ e. e ≡ Memory };
+
+    fn from(_: AllocError) -> LoadErr {
+        LoadErr::Memory
+    }
+}
+
+impl<T: Drop> From<AllocFailed<T>> for LoadErr {
+    ghost use Rattle.std.specs.Prelude.{◌≡◌};
+    ghost use Rattle.vault_layout.specs.declared.loading.LoadErr.TheVariants.{Memory};
+
+    ghost from_gives = { λ _ e. e ≡ Memory };
+
+    fn from(_: AllocFailed<T>) -> LoadErr {
+        LoadErr::Memory
+    }
+}
+
+/// Loads the root and its files from a vault's folder, in O(n log n) for n entries. `threshold` is the vault's
+/// shortening threshold, which decides nothing yet: only files at their short place are loaded. No changing call is made.
 pub fn load<R: Reads>(
     alloc: Global,
     from: &mut R,
     keys: &VaultKeys,
     threshold: u32,
-) -> Result<Tree, LoadErr>
+) -> Result<Loaded, LoadErr>
     requires { (1 ≤ threshold) × (threshold ≤ 250) }
-    ensures loaded { IfOk result (λ t. Told (disk_in (R.log from.old)) (λ d. IsKept (sealing_of keys.now) d t)) }
-    ensures few { IfOk result (λ t. length t.nodes ≤ 1048576) }
+    ensures loaded { IfOk result (λ l. Told (disk_in (R.log from.old)) (λ d. IsLoaded keys.now d l)) }
     ensures no_root { IsErrOf result LoadErr.NoRoot
         → Told (disk_in (R.log from.old)) (λ d. ¬ (IsFolder d (root_folder keys.now))) }
-    ensures too_many { (n : ℕ) → IsErrOf result (LoadErr.TooMany n) → HasTooMany keys.now (disk_in (R.log from.old)) n }
     ensures log { R.log from.new ≡ R.log from.old }
     ensures changes { R.changes from.new ≡ R.changes from.old }
     ensures cause { HasCause (R.faults from.old) (R.faults from.new) (IsErrOf result LoadErr.Device) }
 {
     let root = folder_of(keys, b"");
-    if !is_there(from, &root)? {
+    if from.kind(&root)? != Some(Kind::Dir) {
         return Err(LoadErr::NoRoot);
     }
-    let mut loading = root_alone(alloc, keys)?;
-    walk(alloc, from, keys, &mut loading)?;
-    let Loading { tree, claims: _ } = loading;
-    Ok(tree)
+    let names = from.list(alloc, &root)?;
+    let gathered = gather(alloc, from, keys, &root, names)?;
+    let files = in_order(alloc, gathered.files)?;
+    Ok(Loaded::new(root, files, gathered.foreign))
 }
 
 /// What loads a tree tells the rows that the disk stands for.
 pub fn loading_is_clear()
-    ensures { LoadingIsClear }
+    ensures { (keys : KeyPair) (disk : Disk) (tree : LoadedTree) (now : ℕ) → (l : IsLoaded keys disk tree) → IsClear keys disk now (rows_of keys now tree.foreign l.files) }
 {}
 
-// The root, before its turn.
-fn root_alone(alloc: Global, keys: &VaultKeys) -> Result<Loading, LoadErr>
-    ensures ready { IfOk result (λ l. IsReady keys.now l.tree 0) }
-    ensures begun { IfOk result (λ l. (d : Disk) → IsLoading (sealing_of keys.now) d 0 l.tree (is_claimed l.claims)) }
-    ensures root_is_there { IsErrOf result LoadErr.NoRoot → ⊥ }
-    ensures few { (n : ℕ) → IsErrOf result (LoadErr.TooMany n) → ⊥ }
-    ensures no_fault { IsErrOf result LoadErr.Device → ⊥ }
-{
-    let folder = characters_of(keys, b"");
-    let tree = Tree::with_root(alloc, folder)?;
-    let mut claims = BTreeSet::new(alloc);
-    claims.insert(folder)?;
-    Ok(Loading { tree, claims })
+// What the entries of the root's folder are.
+#[derive(Drop)]
+struct Gathered {
+    files: BTreeMap<Name, HostFile>,
+    foreign: bool,
 }
 
-// Gives each node its turn, in the order of their numbers, until none is left.
-fn walk<R: Reads>(
+fn gather<R: Reads>(
     alloc: Global,
     from: &mut R,
     keys: &VaultKeys,
-    loading: &mut Loading,
-) -> Result<(), LoadErr>
-    requires { IsReady keys.now loading.old.tree 0 }
-    ensures few { OnOk result (length loading.new.tree.nodes ≤ node_limit) }
-    ensures walked { OnOk result (Told (disk_in (R.log from.old)) (λ d. GoesOn keys.now d 0 (length loading.new.tree.nodes) loading.old loading.new)) }
-    ensures too_many { (n : ℕ) → IsErrOf result (LoadErr.TooMany n) → FindsTooMany keys.now (disk_in (R.log from.old)) 0 loading.old n }
+    root: &VaultPath,
+    names: Vec<Text>,
+) -> Result<Gathered, LoadErr>
+    requires { root.now ≡ root_folder keys.now }
+    ensures gathered { IfOk result (λ g. Told (disk_in (R.log from.old))
+        (λ d. AreThere keys.now d names.items
+        → IsGathered keys.now d names.items g.files.entries g.foreign)) }
     ensures root_is_there { IsErrOf result LoadErr.NoRoot → ⊥ }
     ensures log { R.log from.new ≡ R.log from.old }
     ensures changes { R.changes from.new ≡ R.changes from.old }
     ensures cause { HasCause (R.faults from.old) (R.faults from.new) (IsErrOf result LoadErr.Device) }
 {
-    let mut number = 0;
-    while number < loading.tree.len() as u64 {
-        turn(alloc, from, keys, loading, number)?;
-        number += 1;
+    let mut files = BTreeMap::new(alloc);
+    let mut foreign = false;
+    for name in names {
+        match entry_of(alloc, from, keys, root, name)? {
+            Entry::File(name, file) => {
+                files.insert(name, file)?;
+            }
+            Entry::Foreign => foreign = true,
+            Entry::Ignored => {}
+        }
     }
-    Ok(())
+    Ok(Gathered { files, foreign })
+}
+
+// The files in the order of the names' bytes.
+fn in_order(
+    alloc: Global,
+    files: BTreeMap<Name, HostFile>,
+) -> Result<Vec<(Name, HostFile)>, AllocError>
+    ensures same { IfOk result (λ v. v.items ≡ files.entries) }
+    ensures sorted { IfOk result (λ v. IsStrictlySortedBy (slice_cmp nat_cmp) (keys_of v.items)) }
+{
+    files.into_iter().collect(alloc)
 }

@@ -1,6 +1,5 @@
-use Rattle.clear_tree.proofs.Keeping.{keeping_tells_rows}
-use Rattle.directory_scan.specs.Format.{sealing_of}
+use Rattle.vault_layout.proofs.Listing.{IsClear-loaded}
 use Rattle.vault_layout.proofs.loading.loading_is_clear.Goals as goal
 
 pub returns : goal.returns
-returns c keys disk tree is = keeping_tells_rows (sealing_of keys) disk tree is
+returns c = IsClear-loaded

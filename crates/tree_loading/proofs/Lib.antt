@@ -1,0 +1,5 @@
+pub mod Digits
+pub mod Settling
+pub mod Adding
+pub mod Turning
+pub mod Ending

@@ -1,0 +1,6 @@
+pub mod Clear
+pub mod Faults
+pub mod Under
+pub mod Settled
+pub mod Added
+pub mod Turned

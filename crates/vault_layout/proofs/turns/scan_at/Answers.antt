@@ -1,9 +1,0 @@
-use Rattle.std.proofs.Common.{sym, ap, ◌∙◌}
-use Rattle.clear_tree.specs.Built.{kept_what}
-use Rattle.vault_layout.proofs.Turning.{own_path}
-use Rattle.vault_layout.proofs.turns.scan_at.Goals as goal
-
-pub path_of-path-requires : goal.path_of-path-requires
-path_of-path-requires g c =
-    (own_path c.args.keys.now c.in-Some.node.now.what c.in-Dir.identifier c.in-Dir.folder (sym c.what.ensures ∙ ap kept_what c.in-Dir.is)
-    (c.requires c.args.number c.in-Some.node.now (sym c.in-Some.ensures.value))).path
