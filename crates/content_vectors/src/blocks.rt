@@ -21,6 +21,8 @@ fn check_lanes(
     expect(eight == [encrypted; 8], "encrypt8", row)?;
     let four = lanes.encrypted_four(&[block; 4]);
     expect(four == [encrypted; 4], "encrypted_four", row)?;
+    let eight = aes_bits::encrypted_eight(&aes_bits::round_keys(&key), &[block; 8]);
+    expect(eight == [encrypted; 8], "encrypted_eight", row)?;
     for count in 1..41usize {
         let mut blocks = vec![in alloc; block; count]?;
         lanes.encrypt_blocks(blocks.as_mut_slice());
