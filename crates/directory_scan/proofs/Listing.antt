@@ -1,5 +1,5 @@
 -- The nodes of a whole listing are exactly the directory's.
-use Rattle.std.proofs.Common.{◌≡◌, ◌≢◌, ℕ, Bool, List, [], ◌∷◌, ◌++◌, Option, Some, None, IsSome, Contains, refl, sym, ap, subst}
+use Rattle.std.proofs.Common.{◌≡◌, ◌≢◌, ℕ, Bool, List, [], ◌∷◌, ◌++◌, Option, Some, None, IsSome, Contains, refl, sym, ap, subst, ◌∙◌}
 use Rattle.std.specs.Ordering.{nat_cmp}
 use Rattle.std.specs.Cmp.{eq_by_cmp_equiv}
 use Rattle.std.specs.Cmp.Lexicographic.{slice_cmp, nat_list_cmp_total}
@@ -12,7 +12,7 @@ use Rattle.std.proofs.lemmas.Map.Views.{lookup-from_Contains, Contains-keys_from
 use Rattle.outside.specs.Disk.{Disk, Path, Node as Thing, node_at, IsTree, IsListing}
 use Rattle.clear_tree.specs.Walk.{Sealing, Kind, Bare, look}
 use Rattle.clear_tree.specs.Places.{folders_of, host_folder, entry_of}
-use Rattle.clear_tree.specs.Scan.{IsFound, IsScanned, names_of}
+use Rattle.clear_tree.specs.Scan.{Found, IsFound, IsScanned, names_of}
 use Rattle.directory_scan.specs.declared.found.FoundNode.{FoundNode}
 use Rattle.directory_scan.specs.Ciphers.{AreCiphers}
 use Rattle.directory_scan.specs.Scanned.{found_of, all_found}
@@ -22,9 +22,17 @@ use Rattle.directory_scan.proofs.Cases.{entry_there}
 abbrev Nodes : Type 0
 Nodes = List (List ℕ × FoundNode)
 
-names : (nodes : Nodes) → names_of (all_found nodes) ≡ keys_of nodes
+pub names : (nodes : Nodes) → names_of (all_found nodes) ≡ keys_of nodes
 names [] = refl
 names (x ∷ xs) = ap (λ (ns : List (List ℕ)). x.0 ∷ ns) (names xs)
+
+-- nodes by name are in order
+pub found_sorted : (nodes : Nodes) (found : List Found) → found ≡ all_found nodes → IsStrictlySortedBy (slice_cmp nat_cmp) (keys_of nodes) → IsStrictlySortedBy (slice_cmp nat_cmp) (names_of found)
+found_sorted nodes found is sorted = subst (λ (ns : List (List ℕ)). IsStrictlySortedBy (slice_cmp nat_cmp) ns) (sym (ap names_of is ∙ names nodes)) sorted
+
+pub none_sorted : (found : List Found) (nodes : Nodes) → nodes ≡ [] → found ≡ all_found nodes → IsStrictlySortedBy (slice_cmp nat_cmp) (names_of found)
+unfolding IsStrictlySortedBy
+none_sorted found nodes none is = subst (λ (f : List Found). IsStrictlySortedBy (slice_cmp nat_cmp) (names_of f)) (sym (is ∙ ap all_found none)) tt
 
 some_from : (o : Option Thing) → o ≢ None → IsSome o
 some_from None h = absurd (h refl)

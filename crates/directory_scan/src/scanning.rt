@@ -7,7 +7,7 @@ ghost use Rattle.outside.specs.Disk.{IsFolder};
 ghost use Rattle.outside.specs.Calls.{HasCause, Told};
 ghost use Rattle.outside.specs.Images.{disk_in};
 ghost use Rattle.clear_tree.specs.Places.{host_folder};
-ghost use Rattle.clear_tree.specs.Scan.{IsScanned};
+ghost use Rattle.clear_tree.specs.Scan.{IsScanned, names_of};
 ghost use Rattle.directory_scan.specs.Format.{sealing_of};
 ghost use Rattle.directory_scan.specs.Entries.{AreThere, IsGathered};
 
@@ -36,6 +36,7 @@ pub fn scan<R: Reads>(
     requires { folder.now ≡ host_folder ((sealing_of keys.now).folder_of identifier.now) }
     ensures scanned { IfOk result (λ s. Told (disk_in (R.log from.old))
         (λ d. IsFolder d folder.now → IsScanned (sealing_of keys.now) d identifier.now s.found s.foreign)) }
+    ensures sorted { IfOk result (λ s. IsStrictlySortedBy (slice_cmp nat_cmp) (names_of s.found)) }
     ensures log { R.log from.new ≡ R.log from.old }
     ensures changes { R.changes from.new ≡ R.changes from.old }
     ensures cause { HasCause (R.faults from.old) (R.faults from.new) (IsErrOf result ScanErr.Device) }

@@ -1,11 +1,11 @@
-use Rattle.std.proofs.Common.{refl, ◌∙◌}
+use Rattle.std.proofs.Common.{refl, ap, ◌∙◌}
 use Rattle.outside.specs.Disk.{IsFolder, IsListing, IsTree}
 use Rattle.clear_tree.specs.Scan.{IsScanned}
 use Rattle.directory_scan.specs.Format.{sealing_of}
 use Rattle.directory_scan.specs.Scanned.{all_found}
 use Rattle.directory_scan.specs.Entries.{AreThere, IsGathered}
 use Rattle.directory_scan.proofs.Files.{told_kept3}
-use Rattle.directory_scan.proofs.Listing.{is_scanned}
+use Rattle.directory_scan.proofs.Listing.{is_scanned, found_sorted, none_sorted}
 use Rattle.directory_scan.proofs.scanning.scan.Goals as goal
 
 -- the folder's log stayed the same from call to call
@@ -22,3 +22,9 @@ returns-clause-scanned g c =
     c.kind.ensures.tree c.in_ok-entries.ensures.names c.in_ok-gathered.ensures.gathered
     (λ d tree listed all folder. is_scanned (sealing_of c.args.keys.now) c.are_ciphers.ensures d c.args.identifier.now c.args.folder.now c.in_ok-entries.entries.items
     c.in_ok-gathered.gathered.nodes.entries c.in_ok-nodes.nodes.items c.in_ok-gathered.gathered.foreign c.requires c.in_ok-nodes.ensures.same c.in_ok-nodes.ensures.sorted tree listed.1 all))
+
+pub returns-then-ne-clause-sorted : goal.returns-then-ne-clause-sorted
+returns-then-ne-clause-sorted g c = none_sorted c.new-then-ne.result.found c.new.result.items c.new.ensures.items (ap (λ s. s.found) c.new-then-ne.ensures)
+
+pub returns-clause-sorted : goal.returns-clause-sorted
+returns-clause-sorted g c = found_sorted c.in_ok-nodes.nodes.items c.new-scanned.result.found (ap (λ s. s.found) c.new-scanned.ensures) c.in_ok-nodes.ensures.sorted
