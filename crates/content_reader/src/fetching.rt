@@ -89,5 +89,5 @@ pub(crate) fn fill<R: Reads>(
 pub(crate) fn has_key(keys: &VaultKeys)
     ensures { IsKey keys.now.enc }
 {
-    let _key = keys.encryption_key().bytes();
+    keys.have_32_bytes();
 }
