@@ -1,7 +1,7 @@
 -- What the step answers, by the row of its node.
 use Rattle.std.proofs.Common.{◌≡◌, ℕ, Bool, true, false, cond, not, List, [], ◌∷◌, Option, Some, None, Result, Ok, Err, refl, sym, ap, ◌∙◌}
 use Rattle.std.proofs.lemmas.Option.{same_Some}
-use Rattle.std.specs.Option.{option_map, option_map_or, option_and_then}
+use Rattle.std.specs.Option.{option_map, option_map_or}
 use Rattle.std.specs.Str.{bytes_eq, is_utf8}
 use Rattle.nfc_text.specs.Nfc.{nfc_of}
 use Rattle.tree_model.specs.declared.refusal.Refusal.{Refusal}
@@ -12,7 +12,6 @@ use Rattle.tree_model.specs.Rows.{Row, Rows, Content, is_dir, row_of, child_of, 
 use Rattle.tree_model.specs.Contents.{resized}
 use Rattle.tree_model.specs.Asked.{PlainRequest, look, walk, open_node, create, read, list, write, remove, stat_of, change, sync, qid, walked, refused}
 use Rattle.tree_model.specs.Step.{Answer, Stepped, stepped, says, refuses, dot_dot, found, found_by_name, walked_by, walk_on, walk_from, walk_answer, walk_refusal, name_refusal, raw_name_refusal, set_row, with_content, step, early, work, node_of, IsReading}
-use Rattle.tree_model.specs.NotBuilt.{not_built, withheld}
 
 -- ---- the step
 
@@ -144,12 +143,3 @@ walk_not_removed rows row (name ∷ names) e =
     answer_refusal (λ row. walk_from rows row names) (walked_by rows row name)
     (either_refusal (not (is_dir row.kind)) (bytes_eq name dot_dot) (found (row_of rows row.parent)) (found_by_name rows row.number (clear_name name))
     (found_refusal (row_of rows row.parent)) (named_refusal rows row.number (clear_name name))) e
-
--- ---- what isn't built
-
--- whether a request is withheld is a matter of its node's row, if it is there
-pub withheld_at : (rows : Rows) (request : PlainRequest) (row : Row) → row_of rows (node_of request) ≡ Some row → withheld rows request ≡ not_built row request
-withheld_at rows request row is = ap (λ (o : Option Row). option_and_then (λ row. not_built row request) o) is
-
-pub withheld_past : (rows : Rows) (request : PlainRequest) → row_of rows (node_of request) ≡ None → withheld rows request ≡ None
-withheld_past rows request none = ap (λ (o : Option Row). option_and_then (λ row. not_built row request) o) none

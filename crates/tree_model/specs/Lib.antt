@@ -4,6 +4,3 @@ pub mod Rows
 pub mod Contents
 pub mod Asked
 pub mod Step
-pub mod NotBuilt
-pub mod History
-pub mod Laws

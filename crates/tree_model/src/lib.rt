@@ -10,14 +10,12 @@
 //! ```
 #![tactic(auto)]
 
-mod laws;
 mod object;
 mod refusal;
 mod reply;
 mod request;
 mod stat;
 
-pub use laws::a_faultless_history_is_the_steps;
 pub use object::TreeObject;
 pub use refusal::Refusal;
 pub use reply::Reply;

@@ -23,7 +23,8 @@ use Rattle.vault_store.specs.declared.reading.SealedFile.{SealedFile}
 use Rattle.vault_store.specs.Reading.{Ends, RoseUntold, IsShownFile}
 use Rattle.vault_store.specs.Answers.{MayAnswer, IsAnswerIn, IsAnswerOf, CausedOf, answer_with}
 use Rattle.outside.proofs.Told.{told_always, told_then}
-use Rattle.tree_model.proofs.Steps.{step_worked, step_refused, step_removed, withheld_past}
+use Rattle.tree_model.proofs.Steps.{step_worked, step_refused, step_removed}
+use Rattle.tree_history.proofs.Withheld.{withheld_past}
 use Rattle.vault_store.proofs.RowLemmas.{row_kept, row_file, kept_at, get_at}
 use Rattle.vault_store.proofs.StepLemmas.{answer_of, built, built_at}
 

@@ -13,8 +13,9 @@ use Rattle.tree_model.specs.Names.{clear_name}
 use Rattle.tree_model.specs.Rows.{Row, Rows, is_dir, row_of, child_of, qid_of}
 use Rattle.tree_model.specs.Asked.{PlainRequest, look, walk, open_node, sync, PlainReply, qid, done, refused}
 use Rattle.tree_model.specs.Step.{Answer, Stepped, stepped, says, refuses, dot_dot, found, found_by_name, walked_by, walk_on, walk_from, walk_answer, open_refusal, is_bad_size, open_step, truncates, early, work, node_of}
-use Rattle.tree_model.specs.NotBuilt.{not_built, withheld}
-use Rattle.tree_model.proofs.Steps.{step_removed, step_worked, step_walk, walk_not_removed, withheld_at, withheld_past}
+use Rattle.tree_history.specs.NotBuilt.{not_built, withheld}
+use Rattle.tree_model.proofs.Steps.{step_removed, step_worked, step_walk, walk_not_removed}
+use Rattle.tree_history.proofs.Withheld.{withheld_at, withheld_past}
 use Rattle.vault_layout.specs.Clear.{Files, rows_of, root_row, file_row}
 use Rattle.vault_layout.specs.Loaded.{LoadedTree, loaded_file, file_at}
 use Rattle.vault_store.specs.Answers.{MayAnswer, IsAnswerIn, IsNotBuilt}

@@ -16,9 +16,9 @@ use Rattle.tree_model.specs.declared.refusal.Refusal.TheVariants as refusals
 use Rattle.tree_model.specs.Rows.{Rows}
 use Rattle.tree_model.specs.Asked.{PlainRequest, look, walk, open_node, create, read, list, write, remove, stat_of, change, sync, PlainReply, qid, walked, count, stat, done, refused, Asked, asked_of, bytes_put, is_exhausted, entered}
 use Rattle.tree_model.specs.Step.{Answer, step, refuses}
-use Rattle.tree_model.specs.NotBuilt.{withheld}
-use Rattle.tree_model.specs.History.{Made, Entry, entry_of, Origin, Tally, next as next_tally, after, tally_at, tally_of, IsCaused, HasCause, is_stopped, IsAnswered, IsTreeAnswer, answer_where, places, is_refusal, is_stable, AreAnswered, rows_after}
-use Rattle.tree_model.proofs.Histories.{after_more, caused_more, answered_more, rows_after_more, after_count, after_stable}
+use Rattle.tree_history.specs.NotBuilt.{withheld}
+use Rattle.tree_history.specs.History.{Made, Entry, entry_of, Origin, Tally, next as next_tally, after, tally_at, tally_of, IsCaused, HasCause, is_stopped, IsAnswered, IsTreeAnswer, answer_where, places, is_refusal, is_stable, AreAnswered, rows_after}
+use Rattle.tree_history.proofs.Histories.{after_more, caused_more, answered_more, rows_after_more, after_count, after_stable}
 use Rattle.tree_model.proofs.Steps.{step_reads}
 use Rattle.vault_layout.specs.Clear.{IsClear, rows_of}
 use Rattle.vault_layout.specs.Loaded.{LoadedTree, IsLoaded}

@@ -8,8 +8,8 @@ use Rattle.tree_model.specs.declared.refusal.Refusal.TheVariants as refusals
 use Rattle.tree_model.specs.Rows.{Row, Rows}
 use Rattle.tree_model.specs.Asked.{PlainRequest, PlainReply, refused, bytes_put}
 use Rattle.tree_model.specs.Step.{Answer, step, refuses, early_refusal, IsReading}
-use Rattle.tree_model.specs.NotBuilt.{not_built, withheld}
-use Rattle.tree_model.specs.History.{MayLackMemory}
+use Rattle.tree_history.specs.NotBuilt.{not_built, withheld}
+use Rattle.tree_history.specs.History.{MayLackMemory}
 use Rattle.vault_layout.specs.Clear.{rows_of}
 use Rattle.vault_layout.specs.Loaded.{LoadedTree, IsLoaded}
 use Rattle.vault_store.specs.declared.store.Store.{Store}

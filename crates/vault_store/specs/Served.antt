@@ -4,7 +4,7 @@ use Rattle.std.specs.List.{AllByRecursion}
 use Rattle.outside.specs.Views.{FolderView, EntropyView}
 use Rattle.tree_model.specs.Rows.{Rows}
 use Rattle.tree_model.specs.Asked.{Asked, entered}
-use Rattle.tree_model.specs.History.{Entry, Origin, tally_of}
+use Rattle.tree_history.specs.History.{Entry, Origin, tally_of}
 use Rattle.vault_store.specs.Store.{IsStoreOf, IsOnlyRead, folder_in}
 use Rattle.vault_store.specs.declared.store.Store.{Store}
 use Rattle.vault_store.specs.declared.sole_caller.SoleCaller.{SoleCaller}

@@ -8,7 +8,7 @@ use Rattle.outside.specs.Views.{FolderView}
 use Rattle.siv_mode.specs.Keys.{KeyPair}
 use Rattle.tree_model.specs.Rows.{Rows}
 use Rattle.tree_model.specs.Asked.{Asked}
-use Rattle.tree_model.specs.History.{Made, Entry, entry_of, Origin, tally_at, tally_of, AreCaused, AreAnswered, rows_after}
+use Rattle.tree_history.specs.History.{Made, Entry, entry_of, Origin, tally_at, tally_of, AreCaused, AreAnswered, rows_after}
 use Rattle.vault_layout.specs.Clear.{IsClear, rows_of}
 use Rattle.vault_layout.specs.Loaded.{IsLoaded}
 use Rattle.vault_store.specs.declared.store.Store.{Store}

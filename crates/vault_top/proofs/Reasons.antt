@@ -8,7 +8,7 @@ use Rattle.outside.specs.Images.{Log, disk_in}
 use Rattle.outside.specs.Views.{FolderView}
 use Rattle.outside.proofs.Told.{told_then, unchanged}
 use Rattle.tree_model.specs.Asked.{Asked, entered}
-use Rattle.tree_model.specs.History.{Entry, entries_of, Tally, next, after, Origin, tally_at, tally_of, IsLegal}
+use Rattle.tree_history.specs.History.{Entry, entries_of, Tally, next, after, Origin, tally_at, tally_of, IsLegal}
 use Rattle.session_server.specs.declared.ending.SessionEnd.{SessionEnd}
 use Rattle.vault_store.specs.Store.{IsStoreOf, IsOnlyRead, folder_in, moment_of}
 use Rattle.vault_store.specs.Served.{IsStoreFor, AreAdded, store_in}

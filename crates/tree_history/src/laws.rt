@@ -2,8 +2,8 @@
 
 ghost use Rattle.std.specs.Prelude.{List};
 ghost use Rattle.tree_model.specs.Rows.{Rows};
-ghost use Rattle.tree_model.specs.History.{Entry, Origin, IsLegal};
-ghost use Rattle.tree_model.specs.Laws.{AreFaultless, AreStepped};
+ghost use Rattle.tree_history.specs.History.{Entry, Origin, IsLegal};
+ghost use Rattle.tree_history.specs.Laws.{AreFaultless, AreStepped};
 
 /// In a legal history in which no count of faults rose, every request that isn't withheld is answered as the step says, but for
 /// a place that is taken and for want of memory where that may come; no commit failed, and the store never stops. It does

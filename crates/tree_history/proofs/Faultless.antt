@@ -9,9 +9,9 @@ use Rattle.tree_model.specs.declared.refusal.Refusal.TheVariants as refusals
 use Rattle.tree_model.specs.Rows.{Rows}
 use Rattle.tree_model.specs.Asked.{PlainReply, refused}
 use Rattle.tree_model.specs.Step.{Answer, refuses, step}
-use Rattle.tree_model.specs.NotBuilt.{withheld}
-use Rattle.tree_model.specs.History.{Made, Entry, Tally, Origin, answer_of, entry_at, places, is_refusal, HasCause, IsCaused, AreCaused, IsTreeAnswer, IsAnswered, AreAnswered, IsLegal, next, after, tally_at, rows_then, rows_at}
-use Rattle.tree_model.specs.Laws.{IsFaultless, AreFaultless, IsStepAnswer, IsStepped, AreStepped}
+use Rattle.tree_history.specs.NotBuilt.{withheld}
+use Rattle.tree_history.specs.History.{Made, Entry, Tally, Origin, answer_of, entry_at, places, is_refusal, HasCause, IsCaused, AreCaused, IsTreeAnswer, IsAnswered, AreAnswered, IsLegal, next, after, tally_at, rows_then, rows_at}
+use Rattle.tree_history.specs.Laws.{IsFaultless, AreFaultless, IsStepAnswer, IsStepped, AreStepped}
 
 -- an Option without a value is None
 none_of : {X : Type 0} (o : Option X) → IsNone o → o ≡ None

@@ -7,7 +7,7 @@ use Rattle.tree_model.specs.declared.refusal.Refusal.TheVariants as refusals
 use Rattle.tree_model.specs.Rows.{Rows, row_of}
 use Rattle.tree_model.specs.Asked.{PlainRequest, look, walk, open_node, create, read, list, write, remove, stat_of, change, sync, PlainReply, qid, walked, count, stat, done, refused, Asked}
 use Rattle.tree_model.specs.Step.{Answer, refuses, step, early_refusal, new_name, truncates}
-use Rattle.tree_model.specs.NotBuilt.{withheld}
+use Rattle.tree_history.specs.NotBuilt.{withheld}
 
 -- ---- entries
 

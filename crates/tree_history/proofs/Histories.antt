@@ -1,7 +1,7 @@
 -- Legal histories with one entry more.
 use Rattle.std.proofs.Common.{◌≡◌, suc, ◌+◌, ◌≤◌, List, [], ◌∷◌, ◌++◌, length, IsNone, refl, arith}
 use Rattle.tree_model.specs.Rows.{Rows}
-use Rattle.tree_model.specs.History.{Entry, Tally, Origin, next, after, IsCaused, AreCaused, IsAnswered, AreAnswered, rows_then, rows_after, IsLegal, tally_at, tally_of}
+use Rattle.tree_history.specs.History.{Entry, Tally, Origin, next, after, IsCaused, AreCaused, IsAnswered, AreAnswered, rows_then, rows_after, IsLegal, tally_at, tally_of}
 
 -- the tally after one entry more
 pub after_more : (tally : Tally) (history : List Entry) (entry : Entry) → after tally (history ++ entry ∷ []) ≡ next (after tally history) entry

@@ -6,8 +6,8 @@ use Rattle.outside.specs.Calls.{Rose}
 use Rattle.tree_model.specs.declared.refusal.Refusal.TheVariants as refusals
 use Rattle.tree_model.specs.Rows.{Rows}
 use Rattle.tree_model.specs.Step.{refuses, step}
-use Rattle.tree_model.specs.NotBuilt.{withheld}
-use Rattle.tree_model.specs.History.{Made, Entry, Origin, answer_of, entry_at, places, is_refusal, is_stopped, rows_at, tally_of, MayLackMemory}
+use Rattle.tree_history.specs.NotBuilt.{withheld}
+use Rattle.tree_history.specs.History.{Made, Entry, Origin, answer_of, entry_at, places, is_refusal, is_stopped, rows_at, tally_of, MayLackMemory}
 
 -- no count of faults rose in an entry
 pub record IsFaultless (made : Made) : Type 0 where

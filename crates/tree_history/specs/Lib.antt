@@ -1,0 +1,3 @@
+pub mod NotBuilt
+pub mod History
+pub mod Laws
