@@ -5,6 +5,7 @@ ghost use Rattle.json_members.specs.Members.{text_at};
 ghost use Rattle.vault_config.specs.Token.{pieces_of, token_of_pieces, decoded, decoded_object, algorithm_named, signature_of};
 ghost use Rattle.vault_config.specs.Algorithms.{algorithm_data};
 
+use aes_block::bytes_equal;
 use base64::DecodeAllocError;
 use base64::engine::general_purpose::URL_SAFE_NO_PAD;
 use hmac_sha::{hmac256, hmac384, hmac512};
@@ -99,13 +100,13 @@ pub(crate) fn algorithm_of(header: &Object) -> Option<Algorithm>
     }
 }
 
-// Whether bytes are the signature of a text under a key.
+// Whether bytes are the signature of a text under a key. The comparison takes as long wherever they differ.
 pub(crate) fn is_signature(algorithm: Algorithm, key: &[u8], text: &[u8], signature: &[u8]) -> bool
     ensures { result ≡ bytes_eq (signature_of (algorithm_data algorithm) key.now text.now) signature.now }
 {
     match algorithm {
-        Algorithm::Hs256 => hmac256(key, text).as_slice() == signature,
-        Algorithm::Hs384 => hmac384(key, text).as_slice() == signature,
-        Algorithm::Hs512 => hmac512(key, text).as_slice() == signature,
+        Algorithm::Hs256 => bytes_equal(&hmac256(key, text), signature),
+        Algorithm::Hs384 => bytes_equal(&hmac384(key, text), signature),
+        Algorithm::Hs512 => bytes_equal(&hmac512(key, text), signature),
     }
 }
