@@ -1,0 +1,112 @@
+"""A small 9P2000 client over a program's standard streams, for the checks and benches."""
+
+import struct
+import subprocess
+
+NO_FID = 0xFFFFFFFF
+NO_TAG = 0xFFFF
+DIRECTORY = 0x80
+KINDS = {"version": 100, "attach": 104, "walk": 110, "open": 112, "read": 116, "clunk": 120, "stat": 124}
+ERROR = 107
+
+
+class Refused(Exception):
+    """An Rerror, with its text."""
+
+
+def string(data):
+    return struct.pack("<H", len(data)) + data
+
+
+class Stat:
+    """A stat of 9P2000 (stat(5)), cut off the front of bytes."""
+
+    def __init__(self, data):
+        (size,) = struct.unpack_from("<H", data)
+        self.whole = data[: size + 2]
+        self.qid_kind, self.version, self.number = struct.unpack_from("<BIQ", data, 8)
+        self.mode, self.accessed, self.modified, self.length = struct.unpack_from("<IIIQ", data, 21)
+        (count,) = struct.unpack_from("<H", data, 41)
+        self.name = data[43 : 43 + count]
+
+
+def stats(data):
+    """The stats that bytes consist of."""
+    while data:
+        stat = Stat(data)
+        yield stat
+        data = data[len(stat.whole) :]
+
+
+class Session:
+    """One session with a program that serves over its standard streams, after the line of its secret."""
+
+    def __init__(self, words, secret, size=65560):
+        self.program = subprocess.Popen(words, stdin=subprocess.PIPE, stdout=subprocess.PIPE)
+        self.program.stdin.write(secret + b"\n")
+        self.next = 1
+        reply = self.ask("version", struct.pack("<I", size) + string(b"9P2000"), NO_TAG)
+        (self.size,) = struct.unpack_from("<I", reply)
+        self.ask("attach", struct.pack("<II", 0, NO_FID) + string(b"u") + string(b""))
+
+    def ask(self, kind, body, tag=1):
+        self.program.stdin.write(struct.pack("<IBH", 7 + len(body), KINDS[kind], tag) + body)
+        self.program.stdin.flush()
+        (size,) = struct.unpack("<I", self.take(4))
+        reply = self.take(size - 4)
+        if reply[0] == ERROR:
+            raise Refused(reply[5:].decode())
+        if reply[0] != KINDS[kind] + 1:
+            raise SystemExit(f"a T{kind} was answered by a message of type {reply[0]}")
+        return reply[3:]
+
+    def take(self, count):
+        data = self.program.stdout.read(count)
+        if len(data) < count:
+            raise SystemExit("the program's replies end within a message")
+        return data
+
+    def walk(self, names):
+        """A new fid for the node at a path from the root, or what refused it."""
+        fid, self.next = self.next, self.next + 1
+        start = 0
+        while True:
+            some = names[:16]
+            body = struct.pack("<IIH", start, fid, len(some)) + b"".join(map(string, some))
+            (count,) = struct.unpack_from("<H", self.ask("walk", body))
+            if count < len(some):
+                raise Refused("not walked whole")
+            names = names[16:]
+            if not names:
+                return fid
+            start = fid
+
+    def open(self, fid, mode=0):
+        return self.ask("open", struct.pack("<IB", fid, mode))
+
+    def read(self, fid, at, count):
+        return self.ask("read", struct.pack("<IQI", fid, at, count))[4:]
+
+    def read_all(self, fid, count=None):
+        """All bytes of an open file or directory, in pieces of at most so many."""
+        count = count or self.size - 24
+        data = []
+        at = 0
+        while piece := self.read(fid, at, count):
+            data.append(piece)
+            at += len(piece)
+        return b"".join(data)
+
+    def stat(self, fid):
+        return Stat(self.ask("stat", struct.pack("<I", fid))[2:])
+
+    def clunk(self, fid):
+        self.ask("clunk", struct.pack("<I", fid))
+
+    def end(self):
+        """Ends the input, and gives the program's status."""
+        self.program.stdin.close()
+        rest = self.program.stdout.read()
+        if rest:
+            raise SystemExit("bytes after the last reply")
+        return self.program.wait()
