@@ -3,11 +3,13 @@
 //! ```
 //! let root = tree_answers::look(&tree, 0);
 //! let opened = tree_answers::open_node(&tree, 0, 0);
-//! let gone = tree_answers::look(&tree, 1 << 40);
+//! let stat = tree_answers::stat_of(&tree, 0, unlocked, &mut buffer);
 //! let synced = tree_answers::sync(&tree, 0);
 //! ```
 #![tactic(auto)]
 
 mod nodes;
+mod stats;
 
 pub use nodes::{look, open_node, sync};
+pub use stats::stat_of;
