@@ -1,0 +1,17 @@
+pub mod Disk
+pub mod Seeing
+pub mod Nodes
+pub mod Exact
+pub mod Stands
+pub mod Creating
+pub mod Removing
+pub mod Rename
+pub mod Moving
+pub mod Phases
+pub mod Filling
+pub mod Places
+pub mod Standing
+pub mod Maps
+pub mod Creates
+pub mod Held
+pub mod Removes
