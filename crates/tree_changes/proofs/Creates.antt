@@ -1,5 +1,5 @@
 -- A file made and a directory made, at a short or a long place.
-use Rattle.std.proofs.Common.{◌≡◌, ◌≢◌, ◌↔◌, ℕ, Bool, true, false, cond, List, [], ◌∷◌, ◌++◌, Option, Some, None, IsNone, IsSome, IsTrue, refl, sym, ap, ap₂, ◌∙◌, subst, inl, inr, ◌⊎◌, take, drop, true≢false}
+use Rattle.std.proofs.Common.{◌≡◌, ◌≢◌, ◌↔◌, ℕ, Bool, true, false, cond, List, [], ◌∷◌, ◌++◌, Option, Some, None, IsNone, IsSome, IsTrue, refl, sym, ap, ◌∙◌, subst, inl, inr, ◌⊎◌, true≢false}
 use Rattle.std.specs.FinMap.{get, insert}
 use Rattle.outside.specs.Disk.{Disk, Node as Thing, folder as Folder, file as Bytes, IsTree, CanPut, CanMakeDir}
 use Rattle.deeds.specs.Deeds.{PlainDeed, Puts, DoesAll, AreApart, Unnamed, in_order}
@@ -8,15 +8,15 @@ use Rattle.deeds.proofs.Amid.{tree_run}
 use Rattle.deeds.proofs.Doing.{does_then}
 use Rattle.clear_tree.specs.Walk.{Path, same_path, Sealing, Kind, Plain, Named, Node, File, Dir, node_at, claimed, new_owner}
 use Rattle.clear_tree.specs.Places.{entry_at, folders_of, host_two, host_folder, host_entry, host_inner, entry_of, entry_where, seen_at, text_d, text_dir, text_dirid, text_contents, text_name}
-use Rattle.clear_tree.specs.Marks.{Marks, IsShadowed, HasFurther, HasTwin, known_at}
+use Rattle.clear_tree.specs.Marks.{Marks, IsShadowed, known_at}
 use Rattle.tree_changes.specs.Trees.{AreTexts, Tree, IsTreeOf, with_node, but_at}
 use Rattle.tree_changes.specs.Taken.{taken_by_identifier}
 use Rattle.tree_changes.specs.Changes.{IsNew, Leads, CreatesFile, CreatesDirectory}
 use Rattle.tree_changes.specs.Deeds.{entry_text, place_of, make_node, create_file_at, create_file_deeds, create_dir_deeds}
 use Rattle.tree_changes.proofs.Disk.{get_put, get_put_other, entry_is, inner_is, folder_is, inner_entry, entry_inner, entry_folder, entry_two, folder_entry, folder_inner, folder_two, inner_folder, inner_two}
-use Rattle.tree_changes.proofs.Seeing.{nothing, text_of, entry_same, entry_part, some_there, not_something, none_below, dir_there, holds_none, holds_it}
+use Rattle.tree_changes.proofs.Seeing.{nothing, text_of, entry_same, entry_part, some_there, none_below, dir_there, holds_none, holds_it}
 use Rattle.tree_changes.proofs.Nodes.{MakesKind, IsNodeFolder, plain_shown, node_shown}
-use Rattle.tree_changes.proofs.Filling.{not_long, no_copy, at_place, entry_free, free_seen, kind_good, kind_name, filled, no_mark_at, folder_at, file_at}
+use Rattle.tree_changes.proofs.Filling.{not_long, no_copy, at_place, entry_free, free_seen, kind_name, filled, no_mark_at, folder_at, file_at}
 use Rattle.tree_changes.proofs.Phases.{Made, make}
 use Rattle.tree_changes.proofs.Places.{free_places, free_identifier}
 use Rattle.tree_changes.proofs.Exact.{IsPlace}

@@ -1,12 +1,12 @@
 -- Marks and places of a disk, after one node more.
-use Rattle.std.proofs.Common.{◌≡◌, ◌≢◌, ◌↔◌, ℕ, Bool, true, false, cond, List, [], ◌∷◌, Option, Some, None, IsTrue, refl, sym, ap, ap₂, ◌∙◌, subst, inl, inr, ◌⊎◌}
+use Rattle.std.proofs.Common.{◌≡◌, ◌≢◌, ◌↔◌, ℕ, Bool, true, false, List, [], ◌∷◌, Option, Some, None, IsTrue, sym, ap, ap₂, ◌∙◌, subst, inl, inr, ◌⊎◌}
 use Rattle.std.specs.Map.{update}
 use Rattle.std.specs.FinMap.{get}
 use Rattle.std.proofs.lemmas.Bool.{cond-true, cond-false}
 use Rattle.outside.specs.Disk.{Disk, folder as Folder, IsTree}
 use Rattle.clear_tree.specs.Walk.{Path, same_path, Sealing, Folders, Kind, Named, Bare, Node, Dir, is_name, look, node, node_at, claimed, IsOwner, ChangedAt, new_owner}
 use Rattle.clear_tree.specs.Places.{entry_at, folders_of, host_folder, host_entry, host_inner, entry_of, text_dirid, text_name, is_folder}
-use Rattle.clear_tree.specs.Marks.{Marks, AreMarks, HasForeign, IsShadowedIn, IsShadowed, NamedTwice, Foreign, IsForeign}
+use Rattle.clear_tree.specs.Marks.{Marks, HasForeign, IsShadowedIn, IsShadowed, NamedTwice, IsForeign}
 use Rattle.clear_tree.proofs.Paths.{path_cases, child_apart, same_path-from, same_path-apart}
 use Rattle.clear_tree.proofs.Leaf.{change_leaf, leaf_owner}
 use Rattle.clear_tree.proofs.Directory as directory

@@ -1,5 +1,5 @@
 -- Marks stay exact: of what a change doesn't touch.
-use Rattle.std.proofs.Common.{◌≡◌, ◌≢◌, ◌↔◌, ℕ, Bool, true, false, cond, List, [], ◌∷◌, Option, Some, None, IsTrue, refl, sym, ap, ap₂, ◌∙◌, subst, inl, inr, ◌⊎◌, true≢false}
+use Rattle.std.proofs.Common.{◌≡◌, ◌≢◌, ◌↔◌, ℕ, Bool, true, false, cond, List, ◌∷◌, Option, Some, None, IsTrue, refl, sym, ap, ap₂, ◌∙◌, subst, inl, inr, ◌⊎◌, true≢false}
 use Rattle.std.specs.FinMap.{get}
 use Rattle.outside.specs.Disk.{Disk, Node as Thing, file as Bytes}
 use Rattle.clear_tree.specs.Walk.{Path, same_path, Sealing, Folders, Kind, Bare, Node, File, Link, Dir, Bad, is_name, look, node, below, node_at, claimed, IsOwner, NamedOnce}

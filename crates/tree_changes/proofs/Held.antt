@@ -1,11 +1,11 @@
 -- What is known of a node that nothing holds.
-use Rattle.std.proofs.Common.{◌≡◌, ◌≢◌, ℕ, Bool, true, false, cond, List, [], ◌∷◌, Option, Some, None, IsTrue, refl, sym, ap, ◌∙◌, subst, inl, inr}
+use Rattle.std.proofs.Common.{◌≡◌, ℕ, cond, List, ◌∷◌, Option, Some, None, sym, ap, ◌∙◌, subst}
 use Rattle.outside.specs.Disk.{Disk}
 use Rattle.clear_tree.specs.Walk.{Path, same_path, Sealing, Node, Dir, node_at, claimed}
 use Rattle.clear_tree.specs.Places.{folders_of}
-use Rattle.clear_tree.specs.Marks.{IsShadowed, IsShadowedIn}
+use Rattle.clear_tree.specs.Marks.{IsShadowedIn}
 use Rattle.clear_tree.proofs.Owner.{below_leaf}
-use Rattle.tree_changes.specs.Trees.{AreTexts, Tree, IsTreeOf, without_node}
+use Rattle.tree_changes.specs.Trees.{Tree, IsTreeOf, without_node}
 use Rattle.tree_changes.specs.Changes.{IsHeldByNone}
 use Rattle.tree_changes.proofs.Exact.{unset}
 use Rattle.tree_changes.proofs.Filling.{IsAt, is_at}

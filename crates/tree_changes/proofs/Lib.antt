@@ -15,3 +15,5 @@ pub mod Maps
 pub mod Creates
 pub mod Held
 pub mod Removes
+pub mod Names
+pub mod Renames

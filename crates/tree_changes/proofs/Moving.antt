@@ -1,11 +1,11 @@
 -- Marks and places of a disk, after a node has a new name.
-use Rattle.std.proofs.Common.{◌≡◌, ◌≢◌, ◌↔◌, ℕ, Bool, true, false, cond, List, [], ◌∷◌, Option, Some, None, IsTrue, refl, sym, ap, ap₂, ◌∙◌, subst, inl, inr, ◌⊎◌}
+use Rattle.std.proofs.Common.{◌≡◌, ◌≢◌, ◌↔◌, ℕ, Bool, true, List, [], ◌∷◌, Option, Some, None, IsTrue, sym, ap, ◌∙◌, subst, inl, inr, ◌⊎◌}
 use Rattle.std.specs.FinMap.{get}
 use Rattle.std.proofs.lemmas.Bool.{cond-true, cond-false}
 use Rattle.outside.specs.Disk.{Disk, IsTree}
 use Rattle.clear_tree.specs.Walk.{Path, same_path, Sealing, Folders, Kind, Bare, Node, Dir, is_name, look, node_at, claimed, IsOwner, NamedOnce, ChangedTwo}
 use Rattle.clear_tree.specs.Places.{entry_at, folders_of, host_folder, host_entry, host_inner, entry_of, text_dirid, is_folder}
-use Rattle.clear_tree.specs.Marks.{Marks, AreMarks, HasForeign, IsShadowedIn, IsShadowed, NamedTwice, Foreign, IsForeign}
+use Rattle.clear_tree.specs.Marks.{Marks, HasForeign, IsShadowedIn, IsShadowed, IsForeign}
 use Rattle.clear_tree.proofs.Paths.{same_path-from, same_path-apart}
 use Rattle.tree_changes.specs.Trees.{AreTexts, swapped, but_at}
 use Rattle.tree_changes.proofs.Rename.{which, stays_other, swapped_twice, swapped-new, swapped-old, swapped-other, swapped-parent, swapped-root, renamed, renamed_owner, renamed_leaf_owner}
@@ -13,6 +13,14 @@ use Rattle.tree_changes.proofs.Seeing.{some_there, looked, look_seen, node_kind}
 use Rattle.tree_changes.proofs.Exact as exact
 use Rattle.tree_changes.proofs.Exact.{through, neither, SameForeign, foreign_to, foreign_from, IsPlace, name_there, same_twice, has_foreign, is_shadowed_in}
 use Rattle.tree_changes.proofs.Stands.{StandsFor}
+
+-- the marks, places and nodes of another disk, with one name changed in the directory at p
+abbrev pub Moves : Sealing → Disk → Disk → Marks → (Path → Bool) → (List ℕ → Path) → List ℕ → List ℕ → Path → Bool → Type 0
+Moves s d d' marks long o n k p b =
+    StandsFor s d'
+    (record { foreign = λ q. marks.foreign (swapped (n ∷ p) (k ∷ p) q); shadowed = λ q. marks.shadowed (swapped (n ∷ p) (k ∷ p) q); twice = marks.twice })
+    (but_at (λ q. long (swapped (n ∷ p) (k ∷ p) q)) (k ∷ p) b) (λ f. swapped (n ∷ p) (k ∷ p) (o f))
+    × ((q : Path) → node_at s (folders_of s d') (λ f. swapped (n ∷ p) (k ∷ p) (o f)) q ≡ node_at s (folders_of s d) o (swapped (n ∷ p) (k ∷ p) q))
 
 module _ (s : Sealing) (texts : AreTexts s) (d d' : Disk) (marks : Marks) (long : Path → Bool) (o : List ℕ → Path)
     (p : Path) (i n k e e' : List ℕ) (x : Node) (kk : Kind)
@@ -164,12 +172,12 @@ module _ (s : Sealing) (texts : AreTexts s) (d d' : Disk) (marks : Marks) (long 
           let oldq : node_at s v o (sw q) ≡ Some (Dir j) = sym (nodes' q) ∙ hq in
           let oldl : node_at s v o (l ∷ sw q) ≡ Some y = ap (node_at s v o) (sym to) ∙ sym (nodes' (l ∷ q)) ∙ hl in
           let same = exact.entry_at_kept s texts d d' o n k i p e e' own at named named_k place_n place_k entry inner (sw q) j oldq l
-              (name_there s v o (sw q) l j y oldq oldl) (λ w. far.0 (sym w)) (λ w. far.1 (sym w)) in
+          (name_there s v o (sw q) l j y oldq oldl) (λ w. far.0 (sym w)) (λ w. far.1 (sym w)) in
           subst (λ (w : Bool). IsTrue w ↔ (entry_at s d' (s.folder_of j) (s.seal j l) ≡ None))
           (ap long (sym to) ∙ sym (cond-false (same_path (k ∷ p) (l ∷ q)) _ _ (same_path-apart (k ∷ p) (l ∷ q) z.1)))
           (through _ _ _ (st.placed l (sw q) j y oldq oldl) ((λ u. same ∙ u), (λ u. sym same ∙ u)))
 
-  pub renamed_all : IsOwner s v' o' → StandsFor s d' moved_marks long' o'
+  renamed_all : IsOwner s v' o' → StandsFor s d' moved_marks long' o'
   renamed_all first' = record {
     tree = tree';
     root = folders (s.folder_of []) ∙ st.root;
@@ -186,8 +194,9 @@ module _ (s : Sealing) (texts : AreTexts s) (d d' : Disk) (marks : Marks) (long 
     placed = placed';
   }
 
-  pub leaf_moved : claimed s (Some x) ≡ None → StandsFor s d' moved_marks long' o'
-  leaf_moved none_named = renamed_all (renamed_leaf_owner n k p apart s v v' o i own at named named_k changed present_same free gone same_seen (ap (claimed s) is_node ∙ none_named))
+  pub leaf_moved : claimed s (Some x) ≡ None → Moves s d d' marks long o n k p b
+  leaf_moved none_named =
+      (renamed_all (renamed_leaf_owner n k p apart s v v' o i own at named named_k changed present_same free gone same_seen (ap (claimed s) is_node ∙ none_named)), nodes')
 
-  pub dir_moved : NamedOnce s v o → StandsFor s d' moved_marks long' o'
-  dir_moved once = renamed_all (renamed_owner n k p apart s v v' o i own at named named_k changed present_same free gone same_seen once)
+  pub dir_moved : NamedOnce s v o → Moves s d d' marks long o n k p b
+  dir_moved once = (renamed_all (renamed_owner n k p apart s v v' o i own at named named_k changed present_same free gone same_seen once), nodes')

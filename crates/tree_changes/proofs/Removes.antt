@@ -3,19 +3,19 @@ use Rattle.std.proofs.Common.{◌≡◌, ◌≢◌, ℕ, Bool, true, false, cond
 use Rattle.std.specs.FinMap.{get, remove}
 use Rattle.outside.specs.Disk.{Disk, Node as Thing, folder as Folder, file as Bytes, IsTree}
 use Rattle.outside.specs.Changes.{IsBare, IsFree}
-use Rattle.deeds.specs.Deeds.{PlainDeed, DoesAll, AreApart, Unnamed, Removes as Removal, RemovesDir, in_order}
+use Rattle.deeds.specs.Deeds.{DoesAll, AreApart, Unnamed, Removes as Removal, RemovesDir, in_order}
 use Rattle.deeds.specs.Repeatable.{IsRepeatable, journal_file, new_file}
 use Rattle.deeds.proofs.Amid.{tree_run}
 use Rattle.deeds.proofs.Doing.{does_then}
-use Rattle.clear_tree.specs.Walk.{Path, same_path, Sealing, Kind, Plain, Named, Bare, Node, File, Link, Dir, look, node, node_at, claimed, NamedOnce}
+use Rattle.clear_tree.specs.Walk.{Path, same_path, Sealing, Kind, Plain, Bare, Node, File, Link, Dir, look, node, node_at, claimed, NamedOnce}
 use Rattle.clear_tree.specs.Places.{entry_at, folders_of, host_folder, host_entry, host_inner, entry_of, entry_where, seen_at, text_dir, text_dirid, text_symlink, text_contents, text_name}
-use Rattle.clear_tree.specs.Marks.{IsShadowed, HasTwin, HasForeign, NamedTwice, Foreign, known_at}
+use Rattle.clear_tree.specs.Marks.{HasTwin, HasForeign, NamedTwice, Foreign, known_at}
 use Rattle.clear_tree.proofs.Paths.{child_apart}
 use Rattle.tree_changes.specs.Trees.{AreTexts, Tree, IsTreeOf, without_node}
-use Rattle.tree_changes.specs.Changes.{IsHeldByNone, IsEmptied, Leads, RemovesFile, RemovesLink, RemovesDirectory}
-use Rattle.tree_changes.specs.Deeds.{entry_text, place_of, remove_node_at, remove_file_at, remove_dir_at, remove_deeds}
+use Rattle.tree_changes.specs.Changes.{IsHeldByNone, Leads, RemovesFile, RemovesLink, RemovesDirectory}
+use Rattle.tree_changes.specs.Deeds.{entry_text, remove_node_at, remove_file_at, remove_dir_at}
 use Rattle.tree_changes.proofs.Disk.{get_gone, get_gone_other, entry_is, inner_is, folder_is, inner_entry, entry_inner, entry_folder, folder_entry, folder_inner, inner_folder}
-use Rattle.tree_changes.proofs.Seeing.{entry_same, entry_part, entry_none, entry_some, text_cases, some_there, none_in_file, dir_there, holds_none, holds_it, looked, seen_same, long_same}
+use Rattle.tree_changes.proofs.Seeing.{entry_same, entry_part, entry_none, entry_some, text_cases, some_there, dir_there, holds_none, holds_it, seen_same, long_same}
 use Rattle.tree_changes.proofs.Nodes.{MakesKind, IsNodeFolder, node_shown, plain_shown, none_shown}
 use Rattle.tree_changes.proofs.Filling.{IsAt, not_long, no_copy, at_place, kind_name, kind_good}
 use Rattle.tree_changes.proofs.Phases.{Cleared, clear}

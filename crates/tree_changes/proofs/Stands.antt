@@ -1,11 +1,10 @@
 -- A disk's marks and places, by its own nodes.
-use Rattle.std.proofs.Common.{◌≡◌, ◌↔◌, ℕ, Bool, List, [], ◌∷◌, Option, Some, None, IsTrue, sym, ◌∙◌}
+use Rattle.std.proofs.Common.{◌≡◌, ◌↔◌, ℕ, Bool, List, [], ◌∷◌, Some, None, IsTrue, sym, ◌∙◌}
 use Rattle.std.specs.FinMap.{get}
 use Rattle.outside.specs.Disk.{Disk, folder as Folder, IsTree}
 use Rattle.clear_tree.specs.Walk.{Path, Sealing, Node, Dir, node_at, IsOwner}
 use Rattle.clear_tree.specs.Places.{folders_of, host_folder, entry_at}
 use Rattle.clear_tree.specs.Marks.{Marks, AreMarks}
-use Rattle.clear_tree.specs.Rows.{Nodes}
 use Rattle.tree_changes.specs.Trees.{Tree, IsTreeOf}
 
 pub record StandsFor (s : Sealing) (d : Disk) (marks : Marks) (long : Path → Bool) (o : List ℕ → Path) : Type 0 where

@@ -1,6 +1,6 @@
 -- The laws of changes: where the tree's step doesn't refuse one and no place is taken, its deeds can be done, again after a stop too, and
 -- leave the disk of the tree after it.
-use Rattle.std.specs.Prelude.{◌≡◌, ◌⊎◌, ℕ, Bool, true, false, List, ◌∷◌, Option, Some, None}
+use Rattle.std.specs.Prelude.{◌≡◌, ℕ, Bool, true, false, List, ◌∷◌, Option, Some, None}
 use Rattle.std.specs.FinMap.{get}
 use Rattle.outside.specs.Disk.{Disk}
 use Rattle.deeds.specs.Deeds.{PlainDeed, DoesAll, in_order}

@@ -10,7 +10,7 @@
 //! Its functions are laws: they do nothing, and their clauses hold.
 #![tactic(auto)]
 
-ghost use Rattle.tree_changes.specs.Changes.{CreatesDirectory, CreatesFile, RemovesDirectory, RemovesFile, RemovesLink};
+ghost use Rattle.tree_changes.specs.Changes.{CreatesDirectory, CreatesFile, RemovesDirectory, RemovesFile, RemovesLink, RenamesDirectory, RenamesFile, RenamesLink};
 
 /// A file is made, at its short or its long place.
 pub fn creates_file()
@@ -35,4 +35,19 @@ pub fn removes_link()
 /// An empty directory is removed, with its folder and the copy of its identifier there.
 pub fn removes_directory()
     ensures { RemovesDirectory }
+{}
+
+/// A file is renamed, from either place to either: its bytes move whole, and a node folder comes or goes.
+pub fn renames_file()
+    ensures { RenamesFile }
+{}
+
+/// A link is renamed.
+pub fn renames_link()
+    ensures { RenamesLink }
+{}
+
+/// A directory is renamed, with all that is in it: its `dir.c9r` moves, its folder stays.
+pub fn renames_directory()
+    ensures { RenamesDirectory }
 {}
