@@ -1,0 +1,83 @@
+-- The laws of changes: where the tree's step doesn't refuse one and no place is taken, its deeds can be done, again after a stop too, and
+-- leave the disk of the tree after it.
+use Rattle.std.specs.Prelude.{◌≡◌, ℕ, Bool, true, false, List, ◌∷◌, Option, Some, None}
+use Rattle.std.specs.FinMap.{get}
+use Rattle.outside.specs.Disk.{Disk}
+use Rattle.deeds.specs.Deeds.{PlainDeed, DoesAll, in_order}
+use Rattle.deeds.specs.Repeatable.{IsRepeatable}
+use Rattle.clear_tree.specs.Walk.{Path, Sealing, Node, File, Link, Dir, is_name}
+use Rattle.tree_changes.specs.Trees.{AreTexts, Tree, IsTreeOf, with_node, without_node, with_name}
+use Rattle.tree_changes.specs.Taken.{Claim, AreClaimed, taken}
+use Rattle.tree_changes.specs.Deeds.{place_of, create_file_deeds, create_dir_deeds, remove_deeds, rename_deeds}
+
+-- Deeds that are in the order of doing, can all be done on the disk, and again on what a stop left of that, and leave the disk of this tree.
+pub record Leads (s : Sealing) (d : Disk) (deeds : List PlainDeed) (tree : Tree) : Type 0 where
+  pub after : Disk
+  pub ordered : in_order deeds ≡ deeds
+  pub does : DoesAll deeds d after
+  pub repeatable : IsRepeatable deeds
+  pub clear : IsTreeOf s after tree
+
+-- A name can come into the directory at p, of identifier i, at its short or its long place: it opens to itself, no node there has it, and no
+-- place that it needs is taken.
+pub record IsNew (s : Sealing) (d : Disk) (tree : Tree) (p : Path) (i n : List ℕ) (long : Bool) (drawn : Option (List ℕ)) : Type 0 where
+  pub parent : get tree.nodes p ≡ Some (Dir i)
+  pub free : get tree.nodes (n ∷ p) ≡ None
+  pub named : is_name n (s.open_name i (s.seal i n)) ≡ true
+  pub part : long ≡ false → s.is_part (s.seal i n) ≡ true
+  pub claims : List Claim
+  pub claimed : AreClaimed s tree.nodes claims
+  pub untaken : taken s d claims i n drawn ≡ None
+
+-- A node of the directory at p, of identifier i, which has neither a twin nor further entries.
+pub record IsHeldByNone (tree : Tree) (p : Path) (i n : List ℕ) (x : Node) : Type 0 where
+  pub parent : get tree.nodes p ≡ Some (Dir i)
+  pub there : get tree.nodes (n ∷ p) ≡ Some x
+  pub clean : tree.marks.shadowed (n ∷ p) ≡ false
+
+abbrev pub CreatesFile : Type 0
+CreatesFile = (s : Sealing) (d : Disk) (tree : Tree) (p : Path) (i n header : List ℕ) (long : Bool) → AreTexts s → IsTreeOf s d tree
+    → IsNew s d tree p i n long None
+    → Leads s d (create_file_deeds (place_of s i n long) (s.seal i n) header) (with_node tree (n ∷ p) (File header) long)
+
+abbrev pub CreatesDirectory : Type 0
+CreatesDirectory = (s : Sealing) (d : Disk) (tree : Tree) (p : Path) (i n t : List ℕ) (long : Bool) → AreTexts s → IsTreeOf s d tree
+    → IsNew s d tree p i n long (Some t) → s.valid_id t ≡ true
+    → Leads s d (create_dir_deeds (place_of s i n long) (s.seal i n) (s.folder_of t) t) (with_node tree (n ∷ p) (Dir t) long)
+
+abbrev pub RemovesFile : Type 0
+RemovesFile = (s : Sealing) (d : Disk) (tree : Tree) (p : Path) (i n b : List ℕ) → AreTexts s → IsTreeOf s d tree
+    → IsHeldByNone tree p i n (File b)
+    → Leads s d (remove_deeds s (place_of s i n (tree.long (n ∷ p))) (File b)) (without_node tree (n ∷ p))
+
+abbrev pub RemovesLink : Type 0
+RemovesLink = (s : Sealing) (d : Disk) (tree : Tree) (p : Path) (i n b : List ℕ) → AreTexts s → IsTreeOf s d tree
+    → IsHeldByNone tree p i n (Link b)
+    → Leads s d (remove_deeds s (place_of s i n (tree.long (n ∷ p))) (Link b)) (without_node tree (n ∷ p))
+
+-- a directory can go where it has no node, its folder nothing foreign, and no identifier is named twice
+pub record IsEmptied (tree : Tree) (p : Path) : Type 0 where
+  pub no_child : (m : List ℕ) → get tree.nodes (m ∷ p) ≡ None
+  pub no_foreign : tree.marks.foreign p ≡ false
+  pub once : tree.marks.twice ≡ false
+
+abbrev pub RemovesDirectory : Type 0
+RemovesDirectory = (s : Sealing) (d : Disk) (tree : Tree) (p : Path) (i n t : List ℕ) → AreTexts s → IsTreeOf s d tree
+    → IsHeldByNone tree p i n (Dir t) → IsEmptied tree (n ∷ p)
+    → Leads s d (remove_deeds s (place_of s i n (tree.long (n ∷ p))) (Dir t)) (without_node tree (n ∷ p))
+
+abbrev pub RenamesFile : Type 0
+RenamesFile = (s : Sealing) (d : Disk) (tree : Tree) (p : Path) (i n k b : List ℕ) (long : Bool) → AreTexts s → IsTreeOf s d tree
+    → IsHeldByNone tree p i n (File b) → IsNew s d tree p i k long None
+    → Leads s d (rename_deeds (place_of s i n (tree.long (n ∷ p))) (place_of s i k long) (s.seal i k) (File b)) (with_name tree (n ∷ p) (k ∷ p) long)
+
+abbrev pub RenamesLink : Type 0
+RenamesLink = (s : Sealing) (d : Disk) (tree : Tree) (p : Path) (i n k b : List ℕ) (long : Bool) → AreTexts s → IsTreeOf s d tree
+    → IsHeldByNone tree p i n (Link b) → IsNew s d tree p i k long None
+    → Leads s d (rename_deeds (place_of s i n (tree.long (n ∷ p))) (place_of s i k long) (s.seal i k) (Link b)) (with_name tree (n ∷ p) (k ∷ p) long)
+
+-- a directory with all that is in it, where no identifier is named twice
+abbrev pub RenamesDirectory : Type 0
+RenamesDirectory = (s : Sealing) (d : Disk) (tree : Tree) (p : Path) (i n k t : List ℕ) (long : Bool) → AreTexts s → IsTreeOf s d tree
+    → IsHeldByNone tree p i n (Dir t) → IsNew s d tree p i k long None → tree.marks.twice ≡ false
+    → Leads s d (rename_deeds (place_of s i n (tree.long (n ∷ p))) (place_of s i k long) (s.seal i k) (Dir t)) (with_name tree (n ∷ p) (k ∷ p) long)

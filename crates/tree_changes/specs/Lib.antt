@@ -1,0 +1,4 @@
+pub mod Deeds
+pub mod Taken
+pub mod Trees
+pub mod Changes

@@ -1,0 +1,53 @@
+//! The changes of a vault's tree: the deeds of each create, remove and rename, and the laws that where the tree's step doesn't
+//! refuse one and no place is taken, they can be done, again after a stop too, and leave the disk of the tree after it.
+//!
+//! ```
+//! // From the tree of a disk: a new file's one deed at a short place puts its header.
+//! tree_changes::creates_file();
+//! tree_changes::removes_file();
+//! ```
+//!
+//! Its functions are laws: they do nothing, and their clauses hold.
+#![tactic(auto)]
+
+ghost use Rattle.tree_changes.specs.Changes.{CreatesDirectory, CreatesFile, RemovesDirectory, RemovesFile, RemovesLink, RenamesDirectory, RenamesFile, RenamesLink};
+
+/// A file is made, at its short or its long place.
+pub fn creates_file()
+    ensures { CreatesFile }
+{}
+
+/// A directory is made, with a folder of its own.
+pub fn creates_directory()
+    ensures { CreatesDirectory }
+{}
+
+/// A file is removed, from its short or its long place.
+pub fn removes_file()
+    ensures { RemovesFile }
+{}
+
+/// A link is removed.
+pub fn removes_link()
+    ensures { RemovesLink }
+{}
+
+/// An empty directory is removed, with its folder and the copy of its identifier there.
+pub fn removes_directory()
+    ensures { RemovesDirectory }
+{}
+
+/// A file is renamed, from either place to either: its bytes move whole, and a node folder comes or goes.
+pub fn renames_file()
+    ensures { RenamesFile }
+{}
+
+/// A link is renamed.
+pub fn renames_link()
+    ensures { RenamesLink }
+{}
+
+/// A directory is renamed, with all that is in it: its `dir.c9r` moves, its folder stays.
+pub fn renames_directory()
+    ensures { RenamesDirectory }
+{}
