@@ -6,3 +6,4 @@ pub mod Entries
 pub mod Children
 pub mod Fitting
 pub mod Listed
+pub mod Sizes
