@@ -1,0 +1,4 @@
+pub mod Ranges
+pub mod Files
+pub mod Shown
+pub mod Doing
