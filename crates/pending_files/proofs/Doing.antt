@@ -97,11 +97,11 @@ file_in_order : (path : Path) (ds : List PlainDeed) (len : ℕ) (ranges : Ranges
 file_in_order path [] len ranges d later each apart is does = absurd cc
 file_in_order path (x ∷ ds) len ranges d later each apart is does = by_first path x
     (λ here. then_kept path len ranges d does.0 later
-        (same_file path x len ranges d does.0 each.0 here (sym (file_here path x ds here) ∙ is) does.1)
-        (stays ds does.0 later path does.2 (not_named x ds path (named_here path x here) apart.0)))
+    (same_file path x len ranges d does.0 each.0 here (sym (file_here path x ds here) ∙ is) does.1)
+    (stays ds does.0 later path does.2 (not_named x ds path (named_here path x here) apart.0)))
     (λ there. kept_then path len ranges d does.0 later
-        (elsewhere x d does.0 path does.1 (not_here path x each.0 there))
-        (file_in_order path ds len ranges does.0 later each.1 apart.1 (sym (file_there path x ds there) ∙ is) does.2))
+    (elsewhere x d does.0 path does.1 (not_here path x each.0 there))
+    (file_in_order path ds len ranges does.0 later each.1 apart.1 (sym (file_there path x ds there) ∙ is) does.2))
 
 pub later_file : (path : Path) (ds : List PlainDeed) (len : ℕ) (ranges : Ranges) (d later : Disk) → AllByRecursion IsWaiting ds → AreApart ds → file_of path ds ≡ Some (len, ranges) → DoesAll (in_order ds) d later → IsReshaped path len ranges d later
 later_file path ds len ranges d later each apart is does = file_in_order path ds len ranges d later each apart is (subst (λ (l : List PlainDeed). DoesAll l d later) (order_is ds each) does)

@@ -204,9 +204,9 @@ shorter path [] = inl refl
 shorter path (x ∷ xs) = by_first path x
     (λ here. inr (omega (arith, ap length (without_here path x xs here))))
     (λ there. ⊎_elim
-        (λ (none : file_of path xs ≡ None). inl (file_there path x xs there ∙ none))
-        (λ (less : length (without path xs) < length xs). inr (omega (arith, less, ap length (without_there path x xs there))))
-        (shorter path xs))
+    (λ (none : file_of path xs ≡ None). inl (file_there path x xs there ∙ none))
+    (λ (less : length (without path xs) < length xs). inr (omega (arith, less, ap length (without_there path x xs there))))
+    (shorter path xs))
 
 -- there is room for a file's new deed
 pub few_without : (path : Path) (xs : List PlainDeed) → length xs ≤ 64 → (file_of path xs ≡ None → length xs < 64) → length (without path xs) < 64

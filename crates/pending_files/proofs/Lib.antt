@@ -2,3 +2,4 @@ pub mod Ranges
 pub mod Files
 pub mod Shown
 pub mod Doing
+pub mod Batched

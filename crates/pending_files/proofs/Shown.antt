@@ -40,10 +40,10 @@ pub passed_by : (was bytes window : List ℕ) (place at : ℕ) → place ≤ len
 passed_by was bytes window place at le (inl before) shows i lt within =
     let long = long_over was place bytes le in
     ⊎_elim (λ (below : at + i < place). shows i lt (omega (arith, le)) ∙ sym (get_before was place bytes (at + i) le below))
-        (λ (from : place ≤ at + i).
-        let behind : place + length bytes ≤ at + i = omega (arith, before) in
-        shows i lt (omega (arith, long, within, behind)) ∙ sym (get_behind was place bytes (at + i) le behind))
-        (cases_lt (at + i) place)
+    (λ (from : place ≤ at + i).
+    let behind : place + length bytes ≤ at + i = omega (arith, before) in
+    shows i lt (omega (arith, long, within, behind)) ∙ sym (get_behind was place bytes (at + i) le behind))
+    (cases_lt (at + i) place)
 passed_by was bytes window place at le (inr after) shows i lt within =
     let below : at + i < place = omega (arith, after) in
     shows i lt (omega (arith, le)) ∙ sym (get_before was place bytes (at + i) le below)
@@ -58,22 +58,22 @@ laid was bytes window piece place at skip start count le is_skip is_start in_byt
     let long = long_over was place bytes le in
     ⊎_elim
     (λ (below : i < start).
-        get_before window start piece i in_start below ∙ shows i (omega arith) (omega (arith, is_start, le))
-        ∙ sym (get_before was place bytes (at + i) le (omega (arith, is_start))))
+    get_before window start piece i in_start below ∙ shows i (omega arith) (omega (arith, is_start, le))
+    ∙ sym (get_before was place bytes (at + i) le (omega (arith, is_start))))
     (λ (from : start ≤ i).
-        ⊎_elim
-        (λ (to : i < start + count).
-            let place_in : skip + (i - start) ≡ at + i - place = omega (arith, is_skip, is_start, from) in
-            get_inside window start piece i in_start from (omega (arith, piece_long))
-            ∙ ap (λ (l : List ℕ). get_or l (i - start) 0) is_piece ∙ get_or-take count (drop skip bytes) (i - start) 0 (omega arith)
-            ∙ get_or-drop skip bytes (i - start) 0 ∙ ap (λ (k : ℕ). get_or bytes k 0) place_in
-            ∙ sym (get_inside was place bytes (at + i) le (omega (arith, is_start, from)) (omega (arith, is_skip, is_start, is_count, from, to, in_bytes))))
-        (λ (behind : start + count ≤ i).
-            let here : i < length window = omega (arith, new_long, lt, piece_long, is_count) in
-            let past : place + length bytes ≤ at + i = omega (arith, is_skip, is_start, is_count, behind, here, in_bytes) in
-            get_behind window start piece i in_start (omega (arith, piece_long, behind)) ∙ shows i here (omega (arith, long, within, past))
-            ∙ sym (get_behind was place bytes (at + i) le past))
-        (cases_lt i (start + count)))
+    ⊎_elim
+    (λ (to : i < start + count).
+    let place_in : skip + (i - start) ≡ at + i - place = omega (arith, is_skip, is_start, from) in
+    get_inside window start piece i in_start from (omega (arith, piece_long))
+    ∙ ap (λ (l : List ℕ). get_or l (i - start) 0) is_piece ∙ get_or-take count (drop skip bytes) (i - start) 0 (omega arith)
+    ∙ get_or-drop skip bytes (i - start) 0 ∙ ap (λ (k : ℕ). get_or bytes k 0) place_in
+    ∙ sym (get_inside was place bytes (at + i) le (omega (arith, is_start, from)) (omega (arith, is_skip, is_start, is_count, from, to, in_bytes))))
+    (λ (behind : start + count ≤ i).
+    let here : i < length window = omega (arith, new_long, lt, piece_long, is_count) in
+    let past : place + length bytes ≤ at + i = omega (arith, is_skip, is_start, is_count, behind, here, in_bytes) in
+    get_behind window start piece i in_start (omega (arith, piece_long, behind)) ∙ shows i here (omega (arith, long, within, past))
+    ∙ sym (get_behind was place bytes (at + i) le past))
+    (cases_lt i (start + count)))
     (cases_lt i start)
 
 -- a window that was filled by a read shows the file

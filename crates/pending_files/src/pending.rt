@@ -5,15 +5,15 @@ ghost use Rattle.outside.specs.Disk.{Disk, node_at, file, IsFile};
 ghost use Rattle.outside.specs.Calls.{HasCause, Told, IsUnfit, KeepsFrom};
 ghost use Rattle.outside.specs.Images.{disk_in};
 ghost use Rattle.deeds.specs.Deeds.{DoesAll, in_order};
+ghost use Rattle.deeds.specs.Grammar.{IsBatch};
 ghost use Rattle.deeds.specs.Plain.{plains};
+ghost use Rattle.deeds.specs.Repeatable.{IsRepeatable};
 ghost use Rattle.pending_files.specs.Pending.{IsPlace, HasRoom, ArePending, put_in, cut_in, file_of};
 
 use crate::places::file_in;
 use crate::reading::read_reshaped;
-use crate::room::{
-    MOST, add, cut_ranges, forget, new_buffers, new_lists, put_range, take_ranges,
-};
-use deeds::{Deed, Range};
+use crate::room::{MOST, add, cut_ranges, forget, new_buffers, new_lists, put_range, take_ranges};
+use deeds::{Batch, Deed, Range};
 use outside::{FolderErr, Reads};
 use std::alloc::{AllocError, Global};
 use std::marker::Model;
@@ -91,10 +91,7 @@ impl Pending {
         let mut ranges = take_ranges(&mut self.deeds, &mut self.lists, path);
         cut_ranges(&mut ranges, size, &mut self.buffers);
         put_range(&mut ranges, at, sealed, &mut self.buffers);
-        add(
-            &mut self.deeds,
-            Deed::Reshape(path.copied(), size, ranges),
-        );
+        add(&mut self.deeds, Deed::Reshape(path.copied(), size, ranges));
     }
 
     /// Cuts a file, which has `len` bytes from now on. It takes no memory.
@@ -144,11 +141,21 @@ impl Pending {
         }
     }
 
-    /// The deeds that commit what waits, a reshaping for each file.
+    /// The batch that commits what waits, a reshaping for each file. It takes no memory.
     pub fn deeds(&self) -> &[Deed]
         ensures deeds { plains result.now ≡ self.now }
         ensures pending { ArePending self.now }
+        ensures batch { IsBatch self.now }
+        ensures repeatable { IsRepeatable self.now }
+        ensures order { in_order self.now ≡ self.now }
     {
         &self.deeds
+    }
+
+    /// The batch that commits what waits, with the room that it has. It takes no memory.
+    pub fn into_batch(self) -> Batch
+        ensures { result ≡ self }
+    {
+        Batch::from_deeds(self.deeds)
     }
 }

@@ -182,12 +182,7 @@ fn give_list_back(lists: &mut Vec<Vec<Range>>, list: Vec<Range>)
 }
 
 /// Puts a sealed chunk at a place among ranges that rise, in place of one that begins there.
-pub(crate) fn put_range(
-    ranges: &mut Vec<Range>,
-    at: u64,
-    sealed: &[u8],
-    buffers: &mut Vec<Vec<u8>>,
-)
+pub(crate) fn put_range(ranges: &mut Vec<Range>, at: u64, sealed: &[u8], buffers: &mut Vec<Vec<u8>>)
     requires list { IsList ranges.old }
     requires buffers { AreBuffers buffers.old }
     requires short { length sealed.now ≤ 32796 }
@@ -207,12 +202,7 @@ pub(crate) fn put_range(
 }
 
 /// A buffer for a chunk at a place: that of the range that begins there, which goes, or a spare one.
-fn buffer_for(
-    ranges: &mut Vec<Range>,
-    index: usize,
-    at: u64,
-    buffers: &mut Vec<Vec<u8>>,
-) -> Vec<u8>
+fn buffer_for(ranges: &mut Vec<Range>, index: usize, at: u64, buffers: &mut Vec<Vec<u8>>) -> Vec<u8>
     requires gap { IsGap at (plain_ranges ranges.old.items) index }
     requires list { IsList ranges.old }
     requires buffers { AreBuffers buffers.old }

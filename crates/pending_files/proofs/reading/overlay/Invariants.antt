@@ -9,5 +9,5 @@ invariant-loop-range l = record {
   long : length l.window ≡ length l.initial.window;
   shown : (was : List ℕ) → CanWrite (plain_ranges l.ranges) was → Shows l.at was l.initial.window
       → (so_far : List ℕ) × CanWrite (plain_ranges (drop l.range-index l.ranges)) so_far × Shows l.at so_far l.window
-          × (written (plain_ranges (drop l.range-index l.ranges)) so_far ≡ written (plain_ranges l.ranges) was);
+      × (written (plain_ranges (drop l.range-index l.ranges)) so_far ≡ written (plain_ranges l.ranges) was);
 }

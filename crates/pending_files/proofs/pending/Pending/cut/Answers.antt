@@ -38,8 +38,8 @@ invariant_of-self c =
       chunks = subst (AreChunks 0 c.args.len) (sym cut) (cut_chunks 0 are.0 c.args.len (ranges_of path old) are.1);
     } in
     let deeds : plains c.add.new.deeds.items ≡ without path old ++ Reshapes path c.args.len (plain_ranges ranges.items) ∷ [] =
-        c.add.ensures.deeds ∙ ap (λ (l : List PlainDeed). l ++ Reshapes c.copied.result c.args.len (plain_ranges ranges.items) ∷ []) c.take_ranges-ranges.ensures.others
-        ∙ ap (λ (p : List (List ℕ)). without path old ++ Reshapes p c.args.len (plain_ranges ranges.items) ∷ []) c.copied.ensures in
+    c.add.ensures.deeds ∙ ap (λ (l : List PlainDeed). l ++ Reshapes c.copied.result c.args.len (plain_ranges ranges.items) ∷ []) c.take_ranges-ranges.ensures.others
+    ∙ ap (λ (p : List (List ℕ)). without path old ++ Reshapes p c.args.len (plain_ranges ranges.items) ∷ []) c.copied.ensures in
     let counts = count_without path old in
     let long = ap length c.take_ranges-ranges.ensures.ranges in
     let chunks : chunk_count (without path old) + length (plain_ranges ranges.items) + 0 ≤ 64 = omega (arith, counts, long, plain_long was.items, was.ok, plain_long ranges.items, ranges.ok, c.cut_ranges.ensures.all, c.self.invariant.all_buffers) in

@@ -55,8 +55,8 @@ invariant_of-self c =
       chunks = subst (AreChunks 0 size) (sym put) (chunks_with 0 size c.args.at c.args.sealed.now (cut_to size (ranges_of path old)) (cut_chunks 0 are.0 size (ranges_of path old) are.1) (omega arith) c.requires.place c.requires.short c.requires.within);
     } in
     let deeds : plains c.add.new.deeds.items ≡ without path old ++ Reshapes path size (plain_ranges ranges.items) ∷ [] =
-        c.add.ensures.deeds ∙ ap (λ (l : List PlainDeed). l ++ Reshapes c.copied.result size (plain_ranges ranges.items) ∷ []) c.take_ranges-ranges.ensures.others
-        ∙ ap (λ (p : List (List ℕ)). without path old ++ Reshapes p size (plain_ranges ranges.items) ∷ []) c.copied.ensures in
+    c.add.ensures.deeds ∙ ap (λ (l : List PlainDeed). l ++ Reshapes c.copied.result size (plain_ranges ranges.items) ∷ []) c.take_ranges-ranges.ensures.others
+    ∙ ap (λ (p : List (List ℕ)). without path old ++ Reshapes p size (plain_ranges ranges.items) ∷ []) c.copied.ensures in
     let counts = count_without path old in
     let long = ap length c.take_ranges-ranges.ensures.ranges in
     let chunks : chunk_count (without path old) + length (plain_ranges ranges.items) ≤ 64 = omega (arith, counts, long, plain_long was.items, was.ok, plain_long ranges.items, ranges.ok, c.cut_ranges.ensures.all, c.put_range.ensures.all, c.self.invariant.all_buffers) in
