@@ -10,6 +10,7 @@ use Rattle.deeds.specs.Reshape.{Ranges, written, CanWrite}
 use Rattle.deeds.specs.Deeds.{PlainDeed, MakesDir, Puts, Renames, Removes, RemovesDir, Reshapes, reshaped, Does, DoesAll, of_phase, in_order, AreApart}
 use Rattle.deeds.proofs.Again.{elsewhere, stays, not_named}
 use Rattle.pending_files.specs.Pending.{is_at, its_len, its_ranges, file_of, ranges_or_none, IsWaiting}
+use Rattle.pending_files.specs.Later.{CanReshape, IsReshaped, IsChangedTo}
 use Rattle.pending_files.proofs.Files.{same_path, by_first, file_here, file_there, named_here, not_here, unnamed_none}
 
 -- ---- the order of doing
@@ -52,14 +53,6 @@ order_is ds each =
     ∙ ap (λ (l : List PlainDeed). ds ++ [] ++ l) (none_removed ds each) ∙ append_none (ds ++ []) ∙ append_none ds
 
 -- ---- the disk after it
-
--- a file after its changes
-pub record IsReshaped (path : Path) (len : ℕ) (ranges : Ranges) (d later : Disk) : Type 0 where
-  pub was : List ℕ
-  pub there : node_at d path ≡ Some (file was)
-  pub can : CanWrite ranges was
-  pub long : len ≤ length (written ranges was)
-  pub is : node_at later path ≡ Some (file (reshaped len ranges was))
 
 did_reshape : (path : Path) (len : ℕ) (ranges : Ranges) (d later : Disk) → Does (Reshapes path len ranges) d later → IsReshaped path len ranges d later
 did_reshape path len ranges d later (inl never) = absurd never.0

@@ -31,10 +31,10 @@ file_here path x xs is = ap (λ (b : Bool). Found b x (file_of path xs)) is
 pub file_there : (path : Path) (x : PlainDeed) (xs : List PlainDeed) → is_at path x ≡ false → file_of path (x ∷ xs) ≡ file_of path xs
 file_there path x xs is = ap (λ (b : Bool). Found b x (file_of path xs)) is
 
-without_here : (path : Path) (x : PlainDeed) (xs : List PlainDeed) → is_at path x ≡ true → without path (x ∷ xs) ≡ xs
+pub without_here : (path : Path) (x : PlainDeed) (xs : List PlainDeed) → is_at path x ≡ true → without path (x ∷ xs) ≡ xs
 without_here path x xs is = ap (λ (b : Bool). Kept b x xs (without path xs)) is
 
-without_there : (path : Path) (x : PlainDeed) (xs : List PlainDeed) → is_at path x ≡ false → without path (x ∷ xs) ≡ x ∷ without path xs
+pub without_there : (path : Path) (x : PlainDeed) (xs : List PlainDeed) → is_at path x ≡ false → without path (x ∷ xs) ≡ x ∷ without path xs
 without_there path x xs is = ap (λ (b : Bool). Kept b x xs (without path xs)) is
 
 -- either the first deed is the file's, or it isn't

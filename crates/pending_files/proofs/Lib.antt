@@ -3,3 +3,5 @@ pub mod Files
 pub mod Shown
 pub mod Doing
 pub mod Batched
+pub mod Written
+pub mod Later

@@ -37,7 +37,7 @@ plain_dropped (y ∷ s) (suc i) x rest e = plain_dropped s i x rest e
 
 -- ---- cut to a length
 
-abbrev Cut : Bool → ℕ → ℕ × List ℕ → Ranges → Ranges
+abbrev pub Cut : Bool → ℕ → ℕ × List ℕ → Ranges → Ranges
 Cut b len r more = if b then (r.0, take (len - r.0) r.1) ∷ more else []
 
 pub cut_gone : (len : ℕ) (front : Ranges) (r : ℕ × List ℕ) → len ≤ r.0 → cut_to len (front ++ r ∷ []) ≡ cut_to len front
@@ -78,7 +78,7 @@ cut_chunks from most len (r ∷ rs) are = step (cut_chunks (r.0 + 32796) most le
 
 -- ---- a chunk put among them
 
-abbrev With : Bool → Bool → ℕ × List ℕ → ℕ × List ℕ → Ranges → Ranges → Ranges
+abbrev pub With : Bool → Bool → ℕ × List ℕ → ℕ × List ℕ → Ranges → Ranges → Ranges
 With below same one r more rs = if below then r ∷ more else if same then one ∷ rs else one ∷ r ∷ rs
 
 -- two places of chunks are as far apart as a chunk is long

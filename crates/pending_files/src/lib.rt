@@ -9,9 +9,11 @@
 //! ```
 #![tactic(auto)]
 
+mod laws;
 mod pending;
 mod places;
 mod reading;
 mod room;
 
+pub use laws::{cutting_what_waits, doing_what_waits, putting_in_what_waits};
 pub use pending::Pending;

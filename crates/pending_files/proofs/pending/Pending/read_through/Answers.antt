@@ -7,7 +7,7 @@ use Rattle.deeds.specs.Reshape.{Ranges, written}
 use Rattle.deeds.specs.Plain.{plains, plain_ranges}
 use Rattle.pending_files.specs.Pending.{file_of}
 use Rattle.pending_files.proofs.Shown.{told_more, ok_more, unfit_more}
-use Rattle.pending_files.proofs.Doing.{IsReshaped, later_file, later_other}
+use Rattle.pending_files.proofs.Doing.{later_file, later_other}
 use Rattle.pending_files.proofs.pending.Pending.read_through.Goals as goal
 
 pub returns-in-None-clause-bytes : goal.returns-in-None-clause-bytes
