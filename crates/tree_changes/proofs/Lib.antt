@@ -17,3 +17,6 @@ pub mod Held
 pub mod Removes
 pub mod Names
 pub mod Renames
+pub mod Rows
+pub mod Shapes
+pub mod Again
