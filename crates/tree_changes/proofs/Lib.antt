@@ -20,3 +20,6 @@ pub mod Renames
 pub mod Rows
 pub mod Shapes
 pub mod Again
+pub mod Clear
+pub mod Beside
+pub mod Vault

@@ -1,14 +1,14 @@
 -- The shape of a tree's rows: by path, but for numbers, versions and moments.
 use Rattle.std.specs.Prelude.{◌≡◌, ◌≢◌, ◌<◌, ℕ, List, [], ◌∷◌, Bool, true, false, Some, None}
 use Rattle.std.specs.FinMap.{get}
-use Rattle.outside.specs.Disk.{Disk}
+use Rattle.outside.specs.Disk.{Disk, IsTree}
 use Rattle.deeds.specs.Deeds.{PlainDeed}
 use Rattle.tree_model.specs.Rows.{chunks, Row, Rows, root, child_of}
 use Rattle.tree_model.specs.Asked.{PlainChange}
 use Rattle.tree_model.specs.Step.{is_held, remove_refusal, change_dir, new_row, set_row, with_mtime, with_new, without_row}
 use Rattle.clear_tree.specs.Walk.{Path, Sealing, Node, Dir, Bad}
 use Rattle.clear_tree.specs.Queue.{In}
-use Rattle.clear_tree.specs.Rows.{kind_of, content_in}
+use Rattle.clear_tree.specs.Rows.{kind_of, content_in, IsClear}
 use Rattle.tree_changes.specs.Trees.{AreTexts, Tree, IsTreeOf}
 use Rattle.tree_changes.specs.Deeds.{place_of, create_file_deeds, create_dir_deeds, remove_deeds, rename_deeds}
 use Rattle.tree_changes.specs.Changes.{IsNew, Leads}
@@ -55,6 +55,47 @@ pub record HasShape (s : Sealing) (tree : Tree) (rows : Rows) : Type 0 where
   pub rows_of : (p : Path) (x : Node) → get tree.nodes p ≡ Some x → HasRow s tree rows p x
   pub nodes_of : (p : Path) (row : Row) → IsRowAt rows p row → HasNode s tree p row
   pub twice : rows.named_twice ≡ tree.marks.twice
+
+-- ---- rows of one shape
+
+-- two rows of one path, but for numbers, versions and moments
+pub record AreAlike (a b : Row) : Type 0 where
+  pub kind : a.kind ≡ b.kind
+  pub content : a.content ≡ b.content
+  pub foreign : a.foreign ≡ b.foreign
+  pub shadowed : a.shadowed ≡ b.shadowed
+
+pub record HasAlike (rows : Rows) (p : Path) (row : Row) : Type 0 where
+  pub other : Row
+  pub at : IsRowAt rows p other
+  pub alike : AreAlike row other
+
+pub record SameShape (a b : Rows) : Type 0 where
+  pub forth : (p : Path) (row : Row) → IsRowAt a p row → HasAlike b p row
+  pub back : (p : Path) (row : Row) → IsRowAt b p row → HasAlike a p row
+  pub twice : a.named_twice ≡ b.named_twice
+
+-- the rows that a disk stands for have the shape of a tree of the disk
+pub record HasTree (s : Sealing) (d : Disk) (rows : Rows) : Type 0 where
+  pub tree : Tree
+  pub is : IsTreeOf s d tree
+  pub shape : HasShape s tree rows
+
+abbrev pub ClearRowsHaveTree : Type 0
+ClearRowsHaveTree = (s : Sealing) (d : Disk) (now : ℕ) (rows : Rows) → IsClear s d now rows → IsTree d → HasTree s d rows
+
+-- and there are such disks: an empty vault's
+abbrev pub EmptyVaultHasTree : Type 0
+EmptyVaultHasTree = (s : Sealing) (now : ℕ) → (d : Disk) × (rows : Rows) × HasTree s d rows
+
+-- Rows of the shape of a disk's tree have that of the rows which the disk stands for.
+pub record StandsForShape (s : Sealing) (d : Disk) (now : ℕ) (rows : Rows) : Type 0 where
+  pub clear : Rows
+  pub is : IsClear s d now clear
+  pub same : SameShape rows clear
+
+abbrev pub ShapesAreOfClearRows : Type 0
+ShapesAreOfClearRows = (s : Sealing) (d : Disk) (tree : Tree) (rows : Rows) (now : ℕ) → IsTreeOf s d tree → HasShape s tree rows → StandsForShape s d now rows
 
 -- ---- what the step does not refuse
 

@@ -10,8 +10,8 @@
 //! Its functions are laws: they do nothing, and their clauses hold.
 #![tactic(auto)]
 
-ghost use Rattle.tree_changes.specs.Changes.{CreatesDirectory, CreatesFile, DoesAgain, RemovesDirectory, RemovesFile, RemovesLink, RenamesDirectory, RenamesFile, RenamesLink};
-ghost use Rattle.tree_changes.specs.Shapes.{DirectoryFollows, FileFollows, RemovalFollows, RenameFollows};
+ghost use Rattle.tree_changes.specs.Changes.{CreatesDirectory, CreatesFile, DoesAgain, RemovesDirectory, RemovesFile, RemovesLink, RenamesDirectory, RenamesFile, RenamesLink, StaysBeside};
+ghost use Rattle.tree_changes.specs.Shapes.{ClearRowsHaveTree, DirectoryFollows, EmptyVaultHasTree, FileFollows, RemovalFollows, RenameFollows, ShapesAreOfClearRows};
 
 /// A file is made, at its short or its long place.
 pub fn creates_file()
@@ -72,4 +72,17 @@ pub fn removals_follow()
 /// Where the step gives a node a new name, the rows after it have the shape of the tree that the deeds lead to.
 pub fn renames_follow()
     ensures { RenameFollows }
+{}
+
+/// What the journal's two files hold does not matter to the tree.
+pub fn stays_beside()
+    ensures { StaysBeside }
+{}
+
+/// The rows that a disk stands for have the shape of its tree, and there is such a disk; and rows of that shape are, by path, those
+/// that the disk stands for.
+pub fn clear_rows_have_shape()
+    ensures have { ClearRowsHaveTree }
+    ensures some { EmptyVaultHasTree }
+    ensures same { ShapesAreOfClearRows }
 {}
