@@ -17,3 +17,9 @@ pub mod Held
 pub mod Removes
 pub mod Names
 pub mod Renames
+pub mod Rows
+pub mod Shapes
+pub mod Again
+pub mod Clear
+pub mod Beside
+pub mod Vault

@@ -2,9 +2,9 @@
 -- leave the disk of the tree after it.
 use Rattle.std.specs.Prelude.{◌≡◌, ℕ, Bool, true, false, List, ◌∷◌, Option, Some, None}
 use Rattle.std.specs.FinMap.{get}
-use Rattle.outside.specs.Disk.{Disk}
-use Rattle.deeds.specs.Deeds.{PlainDeed, DoesAll, in_order}
-use Rattle.deeds.specs.Repeatable.{IsRepeatable}
+use Rattle.outside.specs.Disk.{Disk, IsTree}
+use Rattle.deeds.specs.Deeds.{PlainDeed, DoesAll, IsAmid, IsAlikeBut, in_order}
+use Rattle.deeds.specs.Repeatable.{IsRepeatable, journal_file, new_file}
 use Rattle.clear_tree.specs.Walk.{Path, Sealing, Node, File, Link, Dir, is_name}
 use Rattle.tree_changes.specs.Trees.{AreTexts, Tree, IsTreeOf, with_node, without_node, with_name}
 use Rattle.tree_changes.specs.Taken.{Claim, AreClaimed, taken}
@@ -81,3 +81,19 @@ abbrev pub RenamesDirectory : Type 0
 RenamesDirectory = (s : Sealing) (d : Disk) (tree : Tree) (p : Path) (i n k t : List ℕ) (long : Bool) → AreTexts s → IsTreeOf s d tree
     → IsHeldByNone tree p i n (Dir t) → IsNew s d tree p i k long None → tree.marks.twice ≡ false
     → Leads s d (rename_deeds (place_of s i n (tree.long (n ∷ p))) (place_of s i k long) (s.seal i k) (Dir t)) (with_name tree (n ∷ p) (k ∷ p) long)
+
+-- ---- after a stop
+
+-- done again on what a stop left, the deeds lead to the disk of the same tree
+pub record LeadsAgain (s : Sealing) (image : Disk) (deeds : List PlainDeed) (tree : Tree) : Type 0 where
+  pub after : Disk
+  pub does : DoesAll deeds image after
+  pub clear : IsTreeOf s after tree
+
+abbrev pub DoesAgain : Type 0
+DoesAgain = (s : Sealing) (d : Disk) (deeds : List PlainDeed) (tree : Tree) → Leads s d deeds tree → (image : Disk) → IsAmid deeds d image
+    → LeadsAgain s image deeds tree
+
+-- what the journal's two files hold does not matter to the tree
+abbrev pub StaysBeside : Type 0
+StaysBeside = (s : Sealing) (d d' : Disk) (tree : Tree) → IsTreeOf s d tree → IsTree d' → IsAlikeBut journal_file new_file d d' → IsTreeOf s d' tree

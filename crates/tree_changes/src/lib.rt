@@ -10,7 +10,8 @@
 //! Its functions are laws: they do nothing, and their clauses hold.
 #![tactic(auto)]
 
-ghost use Rattle.tree_changes.specs.Changes.{CreatesDirectory, CreatesFile, RemovesDirectory, RemovesFile, RemovesLink, RenamesDirectory, RenamesFile, RenamesLink};
+ghost use Rattle.tree_changes.specs.Changes.{CreatesDirectory, CreatesFile, DoesAgain, RemovesDirectory, RemovesFile, RemovesLink, RenamesDirectory, RenamesFile, RenamesLink, StaysBeside};
+ghost use Rattle.tree_changes.specs.Shapes.{ClearRowsHaveTree, DirectoryFollows, EmptyVaultHasTree, FileFollows, RemovalFollows, RenameFollows, ShapesAreOfClearRows};
 
 /// A file is made, at its short or its long place.
 pub fn creates_file()
@@ -50,4 +51,38 @@ pub fn renames_link()
 /// A directory is renamed, with all that is in it: its `dir.c9r` moves, its folder stays.
 pub fn renames_directory()
     ensures { RenamesDirectory }
+{}
+
+/// Done again on whatever a stop left of them, the deeds lead to the disk of the same tree.
+pub fn does_again()
+    ensures { DoesAgain }
+{}
+
+/// Where the step makes a file or a directory, the rows after it have the shape of the tree that the deeds lead to.
+pub fn creations_follow()
+    ensures file { FileFollows }
+    ensures directory { DirectoryFollows }
+{}
+
+/// Where the step removes a node, the rows after it have the shape of the tree that the deeds lead to.
+pub fn removals_follow()
+    ensures { RemovalFollows }
+{}
+
+/// Where the step gives a node a new name, the rows after it have the shape of the tree that the deeds lead to.
+pub fn renames_follow()
+    ensures { RenameFollows }
+{}
+
+/// What the journal's two files hold does not matter to the tree.
+pub fn stays_beside()
+    ensures { StaysBeside }
+{}
+
+/// The rows that a disk stands for have the shape of its tree, and there is such a disk; and rows of that shape are, by path, those
+/// that the disk stands for.
+pub fn clear_rows_have_shape()
+    ensures have { ClearRowsHaveTree }
+    ensures some { EmptyVaultHasTree }
+    ensures same { ShapesAreOfClearRows }
 {}
