@@ -2,6 +2,4 @@ pub mod RowLemmas
 pub mod StepLemmas
 pub mod WalkLemmas
 pub mod ReadLemmas
-pub mod SliceLemmas
-pub mod AnswerLemmas
 pub mod StoreLemmas
