@@ -2,4 +2,5 @@ pub mod RowLemmas
 pub mod StepLemmas
 pub mod WalkLemmas
 pub mod ReadLemmas
+pub mod SizeLemmas
 pub mod StoreLemmas

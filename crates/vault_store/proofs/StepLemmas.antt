@@ -50,7 +50,7 @@ pub answer_of : {a b : Stepped} → a ≡ b → a.answer ≡ b.answer
 answer_of e = ap (λ (s : Stepped). s.answer) e
 
 -- a request is built whatever its node is
-free_of : (request : PlainRequest) (o : Option Row) → ((row : Row) → not_built row request ≡ None) → option_and_then (λ row. not_built row request) o ≡ None
+pub free_of : (request : PlainRequest) (o : Option Row) → ((row : Row) → not_built row request ≡ None) → option_and_then (λ row. not_built row request) o ≡ None
 free_of request None free = refl
 free_of request (Some row) free = free row
 
@@ -223,23 +223,14 @@ keeps_rows request done reads = reads
 keeps_rows request (refused refusal) reads = tt
 
 -- a reply that has the form of another request than a walk is no walk's
-has_count : (request : PlainRequest) → ((qids : List Qid) → IsReplyTo request (walked qids) [] → ⊥) → (reply : Reply) → IsReplyTo request (plain_reply reply) [] → HasCount reply
-has_count request other (replies.Qid q) form = tt
-has_count request other (replies.Walked n qids) form = absurd (other _ form)
-has_count request other (replies.Count n) form = tt
-has_count request other (replies.Stat n) form = tt
-has_count request other replies.Done form = tt
-has_count request other (replies.Refused refusal) form = tt
-
-pub looked_count : (tree : KeptTree) (n : ℕ) (reply : Reply) → IsStepOf tree (look n) (says (plain_reply reply)) → HasCount reply
-looked_count tree n reply is = has_count (look n) (λ qids form. form) reply (looked tree n (plain_reply reply) is).form
-
-pub synced_count : (tree : KeptTree) (n : ℕ) (reply : Reply) → IsStepOf tree (sync n) (says (plain_reply reply)) → HasCount reply
-synced_count tree n reply is = has_count (sync n) (λ qids form. form) reply (synced tree n (plain_reply reply) is).form
-
-pub opened_count : (tree : KeptTree) (n mode : ℕ) (reply : Reply) → (truncates mode ≡ false → IsStepOf tree (open_node n mode) (says (plain_reply reply)))
-    → (truncates mode ≡ true → plain_reply reply ≡ refused (unbuilt_of (node_in tree n))) → HasCount reply
-opened_count tree n mode reply kept cut = has_count (open_node n mode) (λ qids form. form) reply (opened tree n mode (plain_reply reply) kept cut).form
+pub has_count : (request : PlainRequest) → ((qids : List Qid) (bytes : List ℕ) → IsReplyTo request (walked qids) bytes → ⊥) → (reply : Reply) (bytes : List ℕ) → IsReplyTo request (plain_reply reply) bytes
+    → HasCount reply
+has_count request other (replies.Qid q) bytes form = tt
+has_count request other (replies.Walked n qids) bytes form = absurd (other _ bytes form)
+has_count request other (replies.Count n) bytes form = tt
+has_count request other (replies.Stat n) bytes form = tt
+has_count request other replies.Done bytes form = tt
+has_count request other (replies.Refused refusal) bytes form = tt
 
 -- ---- one name
 

@@ -10,6 +10,7 @@
 
 mod opening;
 mod reading;
+mod sizes;
 mod sole_caller;
 mod store;
 mod walking;

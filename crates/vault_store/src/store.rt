@@ -1,4 +1,5 @@
 ghost use Rattle.std.specs.Prelude.{◌≡◌, ◌≤◌, ℕ, false, length, IfOk, IfErr, IsErr};
+ghost use Rattle.std.specs.Option.{option_copied};
 ghost use Rattle.outside.specs.Disk.{IsFolder};
 ghost use Rattle.outside.specs.Calls.{HasCause, Told};
 ghost use Rattle.outside.specs.Images.{disk_in};
@@ -12,13 +13,14 @@ ghost use Rattle.vault_store.specs.declared.opening.OpenErr.TheVariants as open_
 
 use crate::opening::OpenErr;
 use crate::reading::read;
+use crate::sizes::has_sizes;
 use crate::walking::{not_built, walk};
 use clear_tree::Tree;
 use content_reader::{ContentReader, Slice};
 use outside::{Entropy, Failed, Folder, Refused};
 use siv_mode::VaultKeys;
 use std::alloc::Global;
-use tree_answers::{look, open_node, sync};
+use tree_answers::{list, look, open_node, stat_of, sync};
 use tree_loading::{load, loading_is_clear};
 use tree_model::{Reply, Request};
 
@@ -83,8 +85,8 @@ impl<D: Folder> Store<D> {
     /// Answers a request that is made at a second since 1970-01-01: one entry of the history, of whoever has this random
     /// source. Bytes of the reply are put into `buffer`, from its front on. `Read` and `Sync` take no memory.
     ///
-    /// Look, Walk, OpenNode without truncation, Read and Sync are answered as the tree's step does; the other requests aren't
-    /// built yet, and are refused as `tree_history`'s `not_built` says.
+    /// The requests that change nothing are answered as the tree's step does; the others aren't built yet, and are refused as
+    /// `tree_history`'s `not_built` says.
     pub fn serve<E: Entropy>(
         &mut self,
         request: &Request<'_>,
@@ -141,10 +143,23 @@ impl<D: Folder> Store<D> {
                     buffer,
                 )
             }
-            Request::List { node, .. } => not_built(&self.tree, *node),
+            Request::List { node, after, count } => {
+                has_sizes(&self.keys, &self.tree);
+                list(
+                    &self.tree,
+                    *node,
+                    bytes_of(*after),
+                    *count,
+                    self.opened_at,
+                    buffer,
+                )
+            }
             Request::Write { node, .. } => not_built(&self.tree, *node),
             Request::Remove { node } => not_built(&self.tree, *node),
-            Request::StatOf { node } => not_built(&self.tree, *node),
+            Request::StatOf { node } => {
+                has_sizes(&self.keys, &self.tree);
+                stat_of(&self.tree, *node, self.opened_at, buffer)
+            }
             Request::Change { node, .. } => not_built(&self.tree, *node),
             Request::Sync { node } => sync(&self.tree, *node),
         }
@@ -163,5 +178,15 @@ impl<D: Folder> Store<D> {
         ensures { result ≡ self.now.entries }
     {
         self.entries
+    }
+}
+
+// The bytes of a name, if there is one.
+fn bytes_of(name: Option<&str>) -> Option<&[u8]>
+    ensures { option_copied result ≡ option_copied name.entry }
+{
+    match name {
+        Some(name) => Some(name.as_bytes()),
+        None => None,
     }
 }
