@@ -1,0 +1,3 @@
+pub mod Counting
+pub mod SoFar
+pub mod Sharing

@@ -1,0 +1,4 @@
+pub mod Ends
+pub mod Shares
+pub mod Links
+pub mod Workers

@@ -1,0 +1,19 @@
+//! Workers: each serves its share of the sessions, one link of its listener after another, in a thread of its own.
+//!
+//! ```text
+//! let mut crews = vec![in alloc; Crew::new(listener, object)]?;
+//! let counts = run_workers(&rt, alloc, 100, 1, &mut crews, &clock)?; // 100 sessions, or as many as came
+//! println!(rt; "{} sessions, {} of them done", counts.sessions, counts.done)?;
+//! ```
+//!
+//! A worker's links are served over its own [`tree_model::TreeObject`], whatever that is; one that stands for a shared tree makes the sessions
+//! of all workers one history.
+#![tactic(auto)]
+
+mod counts;
+mod crew;
+mod workers;
+
+pub use counts::SessionCounts;
+pub use crew::Crew;
+pub use workers::run_workers;
