@@ -1,5 +1,5 @@
 -- What waits is a batch that can be done again.
-use Rattle.std.proofs.Common.{◌≡◌, ◌≢◌, ℕ, ◌+◌, ◌*◌, ◌≤◌, ◌<◌, ◌^◌, List, [], ◌∷◌, ◌++◌, length, Bool, true, leb, refl, sym, ap, ◌∙◌, arith, length-append}
+use Rattle.std.proofs.Common.{◌≡◌, ◌≢◌, ℕ, ◌+◌, ◌*◌, ◌≤◌, ◌<◌, ◌^◌, List, [], ◌∷◌, ◌++◌, length, Bool, true, refl, ap, ◌∙◌, arith, length-append}
 use Rattle.std.specs.Prelude.{◌&&◌, nat_le, not}
 use Rattle.std.specs.Str.{bytes_eq}
 use Rattle.std.specs.Int.{w32, w64, to_be_bytes}
@@ -9,10 +9,10 @@ use Rattle.vault_path.specs.Parts.{is_part_byte, is_part, is_path}
 use Rattle.outside.specs.Disk.{Path}
 use Rattle.deeds.specs.Reshape.{Ranges}
 use Rattle.deeds.specs.Deeds.{PlainDeed, MakesDir, Puts, Renames, Removes, RemovesDir, Reshapes, NotIn, Unnamed, names}
-use Rattle.deeds.specs.Grammar.{spelled, spelled_all, spelled_deed, spelled_deeds, spelled_path, spelled_part, spelled_range, IsDeed, IsBatch, FitsRange, rise_within}
-use Rattle.deeds.specs.Repeatable.{IsRepeatable, journal_file, new_file}
+use Rattle.deeds.specs.Grammar.{spelled_all, spelled_deed, spelled_deeds, spelled_path, spelled_part, spelled_range, IsDeed, IsBatch, FitsRange, rise_within}
+use Rattle.deeds.specs.Repeatable.{IsRepeatable}
 use Rattle.deeds.proofs.Fields.{both_true, wide32, wide64}
-use Rattle.pending_files.specs.Pending.{AreChunks, IsContent, IsInside, IsWaiting, ArePending, chunk_count, its_ranges}
+use Rattle.pending_files.specs.Pending.{AreChunks, IsWaiting, ArePending, chunk_count, its_ranges}
 
 -- ---- the grammar
 

@@ -1,16 +1,15 @@
 -- What waits is done on a disk.
-use Rattle.std.proofs.Common.{◌≡◌, ◌⊎◌, ℕ, ◌≤◌, List, [], ◌∷◌, ◌++◌, length, Option, Some, None, Bool, true, false, cond, refl, sym, ap, subst, ◌∙◌, inl, inr}
+use Rattle.std.proofs.Common.{◌≡◌, ℕ, List, [], ◌∷◌, ◌++◌, Option, Some, None, true, refl, sym, ap, subst, ◌∙◌, inl, inr}
 use Rattle.std.specs.List.{AllByRecursion}
-use Rattle.outside.specs.Disk.{Disk, Path, Node, file, node_at}
-use Rattle.outside.specs.Changes.{in_file, set_at}
+use Rattle.outside.specs.Disk.{Disk, Path, node_at}
+use Rattle.outside.specs.Changes.{in_file}
 use Rattle.outside.proofs.Paths.{set_here}
-use Rattle.deeds.specs.declared.phase.Phase.{Phase}
 use Rattle.deeds.specs.declared.phase.Phase.TheVariants as phases
-use Rattle.deeds.specs.Reshape.{Ranges, written, CanWrite}
+use Rattle.deeds.specs.Reshape.{Ranges}
 use Rattle.deeds.specs.Deeds.{PlainDeed, MakesDir, Puts, Renames, Removes, RemovesDir, Reshapes, reshaped, Does, DoesAll, of_phase, in_order, AreApart}
 use Rattle.deeds.proofs.Again.{elsewhere, stays, not_named}
 use Rattle.pending_files.specs.Pending.{is_at, its_len, its_ranges, file_of, ranges_or_none, IsWaiting}
-use Rattle.pending_files.specs.Later.{CanReshape, IsReshaped, IsChangedTo}
+use Rattle.pending_files.specs.Later.{IsReshaped}
 use Rattle.pending_files.proofs.Files.{same_path, by_first, file_here, file_there, named_here, not_here, unnamed_none}
 
 -- ---- the order of doing

@@ -1,24 +1,24 @@
 -- What waits with a change more, done on a disk.
-use Rattle.std.proofs.Common.{◌≡◌, ◌≢◌, ◌⊎◌, ⊎_elim, ℕ, ◌+◌, ◌-◌, ◌≤◌, ◌<◌, max, min, List, [], ◌∷◌, ◌++◌, length, take, Option, Some, None, Bool, true, false, refl, sym, ap, subst, ◌∙◌, inl, inr, arith, length-take}
+use Rattle.std.proofs.Common.{◌≡◌, ◌≢◌, ℕ, ◌+◌, ◌≤◌, max, List, [], ◌∷◌, ◌++◌, length, take, Option, Some, None, Bool, true, false, refl, sym, ap, subst, ◌∙◌, inl, inr, arith, length-take}
 use Rattle.std.specs.List.{AllByRecursion}
 use Rattle.std.proofs.lemmas.Bool.{false≢true}
 use Rattle.std.proofs.lemmas.List.{take_all, take-take}
-use Rattle.outside.specs.Disk.{Disk, Path, Node, file, node_at}
+use Rattle.outside.specs.Disk.{Disk, Path, file, node_at}
 use Rattle.outside.specs.Changes.{overwritten, bytes_or_none}
 use Rattle.outside.proofs.Paths.{by_path}
 use Rattle.deeds.specs.Reshape.{Ranges, written, CanWrite, EndWithin}
 use Rattle.deeds.specs.Deeds.{PlainDeed, MakesDir, Puts, Renames, Removes, RemovesDir, Reshapes, reshaped, done_deed, Does, DoesAll, in_order, NotIn, names, Unnamed, AreApart}
 use Rattle.deeds.proofs.Again.{elsewhere, not_named}
 use Rattle.pending_files.specs.Pending.{is_at, its_len, its_ranges, file_of, without, ranges_or_none, ranges_of, cut_to, with_chunk, cut_in, put_in, IsPlace, IsWaiting, AreChunks, ArePending}
-use Rattle.pending_files.specs.Later.{CanReshape, IsReshaped, IsChangedTo, IsWhole}
-use Rattle.pending_files.proofs.Files.{same_path, by_first, file_here, file_there, without_here, without_there, named_here, not_here, unnamed_none, unnamed_without, each_without, ranges_are}
+use Rattle.pending_files.specs.Later.{CanReshape, IsChangedTo, IsWhole}
+use Rattle.pending_files.proofs.Files.{same_path, by_first, file_here, file_there, without_here, without_there, named_here, unnamed_without, each_without, ranges_are}
 use Rattle.pending_files.proofs.Doing.{order_is, later_file, later_other}
 use Rattle.pending_files.proofs.Ranges.{cut_chunks}
 use Rattle.pending_files.proofs.Written.{cut_written, with_written, put_bytes}
 
 -- ---- what waits for a file
 
-none_some : {A : Type 0} {x : A} → None ≡ Some x → ⊥
+pub none_some : {A : Type 0} {x : A} → None ≡ Some x → ⊥
 none_some e = cc
 
 at_other : (q path : Path) (x : PlainDeed) → q ≢ path → is_at path x ≡ true → is_at q x ≡ false
@@ -71,6 +71,10 @@ file_without q path (x ∷ xs) ne = by_first path x
     (λ there. ap (file_of q) (without_there path x xs there) ∙ by_first q x
     (λ is. file_here q x (without path xs) is ∙ sym (file_here q x xs is))
     (λ is. file_there q x (without path xs) is ∙ file_without q path xs ne ∙ sym (file_there q x xs is)))
+
+pub file_changed : (path : Path) (len : ℕ) (rs : Ranges) (ds : List PlainDeed) → ArePending ds → file_of path (without path ds ++ Reshapes path len rs ∷ []) ≡ Some (len, rs)
+file_changed path len rs ds are = file_behind path (without path ds) (Reshapes path len rs)
+    (none_unnamed path (without path ds) (each_without IsWaiting path ds are.each) (unnamed_without path ds are.each are.apart)) (at_its path len rs)
 
 -- ---- it can be done
 

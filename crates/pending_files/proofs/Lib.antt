@@ -5,3 +5,4 @@ pub mod Doing
 pub mod Batched
 pub mod Written
 pub mod Later
+pub mod RoomLeft

@@ -1,5 +1,5 @@
 -- Ranges that rise: cut to a length, and with a chunk put among them.
-use Rattle.std.proofs.Common.{◌≡◌, ◌⊎◌, ℕ, zero, suc, ◌+◌, ◌-◌, ◌*◌, ◌≤◌, ◌<◌, List, [], ◌∷◌, ◌++◌, length, take, drop, Bool, true, false, refl, sym, ap, subst, ◌∙◌, inl, inr, arith, add-one, length-take}
+use Rattle.std.proofs.Common.{◌≡◌, ℕ, zero, suc, ◌+◌, ◌-◌, ◌≤◌, ◌<◌, List, [], ◌∷◌, ◌++◌, length, take, drop, Bool, true, false, refl, sym, ap, subst, ◌∙◌, arith, length-take}
 use Rattle.std.specs.Prelude.{insert, remove, nat_lt, ◌==◌, if◌then◌else◌}
 use Rattle.std.proofs.lemmas.Bool.{lt-ltb, le-ltb, ltb-true, ltb-false, eq-eqb, eqb-true, false≢true}
 use Rattle.std.proofs.lemmas.List.{take_all}
@@ -166,3 +166,12 @@ cut_all (r ∷ rs) = ap (λ (b : Bool). Cut b 0 r (cut_to 0 rs)) (le-ltb r.0 0 (
 pub plain_none : (s : List Range) → plain_ranges s ≡ [] → s ≡ []
 plain_none [] none = refl
 plain_none (x ∷ s) none = absurd cc
+
+pub with_short : (at : ℕ) (bytes : List ℕ) (rs : Ranges) → length (with_chunk at bytes rs) ≤ suc (length rs)
+with_short at bytes [] = omega arith
+with_short at bytes (r ∷ rs) = step (with_short at bytes rs) (nat_lt r.0 at) (r.0 == at)
+  where
+    step : length (with_chunk at bytes rs) ≤ suc (length rs) → (below same : Bool) → length (With below same (at, bytes) r (with_chunk at bytes rs) rs) ≤ suc (suc (length rs))
+    step more true same = omega (arith, more)
+    step more false true = omega arith
+    step more false false = omega arith

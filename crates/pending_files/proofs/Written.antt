@@ -1,13 +1,12 @@
 -- The bytes of a file after its ranges, where these are cut or a chunk is put among them.
-use Rattle.std.proofs.Common.{◌≡◌, ◌⊎◌, ⊎_elim, ℕ, ◌+◌, ◌-◌, ◌≤◌, ◌<◌, max, min, List, [], ◌∷◌, ◌++◌, length, get_or, take, drop, Bool, true, false, refl, sym, ap, subst, ◌∙◌, inl, inr, arith, length-take}
-use Rattle.std.specs.Prelude.{nat_lt, ◌==◌}
-use Rattle.std.proofs.lemmas.Bool.{cases_lt, lt-ltb, le-ltb, ltb-true, ltb-false, eqb-true, eq-eqb, false≢true}
+use Rattle.std.proofs.Common.{◌≡◌, ⊎_elim, ℕ, ◌+◌, ◌-◌, ◌≤◌, ◌<◌, max, List, [], ◌∷◌, length, get_or, take, Bool, true, false, refl, sym, ap, subst, ◌∙◌, arith, length-take}
+use Rattle.std.specs.Prelude.{◌==◌}
+use Rattle.std.proofs.lemmas.Bool.{cases_lt, lt-ltb, le-ltb, eqb-true, eq-eqb}
 use Rattle.std.proofs.lemmas.List.{take_all, get_or-take, ext_get_or}
 use Rattle.outside.specs.Changes.{overwritten}
 use Rattle.deeds.specs.Reshape.{Ranges, written, CanWrite}
 use Rattle.pending_files.specs.Pending.{IsPlace, AreChunks, cut_to, with_chunk}
-use Rattle.pending_files.specs.Later.{IsWhole}
-use Rattle.pending_files.proofs.Ranges.{Cut, With, places_apart, cut_chunks}
+use Rattle.pending_files.proofs.Ranges.{Cut, With, places_apart}
 use Rattle.pending_files.proofs.Shown.{long_over, get_before, get_behind, get_inside}
 
 -- ---- fronts

@@ -1,5 +1,5 @@
 -- The deeds that wait as the code keeps them, with the room for those to come.
-use Rattle.std.specs.Prelude.{◌≡◌, ℕ, zero, suc, ◌+◌, ◌≤◌, ◌<◌, List, [], ◌∷◌, length, IsTrue, IsFalse, vec_len, vec_capacity}
+use Rattle.std.specs.Prelude.{◌≡◌, ℕ, zero, suc, ◌+◌, ◌≤◌, ◌<◌, List, [], ◌∷◌, IsTrue, IsFalse, vec_len, vec_capacity}
 use Rattle.outside.specs.Disk.{Path}
 use Rattle.deeds.specs.Reshape.{Ranges}
 use Rattle.std.specs.List.{AllByRecursion}

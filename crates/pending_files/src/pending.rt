@@ -86,7 +86,9 @@ impl Pending {
         requires place { IsPlace at }
         requires short { length sealed.now ≤ 32796 }
         requires within { at + length sealed.now ≤ size }
-        ensures { self.new ≡ put_in path.now size at sealed.now self.old }
+        ensures put { self.new ≡ put_in path.now size at sealed.now self.old }
+        ensures pending { ArePending self.new }
+        ensures room { (chunks : ℕ) → HasRoom self.old path.now (chunks + 1) → HasRoom self.new path.now chunks }
     {
         let mut ranges = take_ranges(&mut self.deeds, &mut self.lists, path);
         cut_ranges(&mut ranges, size, &mut self.buffers);
@@ -97,7 +99,9 @@ impl Pending {
     /// Cuts a file, which has `len` bytes from now on. It takes no memory.
     pub fn cut(&mut self, path: &VaultPath, len: u64)
         requires { HasRoom self.old path.now 0 }
-        ensures { self.new ≡ cut_in path.now len self.old }
+        ensures cut { self.new ≡ cut_in path.now len self.old }
+        ensures pending { ArePending self.new }
+        ensures room { (chunks : ℕ) → HasRoom self.old path.now chunks → HasRoom self.new path.now chunks }
     {
         let mut ranges = take_ranges(&mut self.deeds, &mut self.lists, path);
         cut_ranges(&mut ranges, len, &mut self.buffers);

@@ -1,4 +1,4 @@
-use Rattle.std.proofs.Common.{◌≡◌, ◌+◌, ℕ, drop}
+use Rattle.std.proofs.Common.{◌+◌, ℕ, drop}
 use Rattle.deeds.specs.Plain.{plain_ranges}
 use Rattle.pending_files.specs.Kept.{IsGap}
 use Rattle.pending_files.proofs.places.count_before.Given as goal

@@ -1,4 +1,4 @@
-use Rattle.std.proofs.Common.{◌≡◌, ◌+◌, ℕ, suc, Bool, true, false, Option, List, [], ◌∷◌, drop, length, refl, sym, subst, ap, ◌∙◌, arith}
+use Rattle.std.proofs.Common.{◌≡◌, ◌+◌, ℕ, suc, true, false, List, ◌∷◌, drop, refl, sym, subst, ap, ◌∙◌, arith}
 use Rattle.vault_path.specs.declared.path.VaultPath.{VaultPath}
 use Rattle.outside.specs.Disk.{Path}
 use Rattle.std.specs.declared.vec.Vec.{Vec}
@@ -7,11 +7,10 @@ use Rattle.deeds.specs.declared.writes.Range.{Range}
 use Rattle.deeds.specs.declared.deed.Deed.{Deed}
 use Rattle.deeds.specs.declared.deed.Deed.TheVariants.{MakeDir, Put, Rename, Remove, RemoveDir, Reshape}
 use Rattle.deeds.specs.Plain.{plain, plains}
-use Rattle.deeds.specs.Reshape.{Ranges}
 use Rattle.deeds.proofs.Doing.{split_at}
 use Rattle.pending_files.specs.Pending.{is_at, file_of}
 use Rattle.pending_files.specs.Kept.{IsIndexOf}
-use Rattle.pending_files.proofs.Files.{index_file, index_without, file_there}
+use Rattle.pending_files.proofs.Files.{file_there}
 use Rattle.pending_files.proofs.places.index_of.Goals as goal
 use Rattle.pending_files.proofs.places.index_of.Goals.{in-Reshape+else-eq, in_default}
 

@@ -2,7 +2,7 @@ use Rattle.std.proofs.Common.{◌≡◌, ◌+◌, ◌-◌, ℕ, List, ◌++◌, 
 use Rattle.std.proofs.lemmas.List.{drop-drop}
 use Rattle.outside.specs.Changes.{overwritten}
 use Rattle.pending_files.specs.Later.{Shows}
-use Rattle.pending_files.proofs.Shown.{laid, passed_by}
+use Rattle.pending_files.proofs.Shown.{laid}
 use Rattle.pending_files.proofs.reading.lay.Goals as goal
 
 pub returns-clause-shown : goal.returns-clause-shown

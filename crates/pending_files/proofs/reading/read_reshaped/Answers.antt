@@ -1,6 +1,5 @@
-use Rattle.std.proofs.Common.{◌≡◌, ◌++◌, ℕ, List, length, take, drop, Some, sym, ap, subst, ◌∙◌, arith, length-take}
+use Rattle.std.proofs.Common.{◌≡◌, ℕ, List, length, take, drop, sym, ap, subst, ◌∙◌, arith, length-take}
 use Rattle.std.proofs.lemmas.List.{take_at}
-use Rattle.outside.specs.Disk.{Disk, Node}
 use Rattle.outside.specs.Changes.{bytes_or_none}
 use Rattle.outside.specs.Images.{disk_in}
 use Rattle.deeds.specs.Reshape.{written}

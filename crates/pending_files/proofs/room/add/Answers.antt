@@ -1,6 +1,5 @@
-use Rattle.std.proofs.Common.{◌≡◌, Bool, List, ◌++◌, ◌∷◌, [], true, false, sym, ap, ◌∙◌}
+use Rattle.std.proofs.Common.{◌≡◌, Bool, ◌++◌, ◌∷◌, [], true, ap, ◌∙◌}
 use Rattle.std.specs.Prelude.{is_ok, not, if◌then◌else◌}
-use Rattle.deeds.specs.declared.deed.Deed.{Deed}
 use Rattle.deeds.specs.Plain.{plains}
 use Rattle.deeds.proofs.Phases.{plains_pushed}
 use Rattle.pending_files.proofs.room.add.Goals as goal

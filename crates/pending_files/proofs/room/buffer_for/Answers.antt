@@ -1,7 +1,6 @@
-use Rattle.std.proofs.Common.{◌≡◌, ◌+◌, ◌≤◌, ℕ, suc, List, [], ◌∷◌, drop, length, refl, sym, subst, ap, ◌∙◌, arith}
+use Rattle.std.proofs.Common.{◌≡◌, ◌+◌, ◌∷◌, drop, sym, subst, ap, ◌∙◌, arith}
 use Rattle.std.specs.Prelude.{insert}
 use Rattle.std.proofs.lemmas.List.{drop_all}
-use Rattle.deeds.specs.declared.writes.Range.{Range}
 use Rattle.deeds.specs.Reshape.{Ranges}
 use Rattle.deeds.specs.Plain.{plain_ranges}
 use Rattle.deeds.proofs.Doing.{split_at}

@@ -1,6 +1,5 @@
-use Rattle.std.proofs.Common.{◌≡◌, ◌+◌, ◌-◌, ℕ, List, [], ◌∷◌, ◌++◌, take, sym, ap, subst, ◌∙◌, arith}
+use Rattle.std.proofs.Common.{◌≡◌, ℕ, List, [], ◌∷◌, ◌++◌, sym, ap, subst, ◌∙◌, arith}
 use Rattle.std.specs.List.{AllByRecursion}
-use Rattle.deeds.specs.Reshape.{Ranges}
 use Rattle.deeds.specs.Plain.{plain_ranges}
 use Rattle.pending_files.specs.Pending.{AreChunks, cut_to}
 use Rattle.pending_files.specs.Kept.{InBuffer}

@@ -1,4 +1,4 @@
-use Rattle.std.proofs.Common.{◌≡◌, ◌+◌, ◌≤◌, ℕ}
+use Rattle.std.proofs.Common.{◌≡◌, ◌+◌, ℕ}
 use Rattle.std.specs.Prelude.{vec_len}
 use Rattle.deeds.specs.Plain.{plain_ranges}
 use Rattle.pending_files.specs.Pending.{cut_to, AreChunks}

@@ -1,4 +1,4 @@
-use Rattle.std.proofs.Common.{◌≡◌, List, [], length, sym, ap, ◌∙◌, arith}
+use Rattle.std.proofs.Common.{length, ap, ◌∙◌, arith}
 use Rattle.deeds.specs.Plain.{plain_ranges}
 use Rattle.pending_files.proofs.Ranges.{plain_long, plain_none, cut_all}
 use Rattle.pending_files.proofs.room.forget.Goals as goal

@@ -1,7 +1,6 @@
-use Rattle.std.proofs.Common.{◌≡◌, ◌+◌, ℕ, suc, Option, None, List, [], ◌∷◌, drop, length, refl, sym, subst, ap, ◌∙◌, arith}
+use Rattle.std.proofs.Common.{◌≡◌, ◌+◌, None, List, ◌∷◌, drop, sym, subst, ap, ◌∙◌, arith}
 use Rattle.std.specs.List.{AllByRecursion}
 use Rattle.deeds.specs.declared.deed.Deed.{Deed}
-use Rattle.deeds.specs.declared.writes.Range.{Range}
 use Rattle.deeds.specs.Plain.{plain, plains, plain_ranges}
 use Rattle.deeds.proofs.Doing.{split_at}
 use Rattle.deeds.proofs.Phases.{plains_next, plains_long}

@@ -1,7 +1,5 @@
-use Rattle.std.proofs.Common.{◌≡◌, ◌+◌, List, ◌++◌, ◌∷◌, [], length, sym, ap, subst, ◌∙◌, arith}
+use Rattle.std.proofs.Common.{ap, subst, ◌∙◌, arith}
 use Rattle.std.specs.List.{AllByRecursion}
-use Rattle.deeds.specs.declared.deed.Deed.{Deed}
-use Rattle.deeds.specs.Deeds.{PlainDeed}
 use Rattle.deeds.specs.Plain.{plain, plains}
 use Rattle.deeds.proofs.Phases.{plains_pushed}
 use Rattle.pending_files.specs.Pending.{IsWaiting, chunk_count}

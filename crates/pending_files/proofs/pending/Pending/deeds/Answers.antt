@@ -1,5 +1,5 @@
-use Rattle.std.proofs.Common.{◌≡◌, sym, ap, subst, ◌∙◌}
-use Rattle.deeds.specs.Deeds.{PlainDeed, in_order}
+use Rattle.std.proofs.Common.{sym, ap, subst, ◌∙◌}
+use Rattle.deeds.specs.Deeds.{in_order}
 use Rattle.deeds.specs.Grammar.{IsBatch}
 use Rattle.deeds.specs.Repeatable.{IsRepeatable}
 use Rattle.pending_files.proofs.Batched.{is_batch, is_repeatable}

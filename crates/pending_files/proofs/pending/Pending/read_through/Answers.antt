@@ -1,9 +1,8 @@
-use Rattle.std.proofs.Common.{◌≡◌, ◌≤◌, ◌-◌, ℕ, min, List, length, take, drop, Some, None, Option, sym, ap, subst, ◌∙◌, arith, length-take}
-use Rattle.outside.specs.Disk.{Disk, node_at}
+use Rattle.std.proofs.Common.{◌≡◌, ◌-◌, ℕ, min, List, length, Some, None, sym, ap, subst, ◌∙◌, arith, length-take}
 use Rattle.outside.specs.Images.{disk_in}
 use Rattle.deeds.specs.declared.deed.Deed.{Deed}
 use Rattle.deeds.specs.Deeds.{PlainDeed, DoesAll, in_order, reshaped}
-use Rattle.deeds.specs.Reshape.{Ranges, written}
+use Rattle.deeds.specs.Reshape.{written}
 use Rattle.deeds.specs.Plain.{plains, plain_ranges}
 use Rattle.pending_files.specs.Pending.{file_of}
 use Rattle.pending_files.proofs.Shown.{told_more, ok_more, unfit_more}
