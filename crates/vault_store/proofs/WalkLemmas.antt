@@ -110,7 +110,3 @@ goes_further tree from names at N k bytes name rest qids next node q below room 
     (goes (qid_at tree node ∷ more) end
     (subst (λ (ns : List (List ℕ)). IsWay tree at ns (qid_at tree node ∷ more) end) (sym (names_left N k bytes name rest below are first behind))
     (way_more tree at node name (names_in (N - (k + 1)) rest) more end (subst (λ (r : Result ℕ Refusal). Next tree at name r) is led) way)))
-
-pub AreNames-none : AreNames 0 []
-unfolding names_in
-AreNames-none = record { spelled = refl; count = refl; fit = tt }

@@ -5,10 +5,10 @@ use Rattle.outside.specs.Calls.{Told, Rose}
 use Rattle.siv_mode.specs.Keys.{KeyPair}
 use Rattle.tree_model.specs.declared.refusal.Refusal.{Refusal}
 use Rattle.tree_model.specs.declared.refusal.Refusal.TheVariants as refusals
-use Rattle.tree_model.specs.Rows.{Content, Row, Rows}
+use Rattle.tree_model.specs.Rows.{Content, Rows}
 use Rattle.tree_model.specs.Asked.{PlainRequest, PlainReply, refused, bytes_put, is_exhausted, IsReplyTo, KeepsRest}
 use Rattle.tree_model.specs.Step.{Answer, step, refuses, early_refusal, IsReading}
-use Rattle.tree_history.specs.NotBuilt.{not_built, withheld}
+use Rattle.tree_history.specs.NotBuilt.{withheld}
 use Rattle.tree_history.specs.History.{MayLackMemory}
 use Rattle.clear_tree.specs.Kept.{KeptTree, AreContents, tree_rows}
 use Rattle.directory_scan.specs.Format.{sealing_of}
@@ -55,10 +55,6 @@ is_own (refusals.Exhausted ticket) = false
 is_own refusal = true
 
 -- ---- answers
-
--- a request that isn't built yet
-abbrev pub IsNotBuilt : PlainRequest → Type 0
-IsNotBuilt request = (row : Row) → not_built row request ≡ Some refusals.NotPermitted
 
 -- the step's answer, or a fault where no refusal comes before the work, or want of memory where the node is there
 abbrev pub MayAnswer : Rows → PlainRequest → ℕ → Answer → Type 0

@@ -83,7 +83,7 @@ impl<D: Folder> Store<D> {
     }
 
     /// Answers a request that is made at a second since 1970-01-01: one entry of the history, of whoever has this random
-    /// source. Bytes of the reply are put into `buffer`, from its front on. `Read` and `Sync` take no memory.
+    /// source. Bytes of the reply are put into `buffer`, from its front on. Only `Walk` takes memory.
     ///
     /// The requests that change nothing are answered as the tree's step does; the others aren't built yet, and are refused as
     /// `tree_history`'s `not_built` says.
@@ -123,6 +123,7 @@ impl<D: Folder> Store<D> {
         ensures changes { D.changes self.new.folder ≡ D.changes self.old.folder }
         ensures later { D.faults self.old.folder ≤ D.faults self.new.folder }
     {
+        has_sizes(&self.keys, &self.tree);
         match request {
             Request::Look { node } => look(&self.tree, *node),
             Request::Walk { node, names } => walk(self.alloc, &self.tree, *node, names),
@@ -143,23 +144,17 @@ impl<D: Folder> Store<D> {
                     buffer,
                 )
             }
-            Request::List { node, after, count } => {
-                has_sizes(&self.keys, &self.tree);
-                list(
-                    &self.tree,
-                    *node,
-                    bytes_of(*after),
-                    *count,
-                    self.opened_at,
-                    buffer,
-                )
-            }
+            Request::List { node, after, count } => list(
+                &self.tree,
+                *node,
+                bytes_of(*after),
+                *count,
+                self.opened_at,
+                buffer,
+            ),
             Request::Write { node, .. } => not_built(&self.tree, *node),
             Request::Remove { node } => not_built(&self.tree, *node),
-            Request::StatOf { node } => {
-                has_sizes(&self.keys, &self.tree);
-                stat_of(&self.tree, *node, self.opened_at, buffer)
-            }
+            Request::StatOf { node } => stat_of(&self.tree, *node, self.opened_at, buffer),
             Request::Change { node, .. } => not_built(&self.tree, *node),
             Request::Sync { node } => sync(&self.tree, *node),
         }

@@ -79,7 +79,7 @@ pub returns-in-StatOf-clause-replied : goal.returns-in-StatOf-clause-replied
 returns-in-StatOf-clause-replied g c =
     replied_sized (disk_in (g.D.Reads.log c.args.self.now.folder)) c.args.self.now.keys c.args.self.now.tree c.args.self.now.opened_at (plain_request c.args.request.now) (stat_of c.in-StatOf.node)
     (g.D.Reads.faults c.args.self.now.folder) (plain_reply c.stat_of.result) c.args.buffer.now c.stat_of.new.buffer (ap plain_request c.in-StatOf.is) (λ row. refl) tt
-    c.has_sizes-in-StatOf.ensures c.stat_of.ensures.answer c.stat_of.ensures.form c.stat_of.ensures.rest c.stat_of.ensures.own
+    c.has_sizes.ensures c.stat_of.ensures.answer c.stat_of.ensures.form c.stat_of.ensures.rest c.stat_of.ensures.own
 
 pub returns-in-StatOf-clause-count : goal.returns-in-StatOf-clause-count
 returns-in-StatOf-clause-count g c =
