@@ -2,7 +2,7 @@ ghost use Rattle.std.specs.Prelude.{◌≡◌};
 ghost use Rattle.vault_causes.specs.Causes.{of_make, of_refusal, of_secret, of_unlock, status_of, text_of};
 ghost use Rattle.vault_causes.specs.Lines.{line_text};
 
-use crate::key_files::key_files_line;
+use crate::file_lines::key_files_line;
 use crate::line::{Line, whole};
 use itoa::Buffer;
 use vault_keys::UnlockErr;

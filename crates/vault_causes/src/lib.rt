@@ -8,7 +8,7 @@
 #![tactic(auto)]
 
 mod cause;
-mod key_files;
+mod file_lines;
 mod line;
 
 pub use cause::Cause;
