@@ -1,10 +1,22 @@
 -- The row of a node.
-use Rattle.std.proofs.Common.{◌≡◌, ◌≢◌, ℕ, zero, suc, ◌+◌, ◌==◌, List, [], ◌∷◌, slice_get, Some, None, refl, ap, ◌∙◌, arith, eq-eqb}
+use Rattle.std.proofs.Common.{◌≡◌, ◌≢◌, ℕ, zero, suc, ◌+◌, ◌==◌, List, [], ◌∷◌, slice_get, Option, Some, None, IfSome, IfNone, is_some, true, false, refl, ap, ◌∙◌, arith, eq-eqb}
 use Rattle.std.specs.List.{find}
 use Rattle.std.specs.Option.{option_map}
 use Rattle.std.proofs.lemmas.Bool.{ne_eqb, cond-true, cond-false}
 use Rattle.tree_model.specs.Rows.{Content, Row, row_of}
 use Rattle.clear_tree.specs.Kept.{KeptNode, KeptTree, node_of, row_of as kept_row, rows_from, tree_rows}
+
+pub none_of : {A : Type 0} (o : Option A) → ((x : A) → o ≡ Some x → ⊥) → o ≡ None
+none_of None not = refl
+none_of (Some x) not = absurd (not x refl)
+
+pub some_there : {A : Type 0} (o : Option A) (P : A → Type 0) → IfSome o P → is_some o ≡ true → (x : A) × P x
+some_there None P h is = absurd cc
+some_there (Some x) P h is = (x, h)
+
+pub none_there : {A : Type 0} (o : Option A) (P : Type 0) → IfNone o P → is_some o ≡ false → P
+none_there None P h is = h
+none_there (Some x) P h is = absurd cc
 
 -- the row of a number among rows from a number on
 module _ (contents : ℕ → Content) (at : ℕ) where

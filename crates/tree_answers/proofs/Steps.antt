@@ -13,7 +13,7 @@ use Rattle.clear_tree.specs.Kept.{What, KeptFile, KeptLink, KeptDir, KeptBad, Ke
 use Rattle.tree_answers.specs.Answers.{IsStepOf, open_fault, qid_in}
 use Rattle.tree_answers.proofs.Rows.{row_there, row_absent}
 
-answer_of : {a b : Stepped} → a ≡ b → a.answer ≡ b.answer
+pub answer_of : {a b : Stepped} → a ≡ b → a.answer ≡ b.answer
 answer_of e = ap (λ (s : Stepped). s.answer) e
 
 pub removed : (tree : KeptTree) (request : PlainRequest) → node_in tree (node_of request) ≡ None → IsStepOf tree request (refuses refusals.Removed)

@@ -52,7 +52,7 @@ pub fn sync(tree: &Tree, number: u64) -> Reply
 }
 
 // The qid of a node.
-fn qid(number: u64, node: &Node) -> Qid
+pub(crate) fn qid(number: u64, node: &Node) -> Qid
     ensures { result ≡ qid_in number node.now }
 {
     let kind = match node.what() {

@@ -2,6 +2,5 @@ pub mod RowLemmas
 pub mod StepLemmas
 pub mod WalkLemmas
 pub mod ReadLemmas
-pub mod SliceLemmas
-pub mod AnswerLemmas
+pub mod SizeLemmas
 pub mod StoreLemmas

@@ -1,210 +1,170 @@
--- The rows of a loaded tree, by their numbers and by their names.
-use Rattle.std.proofs.Common.{◌⊎◌, get_or, ◌≡◌, ◌≢◌, ℕ, zero, suc, ◌+◌, ◌≤◌, ◌<◌, Bool, true, false, cond, not, ◌&&◌, eqb, List, [], ◌∷◌, length, map, Option, Some, None, IfSome, IsSomeAnd, slice_get, refl, sym, ap, subst, ◌∙◌, arith, eq-eqb}
-use Rattle.std.specs.Prelude.{T}
-use Rattle.std.specs.FinMap as finmap
-use Rattle.std.specs.FinMap.{is_sorted}
-use Rattle.std.specs.FinMap.Entries.{below_all}
+-- The rows of a tree in memory, by their numbers and by their names.
+use Rattle.std.proofs.Common.{◌≡◌, ◌⊎◌, ℕ, zero, suc, ◌+◌, Bool, true, false, not, ◌&&◌, eqb, List, [], ◌∷◌, slice_get, Option, Some, None, IsSome, refl, sym, ap, subst, ◌∙◌, arith, eq-eqb, inl, inr}
 use Rattle.std.specs.List.{find}
-use Rattle.std.specs.Option.{option_map}
+use Rattle.std.specs.Option.{option_map, option_and_then}
 use Rattle.std.specs.Str.{bytes_eq}
-use Rattle.std.specs.Ordering.{nat_cmp, is_lt, is_eq, ordering_reverse}
-use Rattle.std.specs.declared.cmp.Ordering.{Ordering}
-use Rattle.std.specs.declared.cmp.Ordering.TheVariants.{Less, Equal, Greater}
-use Rattle.std.specs.Cmp.Lexicographic.{slice_cmp, nat_list_cmp_total}
-use Rattle.std.proofs.lemmas.List.{length-map}
-use Rattle.std.proofs.lemmas.Bool.{ne_eqb, cases_Bool, and_right}
-use Rattle.std.proofs.lemmas.Cmp.{tied_itself}
-use Rattle.std.proofs.lemmas.Option.{same_Some, slice_get-map, slice_get-get_or, slice_get_past}
+use Rattle.std.proofs.lemmas.Bool.{ne_eqb, eqb-true, cond-true, cond-false, cases_Bool}
+use Rattle.std.proofs.lemmas.Option.{same_Some}
 use Rattle.std.proofs.lemmas.Slice.Eq.{bytes_eq-Decides}
-use Rattle.std.proofs.Common.{inl, inr}
-use Rattle.siv_mode.specs.Keys.{KeyPair}
-use Rattle.tree_model.specs.Rows.{Row, Rows, row_of, child_of}
-use Rattle.vault_layout.specs.Clear.{Files, root_row, file_row, file_rows, rows_of}
-use Rattle.vault_layout.specs.Loaded.{LoadedTree, loaded_file, file_at}
+use Rattle.tree_model.specs.Rows.{Content, Row, row_of, child_of}
+use Rattle.clear_tree.specs.Kept.{What, KeptFile, KeptLink, KeptDir, KeptBad, KeptNode, KeptTree, IsTree, IsNamed, node_of, row_of as kept_row, rows_from, tree_rows, parent_folder, folder_in, path_of, path_in, file_path, size_in}
+use Rattle.clear_tree.specs.Places.{host_inner, text_symlink}
+use Rattle.tree_answers.proofs.Rows.{row_is, row_there}
 
-abbrev Entries : Type 0
-Entries = List (List ℕ × List ℕ)
+and_true : (a b : Bool) → (a && b) ≡ true → (a ≡ true) × (b ≡ true)
+and_true true b e = (refl, e)
+and_true false b e = absurd cc
 
-abbrev Order : List ℕ → List ℕ → Ordering
-Order = slice_cmp nat_cmp
+both_true : (a b : Bool) → a ≡ true → b ≡ true → (a && b) ≡ true
+both_true true b e f = f
+both_true false b e f = absurd cc
 
-at_true : {A : Type 0} (b : Bool) (x y : A) → b ≡ true → cond b x y ≡ x
-at_true b x y e = ap (λ (t : Bool). cond t x y) e
+not_true : (b : Bool) → not b ≡ true → b ≡ false
+not_true true e = absurd cc
+not_true false e = refl
 
-at_false : {A : Type 0} (b : Bool) (x y : A) → b ≡ false → cond b x y ≡ y
-at_false b x y e = ap (λ (t : Bool). cond t x y) e
+not_false : (b : Bool) → b ≡ false → not b ≡ true
+not_false true e = absurd cc
+not_false false e = refl
 
-both_first : (a b : Bool) → T (a && b) → T a
-both_first true b h = tt
-both_first false b h = h
+-- ---- by numbers
 
-both_second : (a b : Bool) → T (a && b) → T b
-both_second true b h = h
-both_second false b h = absurd h
+node_by : (contents : ℕ → Content) (at n : ℕ) (o : Option KeptNode) (row : Row) → option_map (kept_row contents at n) o ≡ Some row → (node : KeptNode) × (o ≡ Some node) × (kept_row contents at n node ≡ row)
+node_by contents at n None row e = absurd cc
+node_by contents at n (Some node) row e = (node, refl, same_Some (kept_row contents at n node) row e)
 
-less : (o : Ordering) → T (is_lt o) → o ≡ Less
-less Less h = refl
-less Equal h = absurd h
-less Greater h = absurd h
+-- the row of a number is that of its node
+pub row_node : (contents : ℕ → Content) (at : ℕ) (tree : KeptTree) (n : ℕ) (row : Row) → row_of (tree_rows contents at tree) n ≡ Some row
+    → (node : KeptNode) × (node_of tree n ≡ Some node) × (kept_row contents at n node ≡ row)
+row_node contents at tree n row is = node_by contents at n (node_of tree n) row (sym (row_is contents at tree n) ∙ is)
 
-below_at : (x : List ℕ) (files : Entries) (i : ℕ) (f : List ℕ × List ℕ) → T (below_all Order x files) → slice_get files i ≡ Some f → Order x f.0 ≡ Less
-below_at x [] i f below e = absurd cc
-below_at x (g ∷ files) zero f below e =
-    ap (λ (h : List ℕ × List ℕ). Order x h.0) (sym (same_Some g f e)) ∙ less (Order x g.0) (both_first (is_lt (Order x g.0)) (below_all Order x files) below)
-below_at x (g ∷ files) (suc i) f below e = below_at x files i f (both_second (is_lt (Order x g.0)) (below_all Order x files) below) e
+-- ---- by names
 
-module _ (keys : KeyPair) (now : ℕ) where
-  -- ---- by numbers
+module _ (contents : ℕ → Content) (at : ℕ) (test : Row → Bool) where
+  -- the first row among rows from a number on that meets a test
+  record IsFirst (from : ℕ) (nodes : List KeptNode) : Type 0 where
+    index : ℕ
+    number : ℕ
+    node : KeptNode
+    place : number ≡ from + index
+    there : slice_get nodes index ≡ Some node
+    meets : test (kept_row contents at number node) ≡ true
+    found : find test (rows_from contents at from nodes) ≡ Some (kept_row contents at number node)
 
-  numbered : (files : Entries) (k i n : ℕ) → n ≡ k + i
-      → find (λ row. eqb row.number n) (file_rows keys now k files) ≡ option_map (λ f. file_row keys now n f.0 f.1) (slice_get files i)
-  numbered [] k i n e = refl
-  numbered (f ∷ files) k zero n e =
-      let same : k ≡ n = omega arith in
-      at_true (eqb k n) (Some (file_row keys now k f.0 f.1)) (find (λ row. eqb row.number n) (file_rows keys now (suc k) files)) (eq-eqb k n same)
-      ∙ ap (λ (m : ℕ). Some (file_row keys now m f.0 f.1)) same
-  numbered (f ∷ files) k (suc i) n e =
-      at_false (eqb k n) (Some (file_row keys now k f.0 f.1)) (find (λ row. eqb row.number n) (file_rows keys now (suc k) files)) (ne_eqb k n (λ same. omega arith))
-      ∙ numbered files (suc k) i n (omega arith)
+  -- no row among them does
+  record HasNone (from : ℕ) (nodes : List KeptNode) : Type 0 where
+    none : find test (rows_from contents at from nodes) ≡ None
+    each : (index number : ℕ) (node : KeptNode) → number ≡ from + index → slice_get nodes index ≡ Some node → test (kept_row contents at number node) ≡ false
 
-  -- ---- by names
+  each_more : (from : ℕ) (node : KeptNode) (nodes : List KeptNode) → test (kept_row contents at from node) ≡ false
+      → ((index number : ℕ) (node : KeptNode) → number ≡ suc from + index → slice_get nodes index ≡ Some node → test (kept_row contents at number node) ≡ false)
+      → (index number : ℕ) (other : KeptNode) → number ≡ from + index → slice_get (node ∷ nodes) index ≡ Some other → test (kept_row contents at number other) ≡ false
+  each_more from node nodes out each zero number other place there =
+      let here : from ≡ number = omega arith in
+      let same : node ≡ other = same_Some node other there in
+      subst (λ (n : ℕ). test (kept_row contents at n other) ≡ false) here (subst (λ (o : KeptNode). test (kept_row contents at from o) ≡ false) same out)
+  each_more from node nodes out each (suc index) number other place there = each index number other (omega arith) there
 
-  -- the row of a file that has this name
-  abbrev has_name : List ℕ → Row → Bool
-  has_name name row = eqb row.parent 0 && bytes_eq row.name name && not (eqb row.number 0)
-
-  named_test : (k : ℕ) (f : List ℕ × List ℕ) (name : List ℕ) (b : Bool) → 0 < k → bytes_eq f.0 name ≡ b → has_name name (file_row keys now k f.0 f.1) ≡ b
-  named_test k f name b some e =
-      let number : eqb k 0 ≡ false = ne_eqb k 0 (λ same. omega arith) in grind (arith, number, e)
-
-  other_name : (x name : List ℕ) (f : List ℕ × List ℕ) → Order x f.0 ≡ Less → f.0 ≡ name → bytes_eq x name ≡ false
-  other_name x name f less is = elim (cases_Bool (bytes_eq x name)) [
-    | inl same ↦
-        let here : x ≡ f.0 = (bytes_eq-Decides x name).0 same ∙ sym is in
-        let tied : Order x f.0 ≡ Equal = ap (Order x) (sym here) ∙ tied_itself nat_list_cmp_total x in
-        absurd (cc (tied, less))
-    | inr other ↦ other
+  first_row : (from : ℕ) (nodes : List KeptNode) → IsFirst from nodes ⊎ HasNone from nodes
+  first_row from [] = inr (record { none = refl; each = λ index number node place there. absurd cc })
+  first_row from (node ∷ nodes) = elim (cases_Bool (test (kept_row contents at from node))) [
+    | inl meets ↦ inl (record {
+      index = 0;
+      number = from;
+      node = node;
+      place = omega arith;
+      there = refl;
+      meets = meets;
+      found = cond-true (test (kept_row contents at from node)) _ _ meets;
+    })
+    | inr out ↦ elim (first_row (suc from) nodes) [
+      | inl first ↦ inl (record {
+        index = suc first.index;
+        number = first.number;
+        node = first.node;
+        place = omega (arith, first.place);
+        there = first.there;
+        meets = first.meets;
+        found = cond-false (test (kept_row contents at from node)) _ _ out ∙ first.found;
+      })
+      | inr none ↦ inr (record {
+        none = cond-false (test (kept_row contents at from node)) _ _ out ∙ none.none;
+        each = each_more from node nodes out none.each;
+      })
+    ]
   ]
 
-  named : (files : Entries) (k i n : ℕ) (name : List ℕ) (f : List ℕ × List ℕ) → T (is_sorted Order files) → 0 < k → n ≡ k + i → slice_get files i ≡ Some f → f.0 ≡ name
-      → find (has_name name) (file_rows keys now k files) ≡ Some (file_row keys now n f.0 f.1)
-  named [] k i n name f sorted some e at is = absurd cc
-  named (g ∷ files) k zero n name f sorted some e at is =
-      let here : g ≡ f = same_Some g f at in
-      let same : k ≡ n = omega arith in
-      at_true (has_name name (file_row keys now k g.0 g.1)) (Some (file_row keys now k g.0 g.1)) (find (has_name name) (file_rows keys now (suc k) files))
-      (named_test k g name true some ((bytes_eq-Decides g.0 name).1 (ap (λ (h : List ℕ × List ℕ). h.0) here ∙ is)))
-      ∙ ap (λ (m : ℕ). Some (file_row keys now m g.0 g.1)) same
-      ∙ ap (λ (h : List ℕ × List ℕ). Some (file_row keys now n h.0 h.1)) here
-  named (g ∷ files) k (suc i) n name f sorted some e at is =
-      at_false (has_name name (file_row keys now k g.0 g.1)) (Some (file_row keys now k g.0 g.1)) (find (has_name name) (file_rows keys now (suc k) files))
-      (named_test k g name false some (other_name g.0 name f (below_at g.0 files i f (both_first (below_all Order g.0 files) (is_sorted Order files) sorted) at) is))
-      ∙ named files (suc k) i n name f (both_second (below_all Order g.0 files) (is_sorted Order files) sorted) (omega arith) (omega arith) at is
+module _ (contents : ℕ → Content) (at : ℕ) (tree : KeptTree) (parent : ℕ) (name : List ℕ) where
+  abbrev is_named : Row → Bool
+  is_named row = eqb row.parent parent && bytes_eq row.name name && not (eqb row.number 0)
 
-  unnamed : (files : Entries) (k : ℕ) (name : List ℕ) → 0 < k → ((i : ℕ) → IfSome (slice_get files i) (λ f. f.0 ≢ name)) → find (has_name name) (file_rows keys now k files) ≡ None
-  unnamed [] k name some none = refl
-  unnamed (g ∷ files) k name some none =
-      at_false (has_name name (file_row keys now k g.0 g.1)) (Some (file_row keys now k g.0 g.1)) (find (has_name name) (file_rows keys now (suc k) files))
-      (named_test k g name false some (elim (cases_Bool (bytes_eq g.0 name)) [
-        | inl same ↦ absurd (none 0 ((bytes_eq-Decides g.0 name).0 same))
-        | inr other ↦ other
-      ]))
-      ∙ unnamed files (suc k) name (omega arith) (λ i. none (suc i))
+  named_meets : (number : ℕ) (is : IsNamed tree parent name number) → is_named (kept_row contents at number is.node) ≡ true
+  named_meets number is =
+      both_true (eqb is.node.parent parent && bytes_eq is.node.name name) (not (eqb number 0))
+      (both_true (eqb is.node.parent parent) (bytes_eq is.node.name name) (eq-eqb is.node.parent parent is.child.inside) ((bytes_eq-Decides is.node.name name).1 is.named))
+      (not_false (eqb number 0) (ne_eqb number 0 is.child.below))
 
--- ---- maps
+  meets_named : (number : ℕ) (node : KeptNode) → node_of tree number ≡ Some node → is_named (kept_row contents at number node) ≡ true → IsNamed tree parent name number
+  meets_named number node there meets =
+      let both = and_true (eqb node.parent parent && bytes_eq node.name name) (not (eqb number 0)) meets in
+      let place = and_true (eqb node.parent parent) (bytes_eq node.name name) both.0 in
+      let other : eqb number 0 ≡ false = not_true (eqb number 0) both.1 in record {
+        node = node;
+        child = record {
+          there = there;
+          below = λ root. let same : eqb number 0 ≡ true = eq-eqb number 0 root in absurd (cc (same, other));
+          inside = eqb-true node.parent parent place.0;
+        };
+        named = (bytes_eq-Decides node.name name).0 place.1;
+      }
 
--- a map has what stands among its entries
-found_at : (es : Entries) (i : ℕ) (f : List ℕ × List ℕ) → T (is_sorted Order es) → slice_get es i ≡ Some f → finmap.find Order f.0 es ≡ Some f.1
-found_at [] i f sorted at = absurd cc
-found_at (g ∷ es) zero f sorted at =
-    let here : g ≡ f = same_Some g f at in
-    at_true (is_eq (Order f.0 g.0)) (Some g.1) (finmap.find Order f.0 es) (ap (λ (h : List ℕ × List ℕ). is_eq (Order f.0 h.0)) here ∙ ap is_eq (tied_itself nat_list_cmp_total f.0))
-    ∙ ap (λ (h : List ℕ × List ℕ). Some h.1) here
-found_at (g ∷ es) (suc i) f sorted at =
-    let before : Order g.0 f.0 ≡ Less = below_at g.0 es i f (both_first (below_all Order g.0 es) (is_sorted Order es) sorted) at in
-    let behind : Order f.0 g.0 ≡ Greater = nat_list_cmp_total.antisymm f.0 g.0 ∙ ap ordering_reverse before in
-    at_false (is_eq (Order f.0 g.0)) (Some g.1) (finmap.find Order f.0 es) (ap is_eq behind) ∙ found_at es i f (both_second (below_all Order g.0 es) (is_sorted Order es) sorted) at
+  -- the node of a name is the child of that name
+  pub child_found : IsTree tree → (number : ℕ) → IsNamed tree parent name number
+      → (row : Row) × (row_of (tree_rows contents at tree) number ≡ Some row) × (child_of (tree_rows contents at tree) parent name ≡ Some row)
+  child_found good number is = elim (first_row contents at is_named 0 tree.nodes) [
+    | inl first ↦
+        let there : node_of tree first.number ≡ Some first.node = ap (slice_get tree.nodes) (omega (arith, first.place)) ∙ first.there in
+        let same : first.number ≡ number = good.names parent name first.number number (meets_named first.number first.node there first.meets) is in (
+          kept_row contents at first.number first.node,
+          subst (λ (n : ℕ). row_of (tree_rows contents at tree) n ≡ Some (kept_row contents at first.number first.node)) same (row_there contents at tree first.number first.node there),
+          first.found,
+        )
+    | inr none ↦
+        let other : is_named (kept_row contents at number is.node) ≡ false = none.each number number is.node (omega arith) is.child.there in
+        absurd (cc (named_meets number is, other))
+  ]
 
-pub get_at : (files : Files) (i : ℕ) (f : List ℕ × List ℕ) → slice_get (finmap.entries files) i ≡ Some f → finmap.get files f.0 ≡ Some f.1
-get_at files i f at = finmap.get-entries files f.0 ∙ found_at (finmap.entries files) i f (finmap.entries_sorted files) at
+  -- where no node has the name no child has
+  pub child_absent : ((number : ℕ) → IsNamed tree parent name number → ⊥) → child_of (tree_rows contents at tree) parent name ≡ None
+  child_absent absent = elim (first_row contents at is_named 0 tree.nodes) [
+    | inl first ↦
+        let there : node_of tree first.number ≡ Some first.node = ap (slice_get tree.nodes) (omega (arith, first.place)) ∙ first.there in
+        absurd (absent first.number (meets_named first.number first.node there first.meets))
+    | inr none ↦ none.none
+  ]
 
--- ---- the rows of a loaded tree
+-- ---- parents
 
-some_of : {X Y : Type 0} (g : X → Y) (o : Option X) (P : Y → Type 0) → IsSomeAnd (option_map g o) P → (x : X) × (o ≡ Some x) × P (g x)
-some_of g None P h = absurd h
-some_of g (Some x) P h = (x, refl, h)
+some_of : {A B : Type 0} (f : A → Option B) (o : Option A) → IsSome (option_and_then f o) → (x : A) × (o ≡ Some x)
+some_of f None some = absurd cc
+some_of f (Some x) some = (x, refl)
 
-no_some_of : {X Y : Type 0} (g : X → Y) (o : Option X) (P : Y → Type 0) → IfSome (option_map g o) P → IfSome o (λ x. P (g x))
-no_some_of g None P h = tt
-no_some_of g (Some x) P h = h
+-- the parent of a node is there
+pub parent_there : (tree : KeptTree) (number : ℕ) (node : KeptNode) → IsTree tree → node_of tree number ≡ Some node → (parent : KeptNode) × (node_of tree node.parent ≡ Some parent)
+parent_there tree number node good there = some_of (λ (parent : KeptNode). folder_in parent.what) (node_of tree node.parent) (good.folders number node there)
 
--- the row of a file, and what of it is known
-pub record IsFileRow (keys : KeyPair) (now n : ℕ) (files : Entries) (row : Row) : Type 0 where
-  pub index : ℕ
-  pub file : List ℕ × List ℕ
-  pub number : n ≡ suc index
-  pub at : slice_get files index ≡ Some file
-  pub is : row ≡ file_row keys now (suc index) file.0 file.1
+path_by : (node : KeptNode) (what : What) (size : ℕ) (folder : Option (List ℕ)) → size_in what ≡ Some size → IsSome folder
+    → (path : List (List ℕ)) × (option_and_then (path_in node what) folder ≡ Some path)
+path_by node (KeptFile k) size None is some = absurd cc
+path_by node (KeptFile k) size (Some folder) is some = (file_path node.long folder node.entry, refl)
+path_by node (KeptLink k) size None is some = absurd cc
+path_by node (KeptLink k) size (Some folder) is some = (host_inner folder node.entry text_symlink, refl)
+path_by node (KeptDir identifier own) size folder is some = absurd cc
+path_by node (KeptBad text) size folder is some = absurd cc
 
-module _ (tree : LoadedTree) (keys : KeyPair) (now : ℕ) (files : Files) (listed : tree.files ≡ map (loaded_file keys) (finmap.entries files)) where
-  abbrev rows : Rows
-  rows = rows_of keys now tree.foreign files
-
-  pub row_file : (i : ℕ) → row_of rows (suc i) ≡ option_map (λ f. file_row keys now (suc i) f.0 f.1) (slice_get (finmap.entries files) i)
-  row_file i =
-      at_false (eqb 0 (suc i)) (Some (root_row tree.foreign now)) (find (λ row. eqb row.number (suc i)) (file_rows keys now 1 (finmap.entries files))) (ne_eqb 0 (suc i) (λ same. omega arith))
-      ∙ numbered keys now (finmap.entries files) 1 i (suc i) (omega arith)
-
-  -- what the tree keeps of the file of a number
-  pub kept_at : (i : ℕ) → file_at tree (suc i) ≡ option_map (loaded_file keys) (slice_get (finmap.entries files) i)
-  kept_at i = ap (λ (fs : List (List ℕ × (List ℕ × ℕ))). slice_get fs i) listed ∙ slice_get-map (loaded_file keys) (finmap.entries files) i
-
-  -- a file that the tree keeps has a row
-  pub row_kept : (i : ℕ) (P : List ℕ × (List ℕ × ℕ) → Type 0) → IsSomeAnd (file_at tree (suc i)) P
-      → (f : List ℕ × List ℕ) × (slice_get (finmap.entries files) i ≡ Some f) × (row_of rows (suc i) ≡ Some (file_row keys now (suc i) f.0 f.1)) × P (loaded_file keys f)
-  row_kept i P is =
-      let found = some_of (loaded_file keys) (slice_get (finmap.entries files) i) P (subst (λ (o : Option (List ℕ × (List ℕ × ℕ))). IsSomeAnd o P) (kept_at i) is) in
-      (found.0, found.1, row_file i ∙ ap (option_map (λ (f : List ℕ × List ℕ). file_row keys now (suc i) f.0 f.1)) found.1, found.2)
-
-  from_root : (name : List ℕ) → child_of rows 0 name ≡ find (has_name keys now name) (file_rows keys now 1 (finmap.entries files))
-  from_root name =
-      at_false (has_name keys now name (root_row tree.foreign now)) (Some (root_row tree.foreign now)) (find (has_name keys now name) (file_rows keys now 1 (finmap.entries files)))
-      (and_right (bytes_eq (47 ∷ []) name) false refl)
-
-  pub child_found : (name : List ℕ) (number : ℕ) → IsSomeAnd (file_at tree number) (λ f. f.0 ≡ name) → (row : Row) × (row_of rows number ≡ Some row) × (child_of rows 0 name ≡ Some row)
-  child_found name zero is = absurd is
-  child_found name (suc i) is =
-      let found = row_kept i (λ f. f.0 ≡ name) is in
-      (file_row keys now (suc i) found.0.0 found.0.1, found.2, from_root name ∙ named keys now (finmap.entries files) 1 i (suc i) name found.0 (finmap.entries_sorted files) (omega arith) (omega arith) found.1 found.3)
-
-  pub child_absent : (name : List ℕ) → ((number : ℕ) → IfSome (file_at tree number) (λ f. f.0 ≢ name)) → child_of rows 0 name ≡ None
-  child_absent name none =
-      from_root name ∙ unnamed keys now (finmap.entries files) 1 name (omega arith)
-      (λ i. no_some_of (loaded_file keys) (slice_get (finmap.entries files) i) (λ f. f.0 ≢ name)
-      (subst (λ (o : Option (List ℕ × (List ℕ × ℕ))). IfSome o (λ f. f.0 ≢ name)) (kept_at i) (none (suc i))))
-
-  made_row : (i : ℕ) (row : Row) (o : Option (List ℕ × List ℕ)) → slice_get (finmap.entries files) i ≡ o
-      → option_map (λ f. file_row keys now (suc i) f.0 f.1) o ≡ Some row → IsFileRow keys now (suc i) (finmap.entries files) row
-  made_row i row None at e = absurd cc
-  made_row i row (Some f) at e = record { index = i; file = f; number = refl; at = at; is = sym (same_Some (file_row keys now (suc i) f.0 f.1) row e) }
-
-  -- each row is the root's or a file's
-  pub row_cases : (n : ℕ) (row : Row) → row_of rows n ≡ Some row → ((n ≡ 0) × (row ≡ root_row tree.foreign now)) ⊎ IsFileRow keys now n (finmap.entries files) row
-  row_cases zero row e = inl (refl, sym (same_Some (root_row tree.foreign now) row e))
-  row_cases (suc i) row e = inr (made_row i row (slice_get (finmap.entries files) i) refl (sym (row_file i) ∙ e))
-
-  length_kept : length tree.files ≡ length (finmap.entries files)
-  length_kept = ap length listed ∙ length-map (finmap.entries files) (loaded_file keys)
-
-  -- there are rows up to the number of files
-  pub row_within : (n : ℕ) → n ≤ length tree.files → (row : Row) × (row_of rows n ≡ Some row)
-  row_within zero few = (root_row tree.foreign now, refl)
-  row_within (suc i) few =
-      let f : List ℕ × List ℕ = get_or (finmap.entries files) i ([], []) in
-      let at : slice_get (finmap.entries files) i ≡ Some (get_or (finmap.entries files) i ([], [])) = slice_get-get_or (finmap.entries files) i ([], []) (omega (arith, length_kept)) in
-      (file_row keys now (suc i) f.0 f.1, row_file i ∙ ap (option_map (λ (f : List ℕ × List ℕ). file_row keys now (suc i) f.0 f.1)) at)
-
-  pub row_past : (n : ℕ) → length tree.files < n → row_of rows n ≡ None
-  row_past zero past = absurd (omega arith)
-  row_past (suc i) past =
-      row_file i ∙ ap (option_map (λ (f : List ℕ × List ℕ). file_row keys now (suc i) f.0 f.1)) (slice_get_past (finmap.entries files) i (omega (arith, length_kept)))
+-- a file or a link has a path
+pub path_there : (tree : KeptTree) (number : ℕ) (node : KeptNode) (size : ℕ) → IsTree tree → node_of tree number ≡ Some node → size_in node.what ≡ Some size
+    → (path : List (List ℕ)) × (path_of tree number ≡ Some path)
+path_there tree number node size good there is =
+    let path = path_by node node.what size (parent_folder tree node) is (good.folders number node there) in
+    (path.0, ap (λ (o : Option KeptNode). option_and_then (λ node. option_and_then (path_in node node.what) (parent_folder tree node)) o) there ∙ path.1)

@@ -13,21 +13,23 @@ use Rattle.outside.proofs.Told.{told_always, told_then, told_both}
 use Rattle.outside.proofs.Lists.{all_more}
 use Rattle.tree_model.specs.declared.refusal.Refusal.{Refusal}
 use Rattle.tree_model.specs.declared.refusal.Refusal.TheVariants as refusals
-use Rattle.tree_model.specs.Rows.{Rows}
-use Rattle.tree_model.specs.Asked.{PlainRequest, look, walk, open_node, create, read, list, write, remove, stat_of, change, sync, PlainReply, qid, walked, count, stat, done, refused, Asked, asked_of, bytes_put, is_exhausted, entered}
+use Rattle.tree_model.specs.Rows.{Content, Rows}
+use Rattle.tree_model.specs.Asked.{PlainRequest, look, walk, open_node, create, read, list, write, remove, stat_of, change, sync, PlainReply, qid, walked, count, stat, done, refused, Asked, asked_of, bytes_put, is_exhausted, entered, IsReplyTo}
 use Rattle.tree_model.specs.Step.{Answer, step, refuses}
 use Rattle.tree_history.specs.NotBuilt.{withheld}
 use Rattle.tree_history.specs.History.{Made, Entry, entry_of, Origin, Tally, next as next_tally, after, tally_at, tally_of, IsCaused, HasCause, is_stopped, IsAnswered, IsTreeAnswer, answer_where, places, is_refusal, is_stable, AreAnswered, rows_after}
 use Rattle.tree_history.proofs.Histories.{after_more, caused_more, answered_more, rows_after_more, after_count, after_stable}
 use Rattle.tree_model.proofs.Steps.{step_reads}
-use Rattle.vault_layout.specs.Clear.{IsClear, rows_of}
-use Rattle.vault_layout.specs.Loaded.{LoadedTree, IsLoaded}
+use Rattle.clear_tree.specs.Kept.{KeptTree, IsKept, AreContents, tree_rows}
+use Rattle.directory_scan.specs.Format.{sealing_of}
+use Rattle.tree_loading.specs.Clear.{IsClear, LoadingIsClear}
 use Rattle.vault_store.specs.declared.store.Store.{Store}
 use Rattle.vault_store.specs.declared.sole_caller.SoleCaller.{SoleCaller}
 use Rattle.vault_store.specs.Store.{HasTree, IsOpened, IsOnlyRead, AddsEntry, moment_of}
 use Rattle.vault_store.specs.Served.{HasAnswered, IsStoreFor, IsUndrawn, sole}
-use Rattle.vault_store.specs.Tree.{IsReplyIn}
-use Rattle.vault_store.specs.Answers.{answer_with, IsAnswerIn, IsAnswerOf, MayAnswer, ReplyCause, CausedOf, KeepsRows}
+use Rattle.vault_store.specs.Tree.{IsPlainReply}
+use Rattle.vault_store.proofs.StepLemmas.{caused_always, enters}
+use Rattle.vault_store.specs.Answers.{answer_with, IsAnswerIn, IsAnswerOf, IsReplied, MayAnswer, ReplyCause, CausedOf, KeepsRows}
 
 none_is_not_some : (o : Option ℕ) (n : ℕ) → IsNone o → o ≡ Some n → ⊥
 none_is_not_some None n none is = cc
@@ -35,35 +37,42 @@ none_is_not_some (Some m) n none is = let no : true ≡ false = none in cc
 
 -- ---- opening
 
--- the rows that a loaded tree begins with, where the disk is told
-record FirstRows (contents : Option Disk) (keys : KeyPair) (now : ℕ) (tree : LoadedTree) : Type 0 where
-  rows : Rows
-  clear : Told contents (λ d. IsClear keys d now rows)
-  loaded : Told contents (λ d. (is : IsLoaded keys d tree) × (rows ≡ rows_of keys now tree.foreign is.files))
+-- a tree that is kept of the disk, and the rows that it begins with
+record IsBegun (keys : KeyPair) (disk : Disk) (now : ℕ) (tree : KeptTree) (rows : Rows) : Type 0 where
+  kept : IsKept (sealing_of keys) disk tree
+  contents : ℕ → Content
+  are : AreContents (sealing_of keys) disk tree contents
+  first : rows ≡ tree_rows contents now tree
 
-first_rows : (contents : Option Disk) (keys : KeyPair) (now : ℕ) (tree : LoadedTree) → Told contents (λ d. IsLoaded keys d tree) → FirstRows contents keys now tree
-first_rows None keys now tree told = record { rows = record { nodes = []; next = 0; named_twice = false }; clear = tt; loaded = tt }
-first_rows (Some disk) keys now tree is = record {
-  rows = rows_of keys now tree.foreign is.files;
-  clear = record { files = is.files; foreign = tree.foreign; root = is.there; exact = is.exact; marked = is.marked; rows_are = refl };
-  loaded = (is, refl);
-}
+-- the rows that a loaded tree begins with, where the disk is told
+record FirstRows (told : Option Disk) (keys : KeyPair) (now : ℕ) (tree : KeptTree) : Type 0 where
+  rows : Rows
+  clear : Told told (λ d. IsClear keys d now rows)
+  begun : Told told (λ d. IsBegun keys d now tree rows)
+
+first_rows : (told : Option Disk) (keys : KeyPair) (now : ℕ) (tree : KeptTree) → LoadingIsClear → Told told (λ d. IsKept (sealing_of keys) d tree) → FirstRows told keys now tree
+first_rows None keys now tree law kept = record { rows = record { nodes = []; next = 0; named_twice = false }; clear = tt; begun = tt }
+first_rows (Some disk) keys now tree law kept =
+    let tells = law keys disk tree kept in record {
+      rows = tree_rows tells.contents now tree;
+      clear = tells.clear now;
+      begun = record { kept = kept; contents = tells.contents; are = tells.are; first = refl };
+    }
 
 -- a store over a tree that was loaded stands for no entries from its rows on
-pub IsOpened-loaded : {D : Type 0} (view : D → FolderView) (folder : D) (keys : KeyPair) (now : ℕ) (store : Store D)
+pub IsOpened-loaded : {D : Type 0} (view : D → FolderView) (folder : D) (keys : KeyPair) (now : ℕ) (store : Store D) → LoadingIsClear
     → IsOnlyRead (view folder) (view store.folder) → store.keys ≡ keys → store.opened_at ≡ now → store.entries ≡ 0
-    → Told (disk_in (view folder).log) (λ d. IsLoaded keys d store.loaded) → IsOpened view folder keys now store
-IsOpened-loaded view folder keys now store only same at none told =
-    let contents : Option Disk = disk_in (view folder).log in
-    let first = first_rows (disk_in (view folder).log) store.keys store.opened_at store.loaded (subst (λ (k : KeyPair). Told (disk_in (view folder).log) (λ d. IsLoaded k d store.loaded)) (sym same) told) in
+    → Told (disk_in (view folder).log) (λ d. IsKept (sealing_of keys) d store.tree) → IsOpened view folder keys now store
+IsOpened-loaded view folder keys now store law only same at none kept =
+    let first = first_rows (disk_in (view folder).log) store.keys store.opened_at store.tree law (subst (λ (k : KeyPair). Told (disk_in (view folder).log) (λ d. IsKept (sealing_of k) d store.tree)) (sym same) kept) in
     subst (λ (k : KeyPair). IsOpened view folder k now store) same
     (subst (λ (n : ℕ). IsOpened view folder store.keys n store) at (record {
       rows = first.rows;
       clear = first.clear;
       stands = λ origin faults moment. record {
         tree = subst (λ (l : Option Log). Told (disk_in l) (λ d. HasTree store d first.rows origin [])) (sym only.log)
-            (told_then (disk_in (view folder).log) (λ d. (is : IsLoaded store.keys d store.loaded) × (first.rows ≡ rows_of store.keys store.opened_at store.loaded.foreign is.files)) (λ d. HasTree store d first.rows origin [])
-            first.loaded (λ d is. record { loaded = is.0; current = is.1; answered = tt }));
+            (told_then (disk_in (view folder).log) (λ d. IsBegun store.keys d store.opened_at store.tree first.rows) (λ d. HasTree store d first.rows origin [])
+            first.begun (λ d is. record { kept = is.kept; contents = is.contents; are = is.are; current = is.first; answered = tt }));
         caused = tt;
         running = refl;
         folder = faults;
@@ -72,17 +81,6 @@ IsOpened-loaded view folder keys now store only same at none told =
       };
       read = only;
     }))
-
--- ---- replies that put no bytes
-
--- what a loaded tree answers in all rows that it may be of, the rows of its disk allow
-pub answer_of_reply : (contents : Option Disk) (keys : KeyPair) (tree : LoadedTree) (request : PlainRequest) (reply : PlainReply) (answer : Answer)
-    → answer ≡ record { reply = reply; bytes = [] } → IsReplyIn tree request reply → IsAnswerOf contents keys tree request answer
-answer_of_reply contents keys tree request reply answer same is =
-    subst (λ (a : Answer). IsAnswerOf contents keys tree request a) (sym same)
-    (told_always contents
-    (λ d. (loaded : IsLoaded keys d tree) (at second : ℕ) → IsAnswerIn (rows_of keys at tree.foreign loaded.files) request second (record { reply = reply; bytes = [] }))
-    (λ d loaded at second. is keys at loaded.files loaded.listed second))
 
 -- ---- one entry more
 
@@ -126,36 +124,6 @@ has_cause made (refused (refusals.Exhausted ticket)) is = absurd is
 has_cause made (refused refusals.DeviceFault) is = (is, refl)
 has_cause made (refused refusals.RandomFault) is = absurd is
 has_cause made (refused refusals.OutOfMemory) is = (is, refl)
-
--- a reply with a cause is never that the caller has no turn left
-pub enters : (request : PlainRequest) (before now : ℕ) (reply : PlainReply) → ReplyCause request before now reply → is_exhausted reply ≡ false
-enters request before now (qid q) is = refl
-enters request before now (walked qids) is = refl
-enters request before now (count n) is = refl
-enters request before now (stat n) is = refl
-enters request before now done is = refl
-enters request before now (refused refusals.Removed) is = refl
-enters request before now (refused refusals.NotADirectory) is = refl
-enters request before now (refused refusals.IsADirectory) is = refl
-enters request before now (refused refusals.BadName) is = refl
-enters request before now (refused refusals.NameTooLong) is = refl
-enters request before now (refused refusals.FileDoesNotExist) is = refl
-enters request before now (refused refusals.FileExists) is = refl
-enters request before now (refused refusals.NotPermitted) is = refl
-enters request before now (refused refusals.DirectoryNotEmpty) is = refl
-enters request before now (refused refusals.CountTooSmall) is = refl
-enters request before now (refused refusals.FileTooLarge) is = refl
-enters request before now (refused refusals.GapTooLarge) is = refl
-enters request before now (refused refusals.OneChangeAtATime) is = refl
-enters request before now (refused refusals.VaultFull) is = refl
-enters request before now (refused refusals.Damaged) is = refl
-enters request before now (refused refusals.Foreign) is = refl
-enters request before now (refused (refusals.PlaceTaken path)) is = absurd is
-enters request before now (refused (refusals.Stopped f)) is = absurd is
-enters request before now (refused (refusals.Exhausted ticket)) is = absurd is
-enters request before now (refused refusals.DeviceFault) is = refl
-enters request before now (refused refusals.RandomFault) is = absurd is
-enters request before now (refused refusals.OutOfMemory) is = refl
 
 -- where no place is taken the tree's answer is the step's
 free_place : (b : Bool) (said : Answer) → cond b (option_map_or (λ (path : Path). refuses (refusals.PlaceTaken path)) None said) said ≡ said
@@ -219,53 +187,56 @@ caused_entry tally caller asked f f' e e' moment running within folder_since fol
     }
 
 -- the tree of a store, by those of its fields that it depends on
-record TreeOf (keys : KeyPair) (tree : LoadedTree) (opened_at : ℕ) (disk : Disk) (rows : Rows) (origin : Origin) (history : List Entry) : Type 0 where
-  loaded : IsLoaded keys disk tree
-  current : rows_after rows history ≡ rows_of keys opened_at tree.foreign loaded.files
+record TreeOf (keys : KeyPair) (tree : KeptTree) (opened_at : ℕ) (disk : Disk) (rows : Rows) (origin : Origin) (history : List Entry) : Type 0 where
+  kept : IsKept (sealing_of keys) disk tree
+  contents : ℕ → Content
+  are : AreContents (sealing_of keys) disk tree contents
+  current : rows_after rows history ≡ tree_rows contents opened_at tree
   answered : AreAnswered rows (tally_at origin) history
 
-tree_more : (keys : KeyPair) (tree : LoadedTree) (opened_at : ℕ) (disk : Disk) (rows : Rows) (origin : Origin) (history : List Entry) (entry : Entry) → TreeOf keys tree opened_at disk rows origin history
+tree_more : (keys : KeyPair) (tree : KeptTree) (opened_at : ℕ) (disk : Disk) (rows : Rows) (origin : Origin) (history : List Entry) (entry : Entry) → TreeOf keys tree opened_at disk rows origin history
     → KeepsRows entry.made.asked.request entry.made.asked.reply → entry.made.taken ≡ None
-    → ((is : IsLoaded keys disk tree) (at second : ℕ) → IsAnswerIn (rows_of keys at tree.foreign is.files) entry.made.asked.request second (record { reply = entry.made.asked.reply; bytes = entry.made.asked.bytes }))
+    → ((contents : ℕ → Content) → AreContents (sealing_of keys) disk tree contents → (second : ℕ)
+    → IsAnswerIn (tree_rows contents opened_at tree) entry.made.asked.request second (record { reply = entry.made.asked.reply; bytes = entry.made.asked.bytes }))
     → TreeOf keys tree opened_at disk rows origin (history ++ entry ∷ [])
 tree_more keys tree opened_at disk rows origin history entry is keeps free answered = record {
-  loaded = is.loaded;
+  kept = is.kept;
+  contents = is.contents;
+  are = is.are;
   current = rows_after_more rows history entry ∙ stays (rows_after rows history) entry.made.asked.request entry.made.asked.second entry.made.asked.reply keeps ∙ is.current;
   answered = answered_more rows (tally_at origin) history entry is.answered (λ running.
       is_answered (rows_after rows history) entry.made (record { reply = entry.made.asked.reply; bytes = entry.made.asked.bytes }) free refl
       (subst (λ (r : Rows). IsAnswerIn r entry.made.asked.request entry.made.asked.second (record { reply = entry.made.asked.reply; bytes = entry.made.asked.bytes })) (sym is.current)
-      (answered is.loaded opened_at entry.made.asked.second)));
+      (answered is.contents is.are entry.made.asked.second)));
 }
 
-tree_of : {D : Type 0} (old new : Store D) (disk : Disk) (rows : Rows) (origin : Origin) (history : List Entry) → new.keys ≡ old.keys → new.loaded ≡ old.loaded → new.opened_at ≡ old.opened_at
-    → TreeOf old.keys old.loaded old.opened_at disk rows origin history → HasTree new disk rows origin history
-tree_of old new disk rows origin history keys loaded opened_at is =
-    let moved : TreeOf new.keys new.loaded new.opened_at disk rows origin history =
-    subst (λ (k : KeyPair). TreeOf k new.loaded new.opened_at disk rows origin history) (sym keys)
-    (subst (λ (t : LoadedTree). TreeOf old.keys t new.opened_at disk rows origin history) (sym loaded)
-    (subst (λ (n : ℕ). TreeOf old.keys old.loaded n disk rows origin history) (sym opened_at) is))
-    in record { loaded = moved.loaded; current = moved.current; answered = moved.answered }
+tree_of : {D : Type 0} (old new : Store D) (disk : Disk) (rows : Rows) (origin : Origin) (history : List Entry) → new.keys ≡ old.keys → new.tree ≡ old.tree → new.opened_at ≡ old.opened_at
+    → TreeOf old.keys old.tree old.opened_at disk rows origin history → HasTree new disk rows origin history
+tree_of old new disk rows origin history keys tree opened_at is =
+    let moved : TreeOf new.keys new.tree new.opened_at disk rows origin history =
+    subst (λ (k : KeyPair). TreeOf k new.tree new.opened_at disk rows origin history) (sym keys)
+    (subst (λ (t : KeptTree). TreeOf old.keys t new.opened_at disk rows origin history) (sym tree)
+    (subst (λ (n : ℕ). TreeOf old.keys old.tree n disk rows origin history) (sym opened_at) is))
+    in record { kept = moved.kept; contents = moved.contents; are = moved.are; current = moved.current; answered = moved.answered }
+
+-- the contents of a tree's files on a disk
+record HasContents (keys : KeyPair) (disk : Disk) (tree : KeptTree) : Type 0 where
+  contents : ℕ → Content
+  are : AreContents (sealing_of keys) disk tree contents
 
 -- the cause of a reply of a store whose tree is that of its folder's disk
-caused_in : (contents : Option Disk) (keys : KeyPair) (tree : LoadedTree) (request : PlainRequest) (before now : ℕ) (reply : PlainReply) (P : Disk → Type 0) → ((d : Disk) → P d → IsLoaded keys d tree)
-    → Told contents P → CausedOf contents keys tree request before now reply → ReplyCause request before now reply
-caused_in None keys tree request before now reply P loaded told cause = cause
-caused_in (Some disk) keys tree request before now reply P loaded told cause = cause (loaded disk told)
-
--- a cause that stands whatever is told
-pub caused_always : (contents : Option Disk) (keys : KeyPair) (tree : LoadedTree) (request : PlainRequest) (before now : ℕ) (reply : PlainReply) → ReplyCause request before now reply
-    → CausedOf contents keys tree request before now reply
-caused_always None keys tree request before now reply cause = cause
-caused_always (Some disk) keys tree request before now reply cause = λ loaded. cause
+caused_in : (told : Option Disk) (keys : KeyPair) (tree : KeptTree) (request : PlainRequest) (before now : ℕ) (reply : PlainReply) (P : Disk → Type 0) → ((d : Disk) → P d → HasContents keys d tree)
+    → Told told P → CausedOf told keys tree request before now reply → ReplyCause request before now reply
+caused_in None keys tree request before now reply P has is cause = cause
+caused_in (Some disk) keys tree request before now reply P has is cause = cause (has disk is).contents (has disk is).are
 
 -- an answer is one entry more
-pub adds_entry : {D : Type 0} (view : D → FolderView) (old new : Store D) (request : PlainRequest) (second : ℕ) (reply : PlainReply) (buffer : List ℕ) (e e' : ℕ)
+pub adds_entry : {D : Type 0} (view : D → FolderView) (old new : Store D) (request : PlainRequest) (second : ℕ) (reply : PlainReply) (before buffer : List ℕ) (e e' : ℕ)
     → IsOnlyRead (view old.folder) (view new.folder) → e ≤ e'
-    → new.keys ≡ old.keys → new.loaded ≡ old.loaded → new.opened_at ≡ old.opened_at → new.entries ≡ min (old.entries + 1) (2 ^ 64 - 1)
-    → IsAnswerOf (disk_in (view old.folder).log) old.keys old.loaded request (answer_with request reply buffer)
-    → CausedOf (disk_in (view old.folder).log) old.keys old.loaded request (view old.folder).faults (view new.folder).faults reply → KeepsRows request reply
+    → new.keys ≡ old.keys → new.tree ≡ old.tree → new.opened_at ≡ old.opened_at → new.entries ≡ min (old.entries + 1) (2 ^ 64 - 1)
+    → IsReplied (disk_in (view old.folder).log) old.keys old.tree old.opened_at request (view old.folder).faults (view new.folder).faults reply before buffer
     → AddsEntry view old new (asked_of request second reply buffer) e e'
-adds_entry view old new request second reply buffer e e' only later_entropy keys loaded opened_at entries answer cause keeps rows origin history caller stands fits =
+adds_entry view old new request second reply before buffer e e' only later_entropy keys tree opened_at entries replied rows origin history caller stands fits =
     let tally : Tally = tally_of origin history in
     let asked : Asked = asked_of request second reply buffer in
     let made : Made = made_of asked (view old.folder).faults (view new.folder).faults e e' (cond (is_stable request) (suc tally.count) tally.stable) (moment_of (view new.folder).log) in
@@ -281,13 +252,15 @@ adds_entry view old new request second reply buffer e e' only later_entropy keys
       record {
         tree = subst (λ (l : Option Log). Told (disk_in l) (λ d. HasTree new d rows origin (history ++ entry ∷ []))) (sym only.log)
             (told_both (disk_in (view old.folder).log) (λ d. HasTree old d rows origin history)
-            (λ d. (is : IsLoaded old.keys d old.loaded) (at second : ℕ) → IsAnswerIn (rows_of old.keys at old.loaded.foreign is.files) request second (answer_with request reply buffer))
-            (λ d. HasTree new d rows origin (history ++ entry ∷ [])) stands.tree answer
-            (λ d has may. tree_of old new d rows origin (history ++ entry ∷ []) keys loaded opened_at
-            (tree_more old.keys old.loaded old.opened_at d rows origin history entry (record { loaded = has.loaded; current = has.current; answered = has.answered }) keeps refl may)));
+            (λ d. (contents : ℕ → Content) → AreContents (sealing_of old.keys) d old.tree contents → (second : ℕ) → IsAnswerIn (tree_rows contents old.opened_at old.tree) request second (answer_with request reply buffer))
+            (λ d. HasTree new d rows origin (history ++ entry ∷ [])) stands.tree replied.answer
+            (λ d has may. tree_of old new d rows origin (history ++ entry ∷ []) keys tree opened_at
+            (tree_more old.keys old.tree old.opened_at d rows origin history entry
+            (record { kept = has.kept; contents = has.contents; are = has.are; current = has.current; answered = has.answered }) replied.rows refl may)));
         caused = caused_more (tally_at origin) history entry stands.caused
             (caused_entry tally caller asked (view old.folder).faults (view new.folder).faults e e' (moment_of (view new.folder).log) stands.running within stands.folder later fits later_entropy moment
-            (caused_in (disk_in (view old.folder).log) old.keys old.loaded request (view old.folder).faults (view new.folder).faults reply (λ d. HasTree old d rows origin history) (λ d has. has.loaded) stands.tree cause));
+            (caused_in (disk_in (view old.folder).log) old.keys old.tree request (view old.folder).faults (view new.folder).faults reply (λ d. HasTree old d rows origin history)
+            (λ d has. record { contents = has.contents; are = has.are }) stands.tree replied.caused));
         running = subst (λ (t : Tally). IsNone t.stopped) (sym more) stands.running;
         folder = subst (λ (t : Tally). t.folder_faults ≤ (view new.folder).faults) (sym more) (omega arith);
         moment = subst (λ (t : Tally). t.moment ≤ moment_of (view new.folder).log) (sym more) (omega arith);
@@ -356,22 +329,29 @@ no_bytes (stat_of n) refusal buffer = refl
 no_bytes (change n c) refusal buffer = refl
 no_bytes (sync n) refusal buffer = refl
 
--- the answer of a reply that puts no bytes
-pub plain_answer : (contents : Option Disk) (keys : KeyPair) (tree : LoadedTree) (request : PlainRequest) (reply : PlainReply) (buffer : List ℕ)
-    → bytes_put request reply buffer ≡ [] → IsReplyIn tree request reply → IsAnswerOf contents keys tree request (answer_with request reply buffer)
-plain_answer contents keys tree request reply buffer none is =
-    answer_of_reply contents keys tree request reply (answer_with request reply buffer) (ap (λ (bytes : List ℕ). record { reply = reply; bytes = bytes }) none) is
+-- a plain reply of a tree to a request that is known
+pub replied_plain : (told : Option Disk) (keys : KeyPair) (tree : KeptTree) (unlocked : ℕ) (request known : PlainRequest) (before : ℕ) (reply : PlainReply) (buffer : List ℕ) → request ≡ known
+    → bytes_put known reply buffer ≡ [] → IsPlainReply tree known reply → IsReplied told keys tree unlocked request before before reply buffer buffer
+replied_plain told keys tree unlocked request known before reply buffer same none is =
+    subst (λ (r : PlainRequest). IsReplied told keys tree unlocked r before before reply buffer buffer) (sym same) (record {
+      answer = subst (λ (a : Answer). IsAnswerOf told keys tree unlocked known a) (sym (ap (λ (bytes : List ℕ). record { reply = reply; bytes = bytes }) none))
+          (told_always told
+          (λ d. (contents : ℕ → Content) → AreContents (sealing_of keys) d tree contents → (second : ℕ) → IsAnswerIn (tree_rows contents unlocked tree) known second (record { reply = reply; bytes = [] }))
+          (λ d contents are second. is.answer contents unlocked second));
+      caused = caused_always told keys tree known before before reply (is.caused before before);
+      enters = enters known before before reply (is.caused before before);
+      rows = is.rows;
+      form = subst (λ (bytes : List ℕ). IsReplyTo known reply bytes) (sym none) is.form;
+      rest = refl;
+    })
 
--- the same of a request that is known
-pub answer_to : (contents : Option Disk) (keys : KeyPair) (tree : LoadedTree) (request known : PlainRequest) (reply : PlainReply) (buffer : List ℕ) → request ≡ known
-    → bytes_put known reply buffer ≡ [] → IsReplyIn tree known reply → IsAnswerOf contents keys tree request (answer_with request reply buffer)
-answer_to contents keys tree request known reply buffer same none is =
-    subst (λ (r : PlainRequest). IsAnswerOf contents keys tree r (answer_with r reply buffer)) (sym same) (plain_answer contents keys tree known reply buffer none is)
+-- and one that is a refusal
+pub replied_refusal : (told : Option Disk) (keys : KeyPair) (tree : KeptTree) (unlocked : ℕ) (request known : PlainRequest) (before : ℕ) (reply : PlainReply) (refusal : Refusal) (buffer : List ℕ) → request ≡ known
+    → reply ≡ refused refusal → IsPlainReply tree known reply → IsReplied told keys tree unlocked request before before reply buffer buffer
+replied_refusal told keys tree unlocked request known before reply refusal buffer same refuses is =
+    replied_plain told keys tree unlocked request known before reply buffer same (ap (λ (r : PlainReply). bytes_put known r buffer) refuses ∙ no_bytes known refusal buffer) is
 
-pub cause_to : (contents : Option Disk) (keys : KeyPair) (tree : LoadedTree) (request known : PlainRequest) (before now : ℕ) (reply : PlainReply) → request ≡ known → ReplyCause known before now reply
-    → CausedOf contents keys tree request before now reply
-cause_to contents keys tree request known before now reply same is =
-    caused_always contents keys tree request before now reply (subst (λ (r : PlainRequest). ReplyCause r before now reply) (sym same) is)
-
-pub rows_to : (request known : PlainRequest) (reply : PlainReply) → request ≡ known → KeepsRows known reply → KeepsRows request reply
-rows_to request known reply same is = subst (λ (r : PlainRequest). KeepsRows r reply) (sym same) is
+-- a reply to a request that is known
+pub replied_to : (told : Option Disk) (keys : KeyPair) (tree : KeptTree) (unlocked : ℕ) (request known : PlainRequest) (before now : ℕ) (reply : PlainReply) (old new : List ℕ) → request ≡ known
+    → IsReplied told keys tree unlocked known before now reply old new → IsReplied told keys tree unlocked request before now reply old new
+replied_to told keys tree unlocked request known before now reply old new same is = subst (λ (r : PlainRequest). IsReplied told keys tree unlocked r before now reply old new) (sym same) is

@@ -6,7 +6,7 @@ use Rattle.tree_model.specs.declared.refusal.Refusal.{Refusal}
 use Rattle.tree_model.specs.declared.stat.Qid.{Qid}
 use Rattle.tree_model.specs.Wire.{string}
 use Rattle.tree_model.specs.Names.{AreNames, names_in, spelled_names}
-use Rattle.vault_layout.specs.Loaded.{LoadedTree}
+use Rattle.clear_tree.specs.Kept.{KeptTree}
 use Rattle.vault_store.specs.Tree.{IsWay, qid_at}
 use Rattle.vault_store.proofs.StepLemmas.{Next, way_none, way_refused, way_more}
 
@@ -75,14 +75,14 @@ names_after N k bytes rest below is behind = subst (λ (r : List ℕ). AreNames 
 -- ---- the way so far
 
 -- whatever way goes on from a node along the names that are left, the whole way is that one behind the nodes so far
-abbrev pub GoesOn : LoadedTree → ℕ → List (List ℕ) → ℕ → List (List ℕ) → List Qid → Type 0
+abbrev pub GoesOn : KeptTree → ℕ → List (List ℕ) → ℕ → List (List ℕ) → List Qid → Type 0
 GoesOn tree from names at left front = (qids : List Qid) (end : Option Refusal) → IsWay tree at left qids end → IsWay tree from names (front ++ qids) end
 
-ended : (tree : LoadedTree) (from : ℕ) (names : List (List ℕ)) (at : ℕ) (left : List (List ℕ)) (front : List Qid) (end : Option Refusal)
+ended : (tree : KeptTree) (from : ℕ) (names : List (List ℕ)) (at : ℕ) (left : List (List ℕ)) (front : List Qid) (end : Option Refusal)
     → GoesOn tree from names at left front → IsWay tree at left [] end → IsWay tree from names front end
 ended tree from names at left front end goes way = subst (λ (qs : List Qid). IsWay tree from names qs end) (append-nil front) (goes [] end way)
 
-pub ends_refused : (tree : LoadedTree) (from : ℕ) (names : List (List ℕ)) (at N k : ℕ) (bytes name rest : List ℕ) (front : List Qid) (next : Result ℕ Refusal) (refusal : Refusal)
+pub ends_refused : (tree : KeptTree) (from : ℕ) (names : List (List ℕ)) (at N k : ℕ) (bytes name rest : List ℕ) (front : List Qid) (next : Result ℕ Refusal) (refusal : Refusal)
     → k < N → AreNames (N - k) bytes → name ≡ first_name bytes → rest ≡ names_behind bytes → Next tree at name next → next ≡ Err refusal
     → GoesOn tree from names at (names_in (N - k) bytes) front → IsWay tree from names front (Some refusal)
 ends_refused tree from names at N k bytes name rest front next refusal below are first behind led is goes =
@@ -90,7 +90,7 @@ ends_refused tree from names at N k bytes name rest front next refusal below are
     (subst (λ (ns : List (List ℕ)). IsWay tree at ns [] (Some refusal)) (sym (names_left N k bytes name rest below are first behind))
     (way_refused tree at name (names_in (N - (k + 1)) rest) refusal (subst (λ (r : Result ℕ Refusal). Next tree at name r) is led)))
 
-pub ends_whole : (tree : LoadedTree) (from : ℕ) (names : List (List ℕ)) (at N k : ℕ) (bytes : List ℕ) (qids : List Qid)
+pub ends_whole : (tree : KeptTree) (from : ℕ) (names : List (List ℕ)) (at N k : ℕ) (bytes : List ℕ) (qids : List Qid)
     → k ≡ N → GoesOn tree from names at (names_in (N - k) bytes) (take k qids) → IsWay tree from names (take N qids) None
 unfolding names_in
 ends_whole tree from names at N k bytes qids all goes =
@@ -98,19 +98,15 @@ ends_whole tree from names at N k bytes qids all goes =
     subst (λ (n : ℕ). IsWay tree from names (take n qids) None) all
     (ended tree from names at (names_in (N - k) bytes) (take k qids) None goes (subst (λ (m : ℕ). IsWay tree at (names_in m bytes) [] None) none (way_none tree at)))
 
-pub goes_further : (tree : LoadedTree) (from : ℕ) (names : List (List ℕ)) (at N k : ℕ) (bytes name rest : List ℕ) (qids : List Qid) (next : Result ℕ Refusal) (node : ℕ) (q : Qid)
-    → k < N → k < length qids → AreNames (N - k) bytes → name ≡ first_name bytes → rest ≡ names_behind bytes → Next tree at name next → next ≡ Ok node → q ≡ qid_at node
+pub goes_further : (tree : KeptTree) (from : ℕ) (names : List (List ℕ)) (at N k : ℕ) (bytes name rest : List ℕ) (qids : List Qid) (next : Result ℕ Refusal) (node : ℕ) (q : Qid)
+    → k < N → k < length qids → AreNames (N - k) bytes → name ≡ first_name bytes → rest ≡ names_behind bytes → Next tree at name next → next ≡ Ok node → q ≡ qid_at tree node
     → GoesOn tree from names at (names_in (N - k) bytes) (take k qids) → GoesOn tree from names node (names_in (N - (k + 1)) rest) (take (k + 1) (set qids k q))
 goes_further tree from names at N k bytes name rest qids next node q below room are first behind led is same goes more end way =
     let one : k + 1 ≡ suc k = omega arith in
-    let front : take (k + 1) (set qids k q) ++ more ≡ take k qids ++ qid_at node ∷ more =
+    let front : take (k + 1) (set qids k q) ++ more ≡ take k qids ++ qid_at tree node ∷ more =
     ap (λ (n : ℕ). take n (set qids k q) ++ more) one ∙ ap (λ (qs : List Qid). qs ++ more) (take-suc-set qids k q room) ∙ append_assoc (take k qids) (q ∷ []) more
     ∙ ap (λ (p : Qid). take k qids ++ p ∷ more) same in
     subst (λ (qs : List Qid). IsWay tree from names qs end) (sym front)
-    (goes (qid_at node ∷ more) end
-    (subst (λ (ns : List (List ℕ)). IsWay tree at ns (qid_at node ∷ more) end) (sym (names_left N k bytes name rest below are first behind))
+    (goes (qid_at tree node ∷ more) end
+    (subst (λ (ns : List (List ℕ)). IsWay tree at ns (qid_at tree node ∷ more) end) (sym (names_left N k bytes name rest below are first behind))
     (way_more tree at node name (names_in (N - (k + 1)) rest) more end (subst (λ (r : Result ℕ Refusal). Next tree at name r) is led) way)))
-
-pub AreNames-none : AreNames 0 []
-unfolding names_in
-AreNames-none = record { spelled = refl; count = refl; fit = tt }

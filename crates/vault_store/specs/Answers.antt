@@ -5,13 +5,13 @@ use Rattle.outside.specs.Calls.{Told, Rose}
 use Rattle.siv_mode.specs.Keys.{KeyPair}
 use Rattle.tree_model.specs.declared.refusal.Refusal.{Refusal}
 use Rattle.tree_model.specs.declared.refusal.Refusal.TheVariants as refusals
-use Rattle.tree_model.specs.Rows.{Row, Rows}
-use Rattle.tree_model.specs.Asked.{PlainRequest, PlainReply, refused, bytes_put}
+use Rattle.tree_model.specs.Rows.{Content, Rows}
+use Rattle.tree_model.specs.Asked.{PlainRequest, PlainReply, refused, bytes_put, is_exhausted, IsReplyTo, KeepsRest}
 use Rattle.tree_model.specs.Step.{Answer, step, refuses, early_refusal, IsReading}
-use Rattle.tree_history.specs.NotBuilt.{not_built, withheld}
+use Rattle.tree_history.specs.NotBuilt.{withheld}
 use Rattle.tree_history.specs.History.{MayLackMemory}
-use Rattle.vault_layout.specs.Clear.{rows_of}
-use Rattle.vault_layout.specs.Loaded.{LoadedTree, IsLoaded}
+use Rattle.clear_tree.specs.Kept.{KeptTree, AreContents, tree_rows}
+use Rattle.directory_scan.specs.Format.{sealing_of}
 use Rattle.vault_store.specs.declared.store.Store.{Store}
 
 abbrev pub answer_with : PlainRequest → PlainReply → List ℕ → Answer
@@ -33,10 +33,11 @@ abbrev pub ReplyCause : PlainRequest → ℕ → ℕ → PlainReply → Type 0
 ReplyCause request before after (refused refusal) = RefusalCause request before after refusal
 ReplyCause request before after reply = ⊤
 
--- the same where the tree is that of the folder's disk, if it tells its disk: what was loaded as a file is one
-abbrev pub CausedOf : Option Disk → KeyPair → LoadedTree → PlainRequest → ℕ → ℕ → PlainReply → Type 0
+-- the same where the tree's files are those of the folder's disk, if it tells its disk
+abbrev pub CausedOf : Option Disk → KeyPair → KeptTree → PlainRequest → ℕ → ℕ → PlainReply → Type 0
 CausedOf None keys tree request before after reply = ReplyCause request before after reply
-CausedOf (Some disk) keys tree request before after reply = IsLoaded keys disk tree → ReplyCause request before after reply
+CausedOf (Some disk) keys tree request before after reply =
+    (contents : ℕ → Content) → AreContents (sealing_of keys) disk tree contents → ReplyCause request before after reply
 
 -- a reply after which the rows are as they were
 abbrev pub KeepsRows : PlainRequest → PlainReply → Type 0
@@ -55,10 +56,6 @@ is_own refusal = true
 
 -- ---- answers
 
--- a request that isn't built yet
-abbrev pub IsNotBuilt : PlainRequest → Type 0
-IsNotBuilt request = (row : Row) → not_built row request ≡ Some refusals.NotPermitted
-
 -- the step's answer, or a fault where no refusal comes before the work, or want of memory where the node is there
 abbrev pub MayAnswer : Rows → PlainRequest → ℕ → Answer → Type 0
 MayAnswer rows request second answer =
@@ -70,14 +67,26 @@ MayAnswer rows request second answer =
 abbrev pub IsAnswerIn : Rows → PlainRequest → ℕ → Answer → Type 0
 IsAnswerIn rows request second answer = MatchOption (withheld rows request) (MayAnswer rows request second answer) (λ refusal. answer ≡ refuses refusal)
 
--- an answer that the rows of a loaded tree allow at whatever second, where the disk that it is loaded of is told
-abbrev pub IsAnswerOf : Option Disk → KeyPair → LoadedTree → PlainRequest → Answer → Type 0
-IsAnswerOf contents keys tree request answer =
-    Told contents (λ disk. (is : IsLoaded keys disk tree) (at second : ℕ) → IsAnswerIn (rows_of keys at tree.foreign is.files) request second answer)
+-- an answer that the rows of a tree of a vault that was unlocked at a second allow, whenever this was asked, with the contents that its
+-- files have on the disk that is told
+abbrev pub IsAnswerOf : Option Disk → KeyPair → KeptTree → ℕ → PlainRequest → Answer → Type 0
+IsAnswerOf told keys tree unlocked request answer =
+    Told told (λ disk. (contents : ℕ → Content) → AreContents (sealing_of keys) disk tree contents → (second : ℕ)
+    → IsAnswerIn (tree_rows contents unlocked tree) request second answer)
+
+-- A reply to a request over the tree of a vault that was unlocked at a second, given what its folder tells, the counts of the folder's
+-- faults before and after, and the buffer before and after.
+pub record IsReplied (told : Option Disk) (keys : KeyPair) (tree : KeptTree) (unlocked : ℕ) (request : PlainRequest) (before after : ℕ) (reply : PlainReply) (old new : List ℕ) : Type 0 where
+  pub answer : IsAnswerOf told keys tree unlocked request (answer_with request reply new)
+  pub caused : CausedOf told keys tree request before after reply
+  pub enters : is_exhausted reply ≡ false
+  pub rows : KeepsRows request reply
+  pub form : IsReplyTo request reply (bytes_put request reply new)
+  pub rest : KeepsRest request reply old new
 
 -- everything but the folder and the buffers of reads stayed
 pub record KeepsTree {D : Type 0} (old new : Store D) : Type 0 where
   pub keys : new.keys ≡ old.keys
-  pub loaded : new.loaded ≡ old.loaded
+  pub tree : new.tree ≡ old.tree
   pub opened_at : new.opened_at ≡ old.opened_at
   pub entries : new.entries ≡ old.entries

@@ -1,30 +1,26 @@
--- How the steps of a read end.
-use Rattle.std.specs.Prelude.{◌≡◌, ℕ, ◌≤◌, List, length, false, Option, Some, None, Result, Ok, Err, ⊤}
-use Rattle.outside.specs.Disk.{Disk, Path, node_at, file}
-use Rattle.outside.specs.Calls.{Rose}
-use Rattle.file_chunks.specs.File.{is_bad_size, chunk_count}
-use Rattle.vault_store.specs.declared.chunk_buffers.ReadErr.{ReadErr}
-use Rattle.vault_store.specs.declared.chunk_buffers.ReadErr.TheVariants.{Device, Damaged}
+-- Which nodes of a tree have bytes to be read, and what refuses the others.
+use Rattle.std.specs.Prelude.{◌≡◌, ℕ, false, Option, Some, None, if◌then◌else◌}
+use Rattle.tree_model.specs.declared.refusal.Refusal.{Refusal}
+use Rattle.tree_model.specs.declared.refusal.Refusal.TheVariants as refusals
+use Rattle.file_chunks.specs.File.{is_bad_size}
+use Rattle.clear_tree.specs.Kept.{What, KeptFile, KeptLink, KeptDir, KeptBad, KeptNode, KeptTree, path_of, node_of, size_in}
+use Rattle.content_reader.specs.declared.reader.SealedFile.{SealedFile}
 
--- A step that looks for something ends with it, or with damage where there is none, or with the folder's fault.
-abbrev pub Ends : {A : Type 0} → Option A → ℕ → ℕ → Result A ReadErr → Type 0
-Ends found before now (Ok a) = found ≡ Some a
-Ends found before now (Err Damaged) = found ≡ None
-Ends found before now (Err Device) = Rose before now
+-- what refuses that a node is read, before its host file is looked at. No content has a bad size
+abbrev pub read_fault_of : What → Option Refusal
+read_fault_of (KeptFile size) = if is_bad_size size then Some refusals.Damaged else None
+read_fault_of (KeptLink size) = if is_bad_size size then Some refusals.Damaged else None
+read_fault_of (KeptDir identifier folder) = Some refusals.IsADirectory
+read_fault_of (KeptBad text) = Some refusals.Damaged
 
--- a host file that has room for a header and an empty chunk
-pub record HasChunk (disk : Disk) (path : Path) (bytes : List ℕ) : Type 0 where
-  pub there : node_at disk path ≡ Some (file bytes)
-  pub long : 96 ≤ length bytes
+abbrev pub read_fault : Option KeptNode → Option Refusal
+read_fault None = Some refusals.Removed
+read_fault (Some node) = read_fault_of node.what
 
--- a host file that is shown: of this size, which is good, and with at most one chunk
-pub record IsShownFile (disk : Disk) (path : Path) (size : ℕ) (bytes : List ℕ) : Type 0 where
-  pub there : node_at disk path ≡ Some (file bytes)
-  pub long : length bytes ≡ size
-  pub good : is_bad_size size ≡ false
-  pub few : chunk_count size ≤ 1
-
--- where nothing is told, a fault comes only where the count rose
-abbrev pub RoseUntold : Option Disk → ℕ → ℕ → Type 0
-RoseUntold None before now = Rose before now
-RoseUntold (Some disk) before now = ⊤
+-- the host file of the node of a number, of which the size is good
+pub record IsHostOf (tree : KeptTree) (number : ℕ) (host : SealedFile) : Type 0 where
+  pub node : KeptNode
+  pub there : node_of tree number ≡ Some node
+  pub path : path_of tree number ≡ Some host.path
+  pub size : size_in node.what ≡ Some host.size
+  pub good : is_bad_size host.size ≡ false

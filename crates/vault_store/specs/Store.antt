@@ -6,11 +6,12 @@ use Rattle.outside.specs.Disk.{Disk}
 use Rattle.outside.specs.Images.{Log, moment, disk_in}
 use Rattle.outside.specs.Views.{FolderView}
 use Rattle.siv_mode.specs.Keys.{KeyPair}
-use Rattle.tree_model.specs.Rows.{Rows}
+use Rattle.tree_model.specs.Rows.{Content, Rows}
 use Rattle.tree_model.specs.Asked.{Asked}
 use Rattle.tree_history.specs.History.{Made, Entry, entry_of, Origin, tally_at, tally_of, AreCaused, AreAnswered, rows_after}
-use Rattle.vault_layout.specs.Clear.{IsClear, rows_of}
-use Rattle.vault_layout.specs.Loaded.{IsLoaded}
+use Rattle.clear_tree.specs.Kept.{IsKept, AreContents, tree_rows}
+use Rattle.directory_scan.specs.Format.{sealing_of}
+use Rattle.tree_loading.specs.Clear.{IsClear}
 use Rattle.vault_store.specs.declared.store.Store.{Store}
 
 -- the folder in a store
@@ -27,10 +28,13 @@ pub record IsOnlyRead (old new : FolderView) : Type 0 where
   pub changes : new.changes ≡ old.changes
   pub faults : old.faults ≤ new.faults
 
--- the tree that was loaded is the disk's, and its rows are those after entries that are each answered in the rows before them
+-- the tree is kept of the disk, and its rows, with the contents that its files have there, are those after entries that are each answered
+-- in the rows before them
 pub record HasTree {D : Type 0} (store : Store D) (disk : Disk) (rows : Rows) (origin : Origin) (history : List Entry) : Type 0 where
-  pub loaded : IsLoaded store.keys disk store.loaded
-  pub current : rows_after rows history ≡ rows_of store.keys store.opened_at store.loaded.foreign loaded.files
+  pub kept : IsKept (sealing_of store.keys) disk store.tree
+  pub contents : ℕ → Content
+  pub are : AreContents (sealing_of store.keys) disk store.tree contents
+  pub current : rows_after rows history ≡ tree_rows contents store.opened_at store.tree
   pub answered : AreAnswered rows (tally_at origin) history
 
 -- A store stands for a history from given rows and counts on: its entries have their causes, and, where the folder tells its disk, are

@@ -1,27 +1,56 @@
--- What a loaded tree says of the rows of any files that it may be of, whatever their bytes are.
-use Rattle.std.specs.Prelude.{◌≡◌, ℕ, ◌≤◌, List, length, map, ◌==◌, Option, Some, None, Result, Ok, Err, if◌then◌else◌}
-use Rattle.std.specs.FinMap as finmap
-use Rattle.siv_mode.specs.Keys.{KeyPair}
+-- What a tree in memory says of its rows, whatever its files hold.
+use Rattle.std.specs.Prelude.{◌≡◌, ℕ, ◌≤◌, List, [], length, Option, Some, None, is_some, Result, Ok, Err, if◌then◌else◌}
+use Rattle.std.specs.Option.{option_and_then}
 use Rattle.tree_model.specs.declared.refusal.Refusal.{Refusal}
+use Rattle.tree_model.specs.declared.refusal.Refusal.TheVariants as refusals
 use Rattle.tree_model.specs.declared.stat.Qid.{Qid}
-use Rattle.tree_model.specs.Rows.{Row, Rows, row_of}
-use Rattle.tree_model.specs.Asked.{PlainRequest, PlainReply}
+use Rattle.tree_model.specs.Rows.{Content, Row, Rows, row_of}
+use Rattle.tree_model.specs.Asked.{PlainRequest, PlainReply, IsReplyTo}
 use Rattle.tree_model.specs.Step.{says, walk_from}
-use Rattle.vault_layout.specs.Clear.{Files, rows_of}
-use Rattle.vault_layout.specs.Loaded.{LoadedTree, loaded_file}
-use Rattle.vault_store.specs.Answers.{IsAnswerIn}
+use Rattle.name_cipher.specs.declared.name.BadName.{BadName}
+use Rattle.name_cipher.specs.declared.name.BadName.TheVariants as bad_names
+use Rattle.clear_tree.specs.Kept.{What, KeptFile, KeptLink, KeptDir, KeptBad, KeptNode, KeptTree, node_of, tree_rows}
+use Rattle.vault_store.specs.Answers.{IsAnswerIn, ReplyCause, KeepsRows}
 
--- P of the rows of all files that a loaded tree may be of
-abbrev pub ForRows : LoadedTree → (Rows → Type 0) → Type 0
-ForRows tree P = (keys : KeyPair) (at : ℕ) (files : Files) → tree.files ≡ map (loaded_file keys) (finmap.entries files) → P (rows_of keys at tree.foreign files)
+-- P of the rows of a tree, whatever its files hold and whenever the vault was unlocked
+abbrev pub ForRows : KeptTree → (Rows → Type 0) → Type 0
+ForRows tree P = (contents : ℕ → Content) (at : ℕ) → P (tree_rows contents at tree)
 
 -- the reply answers the request in all of them, and puts no bytes
-abbrev pub IsReplyIn : LoadedTree → PlainRequest → PlainReply → Type 0
+abbrev pub IsReplyIn : KeptTree → PlainRequest → PlainReply → Type 0
 IsReplyIn tree request reply = ForRows tree (λ rows. (second : ℕ) → IsAnswerIn rows request second (says reply))
 
--- the qid of the node of a number: the root is the one directory
-abbrev pub qid_at : ℕ → Qid
-qid_at n = record { kind = if n == 0 then 0x80 else 0; version = 0; path = n }
+-- a reply that puts no bytes: it is right in all rows, has its cause, leaves the rows and has its request's form
+pub record IsPlainReply (tree : KeptTree) (request : PlainRequest) (reply : PlainReply) : Type 0 where
+  pub answer : IsReplyIn tree request reply
+  pub caused : (before after : ℕ) → ReplyCause request before after reply
+  pub rows : KeepsRows request reply
+  pub form : IsReplyTo request reply []
+
+-- ---- walking
+
+-- the number of the parent of a node that is a directory
+abbrev pub dir_parent : KeptNode → What → Option ℕ
+dir_parent node (KeptFile size) = None
+dir_parent node (KeptLink size) = None
+dir_parent node (KeptDir identifier folder) = Some node.parent
+dir_parent node (KeptBad text) = None
+
+abbrev pub parent_in : KeptTree → ℕ → Option ℕ
+parent_in tree number = option_and_then (λ node. dir_parent node node.what) (node_of tree number)
+
+-- the qid of the node of a number
+abbrev pub qid_at : KeptTree → ℕ → Qid
+qid_at tree n = record { kind = if is_some (parent_in tree n) then 0x80 else 0; version = 0; path = n }
+
+-- what refuses bytes that are no name; want of memory says nothing of them
+abbrev pub bad_name_refusal : BadName → Option Refusal
+bad_name_refusal bad_names.NotUtf8 = Some refusals.BadName
+bad_name_refusal bad_names.Empty = Some refusals.BadName
+bad_name_refusal bad_names.Dots = Some refusals.BadName
+bad_name_refusal bad_names.Forbidden = Some refusals.BadName
+bad_name_refusal (bad_names.TooLong n) = Some refusals.NameTooLong
+bad_name_refusal bad_names.Memory = None
 
 -- a number stands for the row that was walked to, or a refusal for its refusal
 abbrev pub StandsFor : Rows → Result Row Refusal → Result ℕ Refusal → Type 0
@@ -29,7 +58,7 @@ StandsFor rows walked (Ok n) = (row : Row) × (row_of rows n ≡ Some row) × (w
 StandsFor rows walked (Err refusal) = walked ≡ Err refusal
 
 -- these are the qids of the nodes on the way from a node along names, and what refused the next one, if any
-abbrev pub IsWay : LoadedTree → ℕ → List (List ℕ) → List Qid → Option Refusal → Type 0
+abbrev pub IsWay : KeptTree → ℕ → List (List ℕ) → List Qid → Option Refusal → Type 0
 IsWay tree n names qids end = ForRows tree (λ rows. (row : Row) → row_of rows n ≡ Some row → walk_from rows row names ≡ (qids, end))
 
 -- a walk that ended here: all names were walked, or the next one was refused

@@ -1,5 +1,5 @@
 use thiserror::Error;
-use vault_layout::LoadErr;
+use tree_loading::LoadErr;
 
 /// Why a vault can't be opened.
 #[derive(Clone, Copy, Debug, PartialEq, Eq, Error)]
@@ -7,6 +7,9 @@ pub enum OpenErr {
     /// The vault's folder failed: its count of faults rose in this call.
     #[error("the vault's folder failed")]
     Device,
+    /// The vault has more than 1,048,576 nodes: at least this many.
+    #[error("the vault has {0} nodes or more")]
+    TooMany(u64),
     /// The root's folder is absent.
     #[error("the vault has no folder for its root")]
     NoRoot,
@@ -24,6 +27,7 @@ impl From<LoadErr> for OpenErr {
     fn from(cause: LoadErr) -> OpenErr {
         match cause {
             LoadErr::Device => OpenErr::Device,
+            LoadErr::TooMany(count) => OpenErr::TooMany(count),
             LoadErr::NoRoot => OpenErr::NoRoot,
             LoadErr::Memory => OpenErr::Memory,
         }

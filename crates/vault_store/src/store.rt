@@ -1,34 +1,38 @@
 ghost use Rattle.std.specs.Prelude.{◌≡◌, ◌≤◌, ℕ, false, length, IfOk, IfErr, IsErr};
+ghost use Rattle.std.specs.Option.{option_copied};
 ghost use Rattle.outside.specs.Disk.{IsFolder};
 ghost use Rattle.outside.specs.Calls.{HasCause, Told};
 ghost use Rattle.outside.specs.Images.{disk_in};
 ghost use Rattle.outside.specs.Views.{folder_view, entropy_view};
 ghost use Rattle.tree_model.specs.Asked.{CanAsk, IsReplyTo, HasCount, KeepsRest, is_exhausted, plain_request, plain_reply, asked_of, bytes_put};
-ghost use Rattle.vault_layout.specs.Clear.{root_folder};
+ghost use Rattle.tree_loading.specs.Clear.{root_folder, HasTooMany};
 ghost use Rattle.vault_store.specs.Store.{IsOpened, AddsEntry, IsOnlyRead, folder_in};
 ghost use Rattle.vault_store.specs.Served.{IsUndrawn};
-ghost use Rattle.vault_store.specs.Answers.{IsAnswerOf, CausedOf, KeepsRows, KeepsTree, answer_with};
+ghost use Rattle.vault_store.specs.Answers.{IsReplied, KeepsTree};
 ghost use Rattle.vault_store.specs.declared.opening.OpenErr.TheVariants as open_errs;
 
-use crate::chunk_buffers::ChunkBuffers;
 use crate::opening::OpenErr;
-use crate::reading::{Slice, read};
-use crate::walking::{look, not_built, open_node, sync, walk};
+use crate::reading::read;
+use crate::sizes::has_sizes;
+use crate::walking::{not_built, walk};
+use clear_tree::Tree;
+use content_reader::{ContentReader, Slice};
 use outside::{Entropy, Failed, Folder, Refused};
 use siv_mode::VaultKeys;
 use std::alloc::Global;
+use tree_answers::{list, look, open_node, stat_of, sync};
+use tree_loading::{load, loading_is_clear};
 use tree_model::{Reply, Request};
-use vault_layout::{Loaded, load};
 
-/// A vault that is open: its folder, its keys and the tree that was loaded.
+/// A vault that is open: its folder, its keys and its tree, which was loaded whole.
 #[derive(Drop)]
 pub struct Store<D> {
     folder: D,
     keys: VaultKeys,
-    loaded: Loaded,
+    tree: Tree,
     opened_at: u32,
     entries: u64,
-    buffers: ChunkBuffers,
+    reader: ContentReader,
     alloc: Global,
 }
 
@@ -45,6 +49,8 @@ impl<D: Folder> Store<D> {
     ) -> Result<Store<D>, Refused<D, OpenErr>>
         requires { (1 ≤ threshold) × (threshold ≤ 250) }
         ensures opened { IfOk result (λ store. IsOpened (folder_view D.log D.faults D.changes) folder keys.now now store) }
+        ensures too_many { IfErr result (λ refused. (n : ℕ) → refused.cause ≡ open_errs.TooMany n
+            → HasTooMany keys.now (disk_in (D.log folder)) n) }
         ensures no_root { IfErr result (λ refused. refused.cause ≡ open_errs.NoRoot
             → Told (disk_in (D.log folder)) (λ d. ¬ (IsFolder d (root_folder keys.now)))) }
         ensures read { IfErr result (λ refused. IsOnlyRead (folder_view D.log D.faults D.changes folder)
@@ -52,20 +58,21 @@ impl<D: Folder> Store<D> {
         ensures cause { IfErr result (λ refused.
             HasCause (D.faults folder) (D.faults refused.folder) (refused.cause ≡ open_errs.Device)) }
     {
-        let Ok(buffers) = ChunkBuffers::new(alloc) else {
+        loading_is_clear();
+        let Ok(reader) = ContentReader::new(alloc) else {
             return Err(Refused {
                 folder,
                 cause: OpenErr::Memory,
             });
         };
         match load(alloc, &mut folder, keys, threshold) {
-            Ok(loaded) => Ok(Store {
+            Ok(tree) => Ok(Store {
                 folder,
                 keys: keys.copied(),
-                loaded,
+                tree,
                 opened_at: now,
                 entries: 0,
-                buffers,
+                reader,
                 alloc,
             }),
             Err(cause) => Err(Refused {
@@ -76,10 +83,10 @@ impl<D: Folder> Store<D> {
     }
 
     /// Answers a request that is made at a second since 1970-01-01: one entry of the history, of whoever has this random
-    /// source. Bytes of the reply are put into `buffer`, from its front on. `Read` and `Sync` take no memory.
+    /// source. Bytes of the reply are put into `buffer`, from its front on. Only `Walk` takes memory.
     ///
-    /// Look, Walk, OpenNode without truncation of a file, Read and Sync are answered as the tree's step does; the other
-    /// requests aren't built yet, and are refused as `tree_model`'s `not_built` says.
+    /// The requests that change nothing are answered as the tree's step does; the others aren't built yet, and are refused as
+    /// `tree_history`'s `not_built` says.
     pub fn serve<E: Entropy>(
         &mut self,
         request: &Request<'_>,
@@ -108,26 +115,20 @@ impl<D: Folder> Store<D> {
     // The reply to a request, before it is counted.
     fn reply(&mut self, request: &Request<'_>, buffer: &mut [u8]) -> Reply
         requires form { CanAsk request.now (length buffer.old) }
-        ensures answer { IsAnswerOf (disk_in (D.log self.old.folder)) self.old.keys self.old.loaded (plain_request request.now)
-            (answer_with (plain_request request.now) (plain_reply result) buffer.new) }
-        ensures caused { CausedOf (disk_in (D.log self.old.folder)) self.old.keys self.old.loaded (plain_request request.now)
-            (D.faults self.old.folder) (D.faults self.new.folder) (plain_reply result) }
-        ensures enters { is_exhausted (plain_reply result) ≡ false }
-        ensures rows { KeepsRows (plain_request request.now) (plain_reply result) }
-        ensures form { IsReplyTo (plain_request request.now) (plain_reply result)
-            (bytes_put (plain_request request.now) (plain_reply result) buffer.new) }
+        ensures replied { IsReplied (disk_in (D.log self.old.folder)) self.old.keys self.old.tree self.old.opened_at (plain_request request.now)
+            (D.faults self.old.folder) (D.faults self.new.folder) (plain_reply result) buffer.old buffer.new }
         ensures count { HasCount result }
-        ensures rest { KeepsRest (plain_request request.now) (plain_reply result) buffer.old buffer.new }
         ensures kept { KeepsTree self.old self.new }
         ensures log { D.log self.new.folder ≡ D.log self.old.folder }
         ensures changes { D.changes self.new.folder ≡ D.changes self.old.folder }
         ensures later { D.faults self.old.folder ≤ D.faults self.new.folder }
     {
+        has_sizes(&self.keys, &self.tree);
         match request {
-            Request::Look { node } => look(&self.loaded, *node),
-            Request::Walk { node, names } => walk(self.alloc, &self.loaded, *node, names),
-            Request::OpenNode { node, mode } => open_node(&self.loaded, *node, *mode),
-            Request::Create { node, .. } => not_built(&self.loaded, *node),
+            Request::Look { node } => look(&self.tree, *node),
+            Request::Walk { node, names } => walk(self.alloc, &self.tree, *node, names),
+            Request::OpenNode { node, mode } => open_node(&self.tree, *node, *mode),
+            Request::Create { node, .. } => not_built(&self.tree, *node),
             Request::Read { node, at, count } => {
                 let slice = Slice {
                     at: *at,
@@ -136,19 +137,26 @@ impl<D: Folder> Store<D> {
                 read(
                     &mut self.folder,
                     &self.keys,
-                    &self.loaded,
-                    &mut self.buffers,
+                    &self.tree,
+                    &mut self.reader,
                     *node,
                     slice,
                     buffer,
                 )
             }
-            Request::List { node, .. } => not_built(&self.loaded, *node),
-            Request::Write { node, .. } => not_built(&self.loaded, *node),
-            Request::Remove { node } => not_built(&self.loaded, *node),
-            Request::StatOf { node } => not_built(&self.loaded, *node),
-            Request::Change { node, .. } => not_built(&self.loaded, *node),
-            Request::Sync { node } => sync(&self.loaded, *node),
+            Request::List { node, after, count } => list(
+                &self.tree,
+                *node,
+                bytes_of(*after),
+                *count,
+                self.opened_at,
+                buffer,
+            ),
+            Request::Write { node, .. } => not_built(&self.tree, *node),
+            Request::Remove { node } => not_built(&self.tree, *node),
+            Request::StatOf { node } => stat_of(&self.tree, *node, self.opened_at, buffer),
+            Request::Change { node, .. } => not_built(&self.tree, *node),
+            Request::Sync { node } => sync(&self.tree, *node),
         }
     }
 
@@ -165,5 +173,15 @@ impl<D: Folder> Store<D> {
         ensures { result ≡ self.now.entries }
     {
         self.entries
+    }
+}
+
+// The bytes of a name, if there is one.
+fn bytes_of(name: Option<&str>) -> Option<&[u8]>
+    ensures { option_copied result ≡ option_copied name.entry }
+{
+    match name {
+        Some(name) => Some(name.as_bytes()),
+        None => None,
     }
 }

@@ -1,21 +1,17 @@
-ghost use Rattle.std.specs.Prelude.{◌≡◌, ◌≤◌, ◌+◌, ◌*◌, ◌↔◌, ℕ, List, [], length, take, drop, true, IfOk, IfErr, IfSome, IsTrue, slice_index};
+ghost use Rattle.std.specs.Prelude.{◌≡◌, ◌≤◌, ◌+◌, ◌*◌, ◌↔◌, ℕ, List, [], length, take, drop, true, IfOk, IfErr, IfSome, IsSome, IsTrue, slice_index};
 ghost use Rattle.tree_model.specs.Names.{IsWalk, names_in};
 ghost use Rattle.tree_model.specs.Rows.{Row, row_of};
-ghost use Rattle.tree_model.specs.Asked.{look as look_request, open_node as open_request, walk as walk_request, sync as sync_request, PlainRequest, bytes_put, plain_reply, IsReplyTo, HasCount};
-ghost use Rattle.tree_model.specs.Step.{says, node_of, walked_by, walk_answer};
-ghost use Rattle.vault_store.specs.Tree.{ForRows, IsReplyIn, IsWay, IsWhole, StandsFor, qid_at};
-ghost use Rattle.vault_store.specs.Answers.{IsNotBuilt, ReplyCause, KeepsRows, is_own};
+ghost use Rattle.tree_model.specs.Asked.{walk as walk_request, PlainRequest, plain_reply, refused, IsReplyTo, HasCount};
+ghost use Rattle.tree_model.specs.Step.{says, walked_by, walk_answer};
+ghost use Rattle.clear_tree.specs.Kept.{IsTree, node_of};
+ghost use Rattle.tree_answers.specs.Answers.{unbuilt};
+ghost use Rattle.vault_store.specs.Tree.{ForRows, IsPlainReply, IsWay, IsWhole, StandsFor, bad_name_refusal, parent_in, qid_at};
+ghost use Rattle.vault_store.specs.Answers.{ReplyCause, is_own};
 
+use clear_tree::{Tree, What};
 use name_cipher::{BadName, clear_name};
 use std::alloc::{AllocError, Global};
 use tree_model::{Names, Qid, Refusal, Reply};
-use vault_layout::Loaded;
-
-/// The number of the root.
-pub(crate) const ROOT: u64 = 0;
-
-// The bit of an open mode that truncates (OTRUNC, open(5)).
-const TRUNCATE: u8 = 0x10;
 
 // The name of a node's parent.
 const PARENT: &[u8] = b"..";
@@ -23,98 +19,55 @@ const PARENT: &[u8] = b"..";
 // The most names that a walk has.
 const NAME_LIMIT: usize = 16;
 
-/// The reply to a look at a node.
-pub(crate) fn look(loaded: &Loaded, node: u64) -> Reply
-    ensures answer { IsReplyIn loaded.now (look_request node) (plain_reply result) }
-    ensures caused { (before : ℕ) (after : ℕ) → ReplyCause (look_request node) before after (plain_reply result) }
-    ensures form { IsReplyTo (look_request node) (plain_reply result) [] }
+/// The reply to a request for a node that isn't built yet.
+pub(crate) fn not_built(tree: &Tree, number: u64) -> Reply
+    ensures refused { plain_reply result ≡ refused (unbuilt (node_of tree.now number)) }
     ensures count { HasCount result }
 {
-    if has_node(loaded, node) {
-        Reply::Qid(qid(node))
-    } else {
-        Reply::Refused(Refusal::Removed)
-    }
-}
-
-/// The reply to opening a node: directories aren't opened yet, nor is anything truncated.
-pub(crate) fn open_node(loaded: &Loaded, node: u64, mode: u8) -> Reply
-    ensures answer { IsReplyIn loaded.now (open_request node mode) (plain_reply result) }
-    ensures caused { (before : ℕ) (after : ℕ) → ReplyCause (open_request node mode) before after (plain_reply result) }
-    ensures rows { KeepsRows (open_request node mode) (plain_reply result) }
-    ensures form { IsReplyTo (open_request node mode) (plain_reply result) [] }
-    ensures count { HasCount result }
-{
-    if !has_node(loaded, node) {
-        Reply::Refused(Refusal::Removed)
-    } else if mode & TRUNCATE != 0 {
-        Reply::Refused(Refusal::NotPermitted)
-    } else if node == ROOT {
-        Reply::Refused(Refusal::IsADirectory)
-    } else {
-        Reply::Qid(qid(node))
-    }
-}
-
-/// The reply to a sync, where nothing is ever pending.
-pub(crate) fn sync(loaded: &Loaded, node: u64) -> Reply
-    ensures answer { IsReplyIn loaded.now (sync_request node) (plain_reply result) }
-    ensures caused { (before : ℕ) (after : ℕ) → ReplyCause (sync_request node) before after (plain_reply result) }
-    ensures form { IsReplyTo (sync_request node) (plain_reply result) [] }
-    ensures count { HasCount result }
-{
-    if has_node(loaded, node) {
-        Reply::Done
-    } else {
-        Reply::Refused(Refusal::Removed)
-    }
-}
-
-/// The reply to a request that isn't built yet.
-pub(crate) fn not_built(loaded: &Loaded, node: u64) -> Reply
-    ensures answer { (request : PlainRequest) → IsNotBuilt request → node_of request ≡ node → IsReplyIn loaded.now request (plain_reply result) }
-    ensures caused { (request : PlainRequest) (before : ℕ) (after : ℕ) → ReplyCause request before after (plain_reply result) }
-    ensures rows { (request : PlainRequest) → KeepsRows request (plain_reply result) }
-    ensures bytes { (request : PlainRequest) (buffer : List ℕ) → bytes_put request (plain_reply result) buffer ≡ [] }
-    ensures form { (request : PlainRequest) → IsReplyTo request (plain_reply result) [] }
-    ensures count { HasCount result }
-{
-    if has_node(loaded, node) {
-        Reply::Refused(Refusal::NotPermitted)
-    } else {
-        Reply::Refused(Refusal::Removed)
+    match tree.node(number) {
+        Some(_) => Reply::Refused(Refusal::NotPermitted),
+        None => Reply::Refused(Refusal::Removed),
     }
 }
 
 /// The reply to a walk.
-pub(crate) fn walk(alloc: Global, loaded: &Loaded, node: u64, names: &Names<'_>) -> Reply
+pub(crate) fn walk(alloc: Global, tree: &Tree, from: u64, names: &Names<'_>) -> Reply
     requires names { IsWalk names.now.count names.now.bytes.now }
-    ensures answer { IsReplyIn loaded.now (walk_request node (names_in names.now.count names.now.bytes.now)) (plain_reply result) }
-    ensures caused { (before : ℕ) (after : ℕ) → ReplyCause (walk_request node (names_in names.now.count names.now.bytes.now)) before after (plain_reply result) }
-    ensures form { IsReplyTo (walk_request node (names_in names.now.count names.now.bytes.now)) (plain_reply result) [] }
+    ensures replied { IsPlainReply tree.now (walk_request from (names_in names.now.count names.now.bytes.now)) (plain_reply result) }
     ensures count { HasCount result }
 {
-    if !has_node(loaded, node) {
-        return Reply::Refused(Refusal::Removed);
-    }
-    match follow(alloc, loaded, node, names) {
-        Ok(way) => walk_reply(way),
-        Err(AllocError) => Reply::Refused(Refusal::OutOfMemory),
+    match tree.node(from) {
+        None => Reply::Refused(Refusal::Removed),
+        Some(_) => match follow(alloc, tree, from, names) {
+            Ok(way) => walk_reply(way),
+            Err(AllocError) => Reply::Refused(Refusal::OutOfMemory),
+        },
     }
 }
 
-// Whether there is a node of this number: the root, or a file.
-fn has_node(loaded: &Loaded, node: u64) -> bool
-    ensures { IsTrue result ↔ (node ≤ length loaded.now.files) }
+/// States what each tree is.
+pub(crate) fn is_tree(tree: &Tree)
+    ensures { IsTree tree.now }
 {
-    node <= loaded.len() as u64
+    let _count = tree.len();
+}
+
+// The number of the parent of a node that is a directory.
+fn parent_of(tree: &Tree, number: u64) -> Option<u64>
+    ensures { result ≡ parent_in tree.now number }
+{
+    let node = tree.node(number)?;
+    match node.what() {
+        What::Dir { .. } => Some(node.parent()),
+        _ => None,
+    }
 }
 
 // The qid of the node of a number.
-fn qid(node: u64) -> Qid
-    ensures { result ≡ qid_at node }
+fn qid(tree: &Tree, number: u64) -> Qid
+    ensures { result ≡ qid_at tree.now number }
 {
-    let kind = if node == ROOT {
+    let kind = if parent_of(tree, number).is_some() {
         Qid::DIRECTORY
     } else {
         Qid::FILE
@@ -122,7 +75,7 @@ fn qid(node: u64) -> Qid
     Qid {
         kind,
         version: 0,
-        path: node,
+        path: number,
     }
 }
 
@@ -152,21 +105,21 @@ fn walk_reply(way: Way) -> Reply
 }
 
 // The way from a node along names.
-fn follow(alloc: Global, loaded: &Loaded, from: u64, names: &Names<'_>) -> Result<Way, AllocError>
+fn follow(alloc: Global, tree: &Tree, from: u64, names: &Names<'_>) -> Result<Way, AllocError>
     requires names { IsWalk names.now.count names.now.bytes.now }
-    ensures way { IfOk result (λ w. IsWay loaded.now from (names_in names.now.count names.now.bytes.now) (take w.count w.qids) w.end) }
+    ensures way { IfOk result (λ w. IsWay tree.now from (names_in names.now.count names.now.bytes.now) (take w.count w.qids) w.end) }
     ensures whole { IfOk result (λ w. IsWhole w.count w.end (names_in names.now.count names.now.bytes.now)) }
     ensures own { IfOk result (λ w. IfSome w.end (λ refusal. is_own refusal ≡ true)) }
     ensures room { IfOk result (λ w. w.count ≤ 16) }
 {
-    let mut qids = [qid(ROOT); NAME_LIMIT];
+    let mut qids = [qid(tree, from); NAME_LIMIT];
     let mut at = from;
     let mut bytes = names.bytes;
     for count in 0..names.count as usize {
         let (name, rest) = split_name(bytes);
-        match walk_one(alloc, loaded, at, name)? {
+        match walk_one(alloc, tree, at, name)? {
             Ok(node) => {
-                qids[count] = qid(node);
+                qids[count] = qid(tree, node);
                 at = node;
             }
             Err(refusal) => {
@@ -199,27 +152,41 @@ fn split_name(bytes: &[u8]) -> (&[u8], &[u8])
 // The node that a name leads to from a node, or what refuses it.
 fn walk_one(
     alloc: Global,
-    loaded: &Loaded,
+    tree: &Tree,
     from: u64,
     name: &[u8],
 ) -> Result<Result<u64, Refusal>, AllocError>
-    ensures stands { IfOk result (λ next. ForRows loaded.now (λ rows. (row : Row) → row_of rows from ≡ Some row → StandsFor rows (walked_by rows row name.now) next)) }
+    ensures stands { IfOk result (λ next. ForRows tree.now (λ rows. (row : Row) → row_of rows from ≡ Some row → StandsFor rows (walked_by rows row name.now) next)) }
     ensures own { IfOk result (λ next. IfErr next (λ refusal. is_own refusal ≡ true)) }
 {
-    if from != ROOT {
+    let Some(parent) = parent_of(tree, from) else {
         return Ok(Err(Refusal::NotADirectory));
-    }
+    };
+    is_tree(tree);
     if name == PARENT {
-        return Ok(Ok(ROOT));
+        return Ok(Ok(parent));
     }
     match clear_name(alloc, name) {
         Ok(name) => Ok(
-            loaded
-                .look(name.as_bytes())
+            tree.look(from, name.as_bytes())
                 .ok_or(Refusal::FileDoesNotExist),
         ),
-        Err(BadName::Memory) => Err(AllocError),
-        Err(BadName::TooLong(_)) => Ok(Err(Refusal::NameTooLong)),
-        Err(_) => Ok(Err(Refusal::BadName)),
+        Err(fault) => match name_refusal(fault) {
+            Some(refusal) => Ok(Err(refusal)),
+            None => Err(AllocError),
+        },
+    }
+}
+
+// What refuses bytes that are no name, unless memory ran out.
+fn name_refusal(fault: BadName) -> Option<Refusal>
+    ensures { result ≡ bad_name_refusal fault }
+{
+    match fault {
+        BadName::NotUtf8 | BadName::Empty | BadName::Dots | BadName::Forbidden => {
+            Some(Refusal::BadName)
+        }
+        BadName::TooLong(_) => Some(Refusal::NameTooLong),
+        BadName::Memory => None,
     }
 }

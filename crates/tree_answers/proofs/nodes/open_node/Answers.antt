@@ -1,13 +1,10 @@
-use Rattle.std.proofs.Common.{◌≡◌, Option, Some, None, refl, sym, ap, ◌∙◌}
+use Rattle.std.proofs.Common.{sym, ap, ◌∙◌}
 use Rattle.tree_model.specs.Asked.{open_node}
 use Rattle.clear_tree.specs.Kept.{What}
 use Rattle.tree_answers.specs.Answers.{open_fault}
+use Rattle.tree_answers.proofs.Rows.{none_of}
 use Rattle.tree_answers.proofs.Steps.{removed, opened, open_refused, truncates_set, truncates_clear}
 use Rattle.tree_answers.proofs.nodes.open_node.Goals as goal
-
-none_of : {A : Type 0} (o : Option A) → ((x : A) → o ≡ Some x → ⊥) → o ≡ None
-none_of None not = refl
-none_of (Some x) not = absurd (not x refl)
 
 pub returns-in_default-clause-kept : goal.returns-in_default-clause-kept
 returns-in_default-clause-kept c = λ keeps.

@@ -11,7 +11,7 @@ split_name-requires c =
 
 pub returns-in-Err-clause-way : goal.returns-in-Err-clause-way
 returns-in-Err-clause-way c =
-    ends_refused c.args.loaded.now c.args.from (names_in c.args.names.now.count c.args.names.now.bytes.now) c.loop-count.at c.args.names.now.count c.loop-count.count c.loop-count.bytes.now
+    ends_refused c.args.tree.now c.args.from (names_in c.args.names.now.count c.args.names.now.bytes.now) c.loop-count.at c.args.names.now.count c.loop-count.count c.loop-count.bytes.now
     c.split_name.result.0.now c.split_name.result.1.now (take c.loop-count.count c.loop-count.qids) c.in_ok-node.field-0 c.in-Err.refusal
     c.loop-count-test.true c.loop-count.invariant.names c.split_name.ensures.name c.split_name.ensures.rest c.in_ok-node.ensures.stands c.in-Err.is c.loop-count.invariant.way
 
@@ -26,12 +26,12 @@ loop-count-preserved c =
     record {
       room = omega (arith, length-set c.loop-count.qids c.loop-count.count c.qid.result);
       names = names_after N k c.loop-count.bytes.now c.split_name.result.1.now below c.loop-count.invariant.names c.split_name.ensures.rest;
-      way = goes_further c.args.loaded.now c.args.from (names_in N c.args.names.now.bytes.now) c.loop-count.at N k c.loop-count.bytes.now
+      way = goes_further c.args.tree.now c.args.from (names_in N c.args.names.now.bytes.now) c.loop-count.at N k c.loop-count.bytes.now
           c.split_name.result.0.now c.split_name.result.1.now qids c.in_ok-node.field-0 c.in-Ok.node c.qid.result
           below (omega arith) c.loop-count.invariant.names c.split_name.ensures.name c.split_name.ensures.rest c.in_ok-node.ensures.stands c.in-Ok.is c.qid.ensures c.loop-count.invariant.way;
     }
 
 pub returns-clause-way : goal.returns-clause-way
 returns-clause-way c =
-    ends_whole c.args.loaded.now c.args.from (names_in c.args.names.now.count c.args.names.now.bytes.now) c.loop-count.at c.args.names.now.count c.loop-count.count c.loop-count.bytes.now
+    ends_whole c.args.tree.now c.args.from (names_in c.args.names.now.count c.args.names.now.bytes.now) c.loop-count.at c.args.names.now.count c.loop-count.count c.loop-count.bytes.now
     c.loop-count.qids (omega arith) c.loop-count.invariant.way

@@ -7,5 +7,5 @@ abbrev pub invariant-loop-count : goal.invariant-loop-count
 invariant-loop-count l = record {
   room : length l.qids ≡ 16;
   names : AreNames (l.names.count - l.count) l.bytes;
-  way : GoesOn l.loaded l.from (names_in l.names.count l.names.bytes.now) l.at (names_in (l.names.count - l.count) l.bytes) (take l.count l.qids);
+  way : GoesOn l.tree l.from (names_in l.names.count l.names.bytes.now) l.at (names_in (l.names.count - l.count) l.bytes) (take l.count l.qids);
 }

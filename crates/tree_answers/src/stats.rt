@@ -1,0 +1,105 @@
+ghost use Rattle.std.specs.Prelude.{◌≡◌, ◌≤◌, ◌+◌, length};
+ghost use Rattle.std.specs.Str.{IsUtf8};
+ghost use Rattle.tree_model.specs.Wire.{plain_stat, IsTreeStat};
+ghost use Rattle.tree_model.specs.Rows.{mode_of};
+ghost use Rattle.tree_model.specs.Asked.{IsReplyTo, KeepsRest, bytes_put, plain_reply, stat_of as stat_request};
+ghost use Rattle.clear_tree.specs.Kept.{kind_of};
+ghost use Rattle.clear_tree.specs.Built.{kept_what};
+ghost use Rattle.tree_answers.specs.Answers.{IsOfTree, IsSizedStepOf, answer_in, shown_length, stat_in};
+
+use crate::nodes::qid;
+use clear_tree::{Node, Tree, What};
+use file_chunks::clear_len;
+use ninep_wire::write_stat;
+use tree_model::{Refusal, Reply, Stat};
+
+// Who owns each node.
+const OWNER: &str = "vault";
+
+// The modes of a directory, of a file, and of what can only be read: DMDIR, and the permissions of stat(5).
+const DIRECTORY_MODE: u32 = 0x8000_01ED;
+
+const FILE_MODE: u32 = 0x1A4;
+
+const READ_ONLY_MODE: u32 = 0x124;
+
+// The bytes of a stat beside its node's name.
+const UNNAMED_STAT: usize = 64;
+
+/// The answer to a request for the stat of the node of a number, which is put into the front of `buffer`, of at least
+/// 1,088 bytes. A file's length follows from the size of its host file, and its times are the second at which the vault
+/// was unlocked.
+pub fn stat_of(tree: &Tree, number: u64, unlocked: u32, buffer: &mut [u8]) -> Reply
+    requires { 1088 ≤ length buffer.old }
+    ensures answer { IsSizedStepOf tree.now unlocked (stat_request number) (answer_in (stat_request number) (plain_reply result) buffer.new) }
+    ensures form { IsReplyTo (stat_request number) (plain_reply result) (bytes_put (stat_request number) (plain_reply result) buffer.new) }
+    ensures rest { KeepsRest (stat_request number) (plain_reply result) buffer.old buffer.new }
+    ensures own { IsOfTree (plain_reply result) }
+{
+    let Some(node) = tree.node(number) else {
+        return Reply::Refused(Refusal::Removed);
+    };
+    let stat = stat_at(number, node, unlocked);
+    Reply::Stat(write_stat(&stat, buffer) as u32)
+}
+
+/// What a client sees of a node.
+pub(crate) fn stat_at<'a>(number: u64, node: &'a Node, unlocked: u32) -> Stat<'a>
+    ensures stat { plain_stat result ≡ stat_in number unlocked node.now }
+    ensures form { IsTreeStat (stat_in number unlocked node.now) }
+{
+    Stat {
+        kind: 0,
+        device: 0,
+        qid: qid(number, node),
+        mode: mode(node.what()),
+        accessed: unlocked,
+        modified: unlocked,
+        length: len(node.what()),
+        name: name(node),
+        owner: OWNER,
+        group: OWNER,
+        modifier: OWNER,
+    }
+}
+
+/// How many bytes the stat of a node has, of a name of at most 1,024 bytes.
+pub(crate) fn stat_size(stat: &Stat<'_>) -> usize
+    requires { length stat.now.name.now ≤ 1024 }
+    ensures { result ≡ 64 + length stat.now.name.now }
+{
+    UNNAMED_STAT + stat.name.len()
+}
+
+// The name of a node.
+fn name(node: &Node) -> &str
+    ensures bytes { result.now ≡ node.now.name }
+    ensures text { IsUtf8 node.now.name }
+    ensures short { length node.now.name ≤ 1024 }
+{
+    match str::from_utf8(node.name()) {
+        Ok(name) => name,
+        Err(_) => unreachable!(),
+    }
+}
+
+// The permissions of a node.
+fn mode(what: &What) -> u32
+    ensures { result ≡ mode_of (kind_of (kept_what what.now)) }
+{
+    match what {
+        What::Dir { .. } => DIRECTORY_MODE,
+        What::File { .. } => FILE_MODE,
+        What::Link { .. } | What::Bad { .. } => READ_ONLY_MODE,
+    }
+}
+
+// The length that is shown of a node: of a file or a link of a bad size, of a directory and of a Bad node it is 0.
+fn len(what: &What) -> u64
+    ensures { result ≡ shown_length (kept_what what.now) }
+{
+    match what {
+        What::File { size } | What::Link { size } => clear_len(*size).unwrap_or(0),
+        _ => 0,
+    }
+}
