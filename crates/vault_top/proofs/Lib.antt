@@ -1,9 +1,9 @@
-pub mod Spelled
-pub mod Decoding
-pub mod Lines
 pub mod Counted
 pub mod Shares
 pub mod Written
 pub mod Outcomes
+pub mod Opened
 pub mod Reasons
+pub mod Asked
 pub mod Soundness
+pub mod SoundMaking

@@ -1,24 +1,28 @@
 -- Why the program ends as it does.
-use Rattle.std.proofs.Common.{◌≡◌, ℕ, zero, suc, ◌≤◌, List, [], ◌∷◌, ◌++◌, map, flat_map, eq-eqb, ne_eqb, Option, Some, refl, sym, ap, subst, ◌∙◌, inl, inr, arith}
+use Rattle.std.proofs.Common.{◌≡◌, ◌⊎◌, ℕ, zero, suc, ◌≤◌, List, [], ◌∷◌, ◌++◌, map, flat_map, eq-eqb, ne_eqb, Option, Some, refl, sym, ap, subst, ◌∙◌, inl, inr, arith}
 use Rattle.std.specs.List.{AllByRecursion}
 use Rattle.std.proofs.lemmas.Bool.{le-ltb}
 use Rattle.std.proofs.lemmas.List.{append-nil}
 use Rattle.outside.specs.Calls.{Rose, Told}
 use Rattle.outside.specs.Images.{Log, disk_in}
-use Rattle.outside.specs.Views.{FolderView}
+use Rattle.outside.specs.Views.{FolderView, EntropyView}
 use Rattle.outside.proofs.Told.{told_then, unchanged}
 use Rattle.tree_model.specs.Asked.{Asked, entered}
 use Rattle.tree_history.specs.History.{Entry, entries_of, Tally, next, after, Origin, tally_at, tally_of, IsLegal}
 use Rattle.session_server.specs.declared.ending.SessionEnd.{SessionEnd}
+use Rattle.tree_loading.specs.Clear.{IsClear}
 use Rattle.vault_store.specs.Store.{IsStoreOf, IsOnlyRead, folder_in, moment_of}
 use Rattle.vault_store.specs.Served.{IsStoreFor, AreAdded, store_in}
 use Rattle.vault_store.specs.declared.store.Store.{Store}
+use Rattle.vault_words.specs.Jobs.{Serving, serve, make}
+use Rattle.vault_causes.specs.declared.cause.Cause.{Cause}
+use Rattle.vault_causes.specs.declared.cause.Cause.TheVariants.{Words, Memory}
+use Rattle.vault_top.specs.Words.{Ask, AreRefused, kind_of}
 use Rattle.vault_top.specs.Span.{Course, SourceView, SinkView, Views, WorkerSpan, worker_span, worker_spans, given_of, span_of}
 use Rattle.vault_top.specs.Served.{share_of, Share, IsShare, AreShares, asked_by, entropy_before, entropy_after}
-use Rattle.vault_top.specs.Ending.{Ending, refused, IsRefused, AreIdle, IsServed, Never, ListenerFailed, HasReason, IsReported, HasRun}
-use Rattle.vault_top.specs.Refusing.{IsUnlockedStore}
+use Rattle.vault_top.specs.Opening.{IsUnopened, IsUnlockedStore}
+use Rattle.vault_top.specs.Ending.{Ending, refused, AreIdle, IsUntouched, IsMaking, DrawsAlone, IsServed, Never, ListenerFailed, HasReason, IsReported, HasRun}
 use Rattle.vault_top.specs.Serving.{FailedIn, HasOutcome, HasServedWorker, HasServedVault, MayEnd}
-use Rattle.vault_top.specs.declared.cause.Cause.{Cause}
 use Rattle.vault_top.specs.declared.program.Worker.{Worker}
 use Rattle.vault_top.specs.declared.program.Ended.{Ended}
 use Rattle.vault_top.specs.declared.serving.HandedBack.{HandedBack}
@@ -124,20 +128,22 @@ up_to_entropy views first others worker origin entries by same few (suc j) =
 
 -- ---- a vault that was served
 
-served_of : {D N C E : Type 0} (views : Views D N C E) (words : List (List ℕ)) (secret : Course SourceView) (second : Option ℕ) (folder : D) (store : Store D) (first : Worker N E) (others : List (Worker N E))
-    (back : HandedBack D N E) (MayStop : WorkerSpan C → Type 0) → IsUnlockedStore views.folder (given_of views.folder words secret second folder folder) folder store
+served_of : {D N C E : Type 0} (views : Views D N C E) (words : List (List ℕ)) (secret : Course SourceView) (second : Option ℕ) (folder : D) (serving : Serving) (store : Store D) (first : Worker N E) (others : List (Worker N E))
+    (back : HandedBack D N E) (MayStop : WorkerSpan C → Type 0) → Ask words (serve serving)
+    → IsUnlockedStore views.folder (given_of views.folder secret second folder folder) (kind_of serving) folder store
     → (h : HasServedWorker views second store first back) → (FailedIn (ListenerFailed (worker_span views first back.worker)) back.outcome → MayStop (worker_span views first back.worker))
     → IsServed views (span_of views words secret second folder back.folder (first ∷ others) (back.worker ∷ others)) MayStop h.ends
-served_of {D = D} {C = C} {E = E} views words secret second folder store first others back MayStop unlocked h only =
+served_of {D = D} {C = C} {E = E} views words secret second folder serving store first others back MayStop asked unlocked h only =
     let opened = unlocked.opened in
+    let before = read_then (views.folder folder) (views.folder unlocked.looked) (views.folder (folder_in store)) unlocked.read opened.read in
     let origin : Origin = record {
       folder_faults = (views.folder folder).faults;
       entropy_faults = entropy_before (worker_spans views (first ∷ others) (back.worker ∷ others));
       moment = moment_of (views.folder folder).log;
     } in
-    let same_log : (views.folder (folder_in store)).log ≡ (views.folder folder).log = opened.read.log in
+    let same_log : (views.folder (folder_in store)).log ≡ (views.folder folder).log = before.log in
     let stands : IsStoreOf views.folder store opened.rows origin [] =
-    opened.stands origin opened.read.faults (omega (arith, ap moment_of same_log)) in
+    opened.stands origin before.faults (omega (arith, ap moment_of same_log)) in
     let start : IsStoreFor views.folder views.entropy h.start opened.rows origin [] = record {
       store = subst (λ (s : Store D). IsStoreOf views.folder s opened.rows origin []) (sym h.store_is) stands;
       entropy = omega (arith, ap (λ (e : E). (views.entropy e).faults) h.entropy_is);
@@ -147,10 +153,12 @@ served_of {D = D} {C = C} {E = E} views words secret second folder store first o
     let now = added.2 in
     let kept : IsOnlyRead (views.folder (folder_in store)) (views.folder (folder_in (store_in h.now))) =
     subst (λ (s : Store D). IsOnlyRead (views.folder (folder_in s)) (views.folder (folder_in (store_in h.now)))) h.store_is h.answered.folder in
-    let read = read_then (views.folder folder) (views.folder (folder_in store)) (views.folder (folder_in (store_in h.now))) opened.read kept in
+    let read = read_then (views.folder folder) (views.folder (folder_in store)) (views.folder (folder_in (store_in h.now))) before kept in
     record {
-      keys = unlocked.keys;
-      unlocked = record { words = unlocked.unlocked.words; spelled = unlocked.unlocked.spelled; line = unlocked.unlocked.line };
+      serving = serving;
+      words = asked;
+      vault = unlocked.vault;
+      unlocked = record { gave = unlocked.unlocked.gave; line = unlocked.unlocked.line };
       shares = h.share ∷ no_shares others;
       are = (
         record {
@@ -175,36 +183,41 @@ served_of {D = D} {C = C} {E = E} views words secret second folder store first o
           moment = omega (arith, now.store.moment, ap moment_of h.closed.log);
         };
         unlocked = unlocked.now;
-        clear = opened.clear;
+        clear = subst (λ (log : Option Log). Told (disk_in log) (λ disk. IsClear unlocked.vault.keys disk unlocked.now opened.rows)) unlocked.read.log opened.clear;
         second = unlocked.second;
         read = read;
         closed = h.closed;
       };
+      undrawn = (
+        ap (λ (e : E). (views.entropy e).drawn) (sym h.left) ∙ h.answered.entropy.drawn ∙ ap (λ (e : E). (views.entropy e).drawn) h.entropy_is,
+        undrawn views others,
+      );
       ended = ap (λ (ends : List SessionEnd). map (λ link. link.end) h.share.links ++ ends) (no_ends C others) ∙ append-nil (map (λ link. link.end) h.share.links) ∙ h.ended;
     }
 
-reason_of : {D N C E : Type 0} (views : Views D N C E) (words : List (List ℕ)) (secret : Course SourceView) (second : Option ℕ) (folder : D) (store : Store D) (first : Worker N E) (others : List (Worker N E))
-    (back : HandedBack D N E) (outcome : Outcome) (ending : Ending) → back.outcome ≡ outcome → IsUnlockedStore views.folder (given_of views.folder words secret second folder folder) folder store
+reason_of : {D N C E : Type 0} (views : Views D N C E) (words : List (List ℕ)) (secret : Course SourceView) (second : Option ℕ) (folder : D) (serving : Serving) (store : Store D) (first : Worker N E) (others : List (Worker N E))
+    (back : HandedBack D N E) (outcome : Outcome) (ending : Ending) → back.outcome ≡ outcome → Ask words (serve serving)
+    → IsUnlockedStore views.folder (given_of views.folder secret second folder folder) (kind_of serving) folder store
     → (h : HasServedWorker views second store first back) → MayEnd h.ends outcome ending
     → HasReason views (span_of views words secret second folder back.folder (first ∷ others) (back.worker ∷ others)) ending
 unfolding served_of
-reason_of views words secret second folder store first others back (Served counts) ending same unlocked h (inl e) =
+reason_of views words secret second folder serving store first others back (Served counts) ending same asked unlocked h (inl e) =
     subst (λ (x : Ending). HasReason views (span_of views words secret second folder back.folder (first ∷ others) (back.worker ∷ others)) x) (sym e)
-    (served_of views words secret second folder store first others back Never unlocked h
+    (served_of views words secret second folder serving store first others back Never asked unlocked h
     (λ failed. subst (λ (o : Outcome). FailedIn (ListenerFailed (worker_span views first back.worker)) o) same failed))
-reason_of views words secret second folder store first others back (Served counts) ending same unlocked h (inr e) =
+reason_of views words secret second folder serving store first others back (Served counts) ending same asked unlocked h (inr e) =
     subst (λ (x : Ending). HasReason views (span_of views words secret second folder back.folder (first ∷ others) (back.worker ∷ others)) x) (sym e)
-    (served_of views words secret second folder store first others back ListenerFailed unlocked h
+    (served_of views words secret second folder serving store first others back ListenerFailed asked unlocked h
     (λ failed. absurd (subst (λ (o : Outcome). FailedIn (ListenerFailed (worker_span views first back.worker)) o) same failed)))
-reason_of views words secret second folder store first others back ListenerFault ending same unlocked h e =
+reason_of views words secret second folder serving store first others back ListenerFault ending same asked unlocked h e =
     subst (λ (x : Ending). HasReason views (span_of views words secret second folder back.folder (first ∷ others) (back.worker ∷ others)) x) (sym e) (
-      served_of views words secret second folder store first others back ListenerFailed unlocked h
+      served_of views words secret second folder serving store first others back ListenerFailed asked unlocked h
           (λ failed. subst (λ (o : Outcome). FailedIn (ListenerFailed (worker_span views first back.worker)) o) same failed),
       inl (subst (λ (o : Outcome). HasOutcome (ListenerFailed (worker_span views first back.worker)) (Rose (views.folder (folder_in (store_in h.now))).faults (views.folder back.folder).faults) h.ends o) same h.outcome),
     )
-reason_of views words secret second folder store first others back FolderFault ending same unlocked h e =
+reason_of views words secret second folder serving store first others back FolderFault ending same asked unlocked h e =
     subst (λ (x : Ending). HasReason views (span_of views words secret second folder back.folder (first ∷ others) (back.worker ∷ others)) x) (sym e) (
-      served_of views words secret second folder store first others back ListenerFailed unlocked h
+      served_of views words secret second folder serving store first others back ListenerFailed asked unlocked h
           (λ failed. subst (λ (o : Outcome). FailedIn (ListenerFailed (worker_span views first back.worker)) o) same failed),
       subst (λ (o : Outcome). HasOutcome (ListenerFailed (worker_span views first back.worker)) (Rose (views.folder (folder_in (store_in h.now))).faults (views.folder back.folder).faults) h.ends o) same h.outcome,
     )
@@ -217,47 +230,90 @@ run_as {N = N} {E = E} views words secret second folder a b a' b' sink ended e f
     subst (λ (w : List (Worker N E)). HasRun views words secret second folder w a' sink ended) (sym e)
     (subst (λ (w : List (Worker N E)). HasRun views words secret second folder b w sink ended) (sym f) h)
 
-run_first : {D N C E : Type 0} (views : Views D N C E) (words : List (List ℕ)) (secret : Course SourceView) (second : Option ℕ) (folder : D) (store : Store D) (workers workers' : List (Worker N E))
-    (sink : Course SinkView) (ended : Ended D) → IsUnlockedStore views.folder (given_of views.folder words secret second folder folder) folder store
+run_first : {D N C E : Type 0} (views : Views D N C E) (words : List (List ℕ)) (secret : Course SourceView) (second : Option ℕ) (folder : D) (serving : Serving) (store : Store D) (workers workers' : List (Worker N E))
+    (sink : Course SinkView) (ended : Ended D) → Ask words (serve serving)
+    → IsUnlockedStore views.folder (given_of views.folder secret second folder folder) (kind_of serving) folder store
     → (h : HasServedVault views second store workers workers' sink ended)
     → HasRun views words secret second folder (h.first ∷ h.others) (h.back.worker ∷ h.others) sink ended
-run_first {D = D} {E = E} views words secret second folder store workers workers' sink ended unlocked h =
-    let s = h.served in
-    let kept : IsOnlyRead (views.folder (folder_in store)) (views.folder (folder_in (store_in s.now))) =
-    subst (λ (x : Store D). IsOnlyRead (views.folder (folder_in x)) (views.folder (folder_in (store_in s.now)))) s.store_is s.answered.folder in
-    record {
-      ending = h.ending;
-      kept = h.back.folder;
-      folder_is = h.folder_is;
-      read = read_then (views.folder folder) (views.folder (folder_in store)) (views.folder h.back.folder) unlocked.opened.read
-          (read_then (views.folder (folder_in store)) (views.folder (folder_in (store_in s.now))) (views.folder h.back.folder) kept s.closed);
-      count = refl;
-      undrawn = (
-        ap (λ (e : E). (views.entropy e).drawn) (sym s.left) ∙ s.answered.entropy.drawn ∙ ap (λ (e : E). (views.entropy e).drawn) s.entropy_is,
-        undrawn views h.others,
-      );
-      reason = reason_of views words secret second folder store h.first h.others h.back h.back.outcome h.ending refl unlocked s h.may;
-      reported = h.reported;
-    }
+run_first views words secret second folder serving store workers workers' sink ended asked unlocked h = record {
+  ending = h.ending;
+  kept = h.back.folder;
+  folder_is = h.folder_is;
+  count = refl;
+  reason = reason_of views words secret second folder serving store h.first h.others h.back h.back.outcome h.ending refl asked unlocked h.served h.may;
+  reported = h.reported;
+}
 
-pub run_served : {D N C E : Type 0} (views : Views D N C E) (words : List (List ℕ)) (secret : Course SourceView) (second : Option ℕ) (folder : D) (store : Store D) (workers workers' : List (Worker N E))
-    (sink : Course SinkView) (ended : Ended D) → IsUnlockedStore views.folder (given_of views.folder words secret second folder folder) folder store
+pub run_served : {D N C E : Type 0} (views : Views D N C E) (words : List (List ℕ)) (secret : Course SourceView) (second : Option ℕ) (folder : D) (serving : Serving) (store : Store D) (workers workers' : List (Worker N E))
+    (sink : Course SinkView) (ended : Ended D) → Ask words (serve serving)
+    → IsUnlockedStore views.folder (given_of views.folder secret second folder folder) (kind_of serving) folder store
     → HasServedVault views second store workers workers' sink ended → HasRun views words secret second folder workers workers' sink ended
-run_served views words secret second folder store workers workers' sink ended unlocked h =
+run_served views words secret second folder serving store workers workers' sink ended asked unlocked h =
     run_as views words secret second folder workers (h.first ∷ h.others) workers' (h.back.worker ∷ h.others) sink ended h.workers_are h.workers_after
-    (run_first views words secret second folder store workers workers' sink ended unlocked h)
+    (run_first views words secret second folder serving store workers workers' sink ended asked unlocked h)
 
-pub run_refused : {D N C E : Type 0} (views : Views D N C E) (words : List (List ℕ)) (secret : Course SourceView) (second : Option ℕ) (folder kept : D) (workers : List (Worker N E))
-    (sink : Course SinkView) (ended : Ended D) (cause : Cause) → ended.folder ≡ Some kept → IsRefused (given_of views.folder words secret second folder kept) cause
-    → IsOnlyRead (views.folder folder) (views.folder kept) → IsReported sink (refused cause) ended.status
+pub run_unserved : {D N C E : Type 0} (views : Views D N C E) (words : List (List ℕ)) (secret : Course SourceView) (second : Option ℕ) (folder kept : D) (serving : Serving) (workers : List (Worker N E))
+    (sink : Course SinkView) (ended : Ended D) (cause : Cause) → Ask words (serve serving) → ended.folder ≡ Some kept
+    → IsUnopened (given_of views.folder secret second folder kept) (kind_of serving) cause → IsReported sink (refused cause) ended.status
     → HasRun views words secret second folder workers workers sink ended
-run_refused views words secret second folder kept workers sink ended cause is why read reported = record {
+run_unserved views words secret second folder kept serving workers sink ended cause asked is why reported = record {
   ending = refused cause;
   kept = kept;
   folder_is = is;
-  read = read;
   count = refl;
-  undrawn = undrawn views workers;
-  reason = (why, idle views workers);
+  reason = inr (inl (record { serving = serving; words = asked; unopened = why; idle = idle views workers }));
   reported = reported;
 }
+
+-- a run that touches nothing
+untouched_by : {D N C E : Type 0} (views : Views D N C E) (words : List (List ℕ)) (secret : SourceView) (second : Option ℕ) (folder : D) (workers : List (Worker N E))
+    → IsUntouched (span_of views words (record { before = secret; after = secret }) second folder folder workers workers)
+untouched_by views words secret second folder workers = record { secret = refl; folder = refl; idle = idle views workers }
+
+pub run_untouched : {D N C E : Type 0} (views : Views D N C E) (words : List (List ℕ)) (secret : SourceView) (second : Option ℕ) (folder : D) (workers : List (Worker N E))
+    (sink : Course SinkView) (ended : Ended D) (ending : Ending) → ended.folder ≡ Some folder
+    → (IsUntouched (span_of views words (record { before = secret; after = secret }) second folder folder workers workers)
+    → HasReason views (span_of views words (record { before = secret; after = secret }) second folder folder workers workers) ending)
+    → IsReported sink ending ended.status
+    → HasRun views words (record { before = secret; after = secret }) second folder workers workers sink ended
+run_untouched views words secret second folder workers sink ended ending is why reported = record {
+  ending = ending;
+  kept = folder;
+  folder_is = is;
+  count = refl;
+  reason = why (untouched_by views words secret second folder workers);
+  reported = reported;
+}
+
+pub run_badly_asked : {D N C E : Type 0} (views : Views D N C E) (words : List (List ℕ)) (secret : SourceView) (second : Option ℕ) (folder : D) (workers : List (Worker N E))
+    (sink : Course SinkView) (ended : Ended D) (cause : Cause) → ended.folder ≡ Some folder → ((cause ≡ Words) × AreRefused words) ⊎ (cause ≡ Memory)
+    → IsReported sink (refused cause) ended.status
+    → HasRun views words (record { before = secret; after = secret }) second folder workers workers sink ended
+run_badly_asked views words secret second folder workers sink ended cause is why reported =
+    run_untouched views words secret second folder workers sink ended (refused cause) is (λ untouched. inl (record { why = why; untouched = untouched })) reported
+
+-- ---- a vault that was to be made
+
+draws_alone : {D N C E : Type 0} (views : Views D N C E) (listener : N) (entropy entropy' : E) (others : List (Worker N E)) (P : Course EntropyView → Type 0)
+    → P (record { before = views.entropy entropy; after = views.entropy entropy' })
+    → DrawsAlone P (worker_spans views (record { listener = listener; entropy = entropy } ∷ others) (record { listener = listener; entropy = entropy' } ∷ others))
+draws_alone views listener entropy entropy' others P h = (refl, h, idle views others)
+
+-- the first worker was put back with its random source as it was then
+pub run_making : {D N C E : Type 0} (views : Views D N C E) (words : List (List ℕ)) (secret : Course SourceView) (second : Option ℕ) (folder kept : D) (dir : List ℕ) (first : Worker N E) (entropy : E) (others workers workers' : List (Worker N E))
+    (sink : Course SinkView) (ended : Ended D) (ending : Ending) (P : Course EntropyView → Type 0) → Ask words (make dir) → ended.folder ≡ Some kept → workers ≡ first ∷ others
+    → workers' ≡ record { listener = first.listener; entropy = entropy } ∷ others
+    → P (record { before = views.entropy first.entropy; after = views.entropy entropy })
+    → (IsMaking (span_of views words secret second folder kept (first ∷ others) (record { listener = first.listener; entropy = entropy } ∷ others)) P
+    → HasReason views (span_of views words secret second folder kept (first ∷ others) (record { listener = first.listener; entropy = entropy } ∷ others)) ending)
+    → IsReported sink ending ended.status
+    → HasRun views words secret second folder workers workers' sink ended
+run_making views words secret second folder kept dir first entropy others workers workers' sink ended ending P asked is same same' h why reported =
+    run_as views words secret second folder workers (first ∷ others) workers' (record { listener = first.listener; entropy = entropy } ∷ others) sink ended same same' (record {
+      ending = ending;
+      kept = kept;
+      folder_is = is;
+      count = refl;
+      reason = why (record { dir = dir; words = asked; drawn = draws_alone views first.listener first.entropy entropy others P h });
+      reported = reported;
+    })

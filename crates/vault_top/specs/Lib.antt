@@ -1,11 +1,11 @@
 pub mod Words
-pub mod Secret
+pub mod Tasks
 pub mod Report
 pub mod Span
 pub mod Served
+pub mod Opening
+pub mod Making
 pub mod Ending
-pub mod Reading
 pub mod Writing
-pub mod Refusing
 pub mod Serving
 pub mod Sound

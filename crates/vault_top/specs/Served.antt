@@ -9,7 +9,7 @@ use Rattle.tree_model.specs.Rows.{Rows}
 use Rattle.tree_model.specs.Asked.{Asked, entered}
 use Rattle.tree_history.specs.History.{Entry, entries_of, Origin, tally_of, IsLegal, IsUpTo}
 use Rattle.session_server.specs.Served.{ServedLink, TalkedOnEach, GaveBack}
-use Rattle.vault_layout.specs.Clear.{IsClear}
+use Rattle.tree_loading.specs.Clear.{IsClear}
 use Rattle.vault_store.specs.Store.{IsStoreOf, IsOnlyRead, folder_in, moment_of}
 use Rattle.vault_store.specs.declared.store.Store.{Store}
 use Rattle.vault_top.specs.Span.{Views, WorkerSpan, Span}

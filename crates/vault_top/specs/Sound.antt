@@ -1,21 +1,34 @@
--- What the program is given that is sound: good words, a secret with keys, and a disk with the root's folder, all told; and that nothing
--- failed.
-use Rattle.std.specs.Prelude.{IsSomeAnd, ⊤}
+-- What the program is given that is sound, and that nothing failed. To serve, the words ask for it, and secret and disk are told, of which
+-- the one unlocks the other; to make, the words ask for it, and the secret has a password and the folder is empty, both told.
+use Rattle.std.specs.Prelude.{◌≡◌, ◌⊎◌, ℕ, List, [], ◌∷◌, Some, Ok, IsSome, IsSomeAnd, ⊤}
 use Rattle.outside.specs.Calls.{Rose}
-use Rattle.outside.specs.Disk.{IsFolder}
-use Rattle.outside.specs.Images.{disk_in}
-use Rattle.vault_layout.specs.Clear.{root_folder}
-use Rattle.vault_top.specs.Words.{AreWords}
-use Rattle.vault_top.specs.Secret.{line_of, raw_keys}
-use Rattle.vault_top.specs.Span.{Given, Span}
-use Rattle.vault_top.specs.Ending.{Ending, refused, served, listener_fault, closing_fault, no_memory_to_report, SomeFailed}
-use Rattle.vault_top.specs.declared.cause.Cause.{Cause}
-use Rattle.vault_top.specs.declared.cause.Cause.TheVariants.{Words, Secret, SecretFault, NoRoot, FolderFault, Memory}
+use Rattle.outside.specs.Disk.{Disk, IsFolder}
+use Rattle.outside.specs.Images.{now, disk_in}
+use Rattle.clap.specs.Words.{Text}
+use Rattle.masterkey_file.specs.Password.{password_of}
+use Rattle.vault_keys.specs.Unlock.{UnlockedVault}
+use Rattle.vault_unlock.specs.Unlock.{unlock_on}
+use Rattle.vault_unlock.specs.declared.unlocking.SecretKind.{SecretKind}
+use Rattle.vault_words.specs.Jobs.{Serving, serve, make}
+use Rattle.vault_make.specs.Vault.{IsEmpty}
+use Rattle.tree_loading.specs.Clear.{HasTooMany, root_folder}
+use Rattle.vault_causes.specs.declared.cause.Cause.TheVariants.{Memory}
+use Rattle.vault_top.specs.Words.{Ask, kind_of}
+use Rattle.vault_top.specs.Span.{WorkerSpan, Span}
+use Rattle.vault_top.specs.Ending.{Ending, refused, usage_said, version_said, made, served, listener_fault, closing_fault, no_memory_to_report, SomeFailed}
 
-pub record IsSound (given : Given) : Type 0 where
-  pub words : AreWords given.words
-  pub vault : IsSomeAnd given.secret.before.left (λ bytes. IsSomeAnd (raw_keys (line_of bytes)) (λ keys.
-      IsSomeAnd (disk_in given.folder.before.log) (λ disk. IsFolder disk (root_folder keys))))
+-- the disk is that of a vault which the secret unlocks, with a folder for the root and no more nodes than a tree may have
+pub record IsVaultFor (kind : SecretKind) (secret : List ℕ) (disk : Disk) : Type 0 where
+  pub vault : UnlockedVault
+  pub unlocks : unlock_on kind secret disk ≡ Ok vault
+  pub root : IsFolder disk (root_folder vault.keys)
+  pub few : (n : ℕ) → HasTooMany vault.keys (Some disk) n → ⊥
+
+pub record IsSound {C : Type 0} (span : Span C) : Type 0 where
+  pub serving : Serving
+  pub words : Ask span.words (serve serving)
+  pub vault : IsSomeAnd span.given.secret.before.left (λ secret.
+      IsSomeAnd (disk_in span.given.folder.before.log) (IsVaultFor (kind_of serving) secret))
 
 -- no count of faults rose
 pub record IsFaultless {C : Type 0} (span : Span C) : Type 0 where
@@ -23,19 +36,37 @@ pub record IsFaultless {C : Type 0} (span : Span C) : Type 0 where
   pub folder : Rose span.given.folder.before.faults span.given.folder.after.faults → ⊥
   pub listeners : SomeFailed span.workers → ⊥
 
--- memory ran out
-abbrev pub IsMemory : Cause → Type 0
-IsMemory Memory = ⊤
-IsMemory Words = ⊥
-IsMemory Secret = ⊥
-IsMemory SecretFault = ⊥
-IsMemory NoRoot = ⊥
-IsMemory FolderFault = ⊥
-
 -- the vault was served, or memory ran out
 abbrev pub IsServedOrFull : Ending → Type 0
-IsServedOrFull (refused cause) = IsMemory cause
+IsServedOrFull (refused cause) = cause ≡ Memory
+IsServedOrFull usage_said = ⊥
+IsServedOrFull version_said = ⊥
+IsServedOrFull made = ⊥
 IsServedOrFull (served ends) = ⊤
 IsServedOrFull (listener_fault ends) = ⊥
 IsServedOrFull (closing_fault ends) = ⊥
 IsServedOrFull (no_memory_to_report ends) = ⊤
+
+-- ---- making
+
+pub record IsSoundToMake {C : Type 0} (span : Span C) : Type 0 where
+  pub dir : Text
+  pub words : Ask span.words (make dir)
+  pub secret : IsSomeAnd span.given.secret.before.left (λ secret. IsSome (password_of secret))
+  pub empty : IsSomeAnd span.given.folder.before.log (λ log. IsEmpty (now log))
+
+-- some random source failed
+abbrev pub SomeRandomFailed : {C : Type 0} → List (WorkerSpan C) → Type 0
+SomeRandomFailed [] = ⊥
+SomeRandomFailed (worker ∷ workers) = Rose worker.entropy.before.faults worker.entropy.after.faults ⊎ SomeRandomFailed workers
+
+-- the vault was made, or memory ran out
+abbrev pub IsMadeOrFull : Ending → Type 0
+IsMadeOrFull (refused cause) = cause ≡ Memory
+IsMadeOrFull usage_said = ⊥
+IsMadeOrFull version_said = ⊥
+IsMadeOrFull made = ⊤
+IsMadeOrFull (served ends) = ⊥
+IsMadeOrFull (listener_fault ends) = ⊥
+IsMadeOrFull (closing_fault ends) = ⊥
+IsMadeOrFull (no_memory_to_report ends) = ⊥

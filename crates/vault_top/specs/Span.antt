@@ -47,9 +47,8 @@ views_of log folder_faults changes to_come given_back listener_faults left taken
   entropy = entropy_view drawn entropy_faults;
 }
 
--- what a vault is unlocked by: the words after the program's name, the secret, the folder, and the clock's second, where it tells
+-- what a vault is unlocked by: the secret, the folder, and the clock's second, where it tells
 pub record Given : Type 0 where
-  pub words : List (List ℕ)
   pub secret : Course SourceView
   pub folder : Course FolderView
   pub second : Option ℕ
@@ -59,7 +58,9 @@ pub record WorkerSpan (C : Type 0) : Type 0 where
   pub listener : Course (ListenerView C)
   pub entropy : Course EntropyView
 
+-- the words after the program's name, what a vault is unlocked by, and the workers
 pub record Span (C : Type 0) : Type 0 where
+  pub words : List (List ℕ)
   pub given : Given
   pub workers : List (WorkerSpan C)
 
@@ -76,12 +77,13 @@ worker_spans views (w ∷ before) [] = []
 worker_spans views (w ∷ before) (v ∷ after) = worker_span views w v ∷ worker_spans views before after
 
 -- what a vault is unlocked by, where the folder is this before and that after
-abbrev pub given_of : {D : Type 0} → (D → FolderView) → List (List ℕ) → Course SourceView → Option ℕ → D → D → Given
-given_of view words secret second folder kept = record { words = words; secret = secret; folder = course view folder kept; second = second }
+abbrev pub given_of : {D : Type 0} → (D → FolderView) → Course SourceView → Option ℕ → D → D → Given
+given_of view secret second folder kept = record { secret = secret; folder = course view folder kept; second = second }
 
 -- what a run is given and leaves, as these views see it
 abbrev pub span_of : {D N C E : Type 0} → Views D N C E → List (List ℕ) → Course SourceView → Option ℕ → D → D → List (Worker N E) → List (Worker N E) → Span C
 span_of views words secret second folder kept workers workers' = record {
-  given = given_of views.folder words secret second folder kept;
+  words = words;
+  given = given_of views.folder secret second folder kept;
   workers = worker_spans views workers workers';
 }

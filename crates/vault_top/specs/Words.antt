@@ -1,18 +1,41 @@
--- The command line. By now there is one job: `serve DIR --listen - --sessions 1 --at-once 1 --raw-key`, in this order, DIR being any word.
-use Rattle.std.specs.Prelude.{◌≡◌, ℕ, List, [], ◌∷◌, String, codes, map}
+-- The jobs that the program does, and the words that ask for them.
+use Rattle.std.specs.Prelude.{◌≡◌, ◌⊎◌, ℕ, List, Bool, String, codes, map, ⊤, if◌then◌else◌}
 use Rattle.std.specs.String.{string_bytes}
+use Rattle.clap.specs.Words.{Text}
+use Rattle.vault_unlock.specs.declared.unlocking.SecretKind.{SecretKind}
+use Rattle.vault_unlock.specs.declared.unlocking.SecretKind.TheVariants.{Password, RawKeys}
+use Rattle.vault_words.specs.Jobs.{Job, Serving, serve, make, demo, help, version, AsksFor, IsRefused}
 
-abbrev pub words_of : {A : Type 0} → List (String A) → List (List ℕ)
+abbrev pub words_of : {A : Type 0} → List (String A) → List Text
 words_of words = map string_bytes words
 
--- the words after the program's name are the job's
-pub record AreWords (words : List (List ℕ)) : Type 0 where
-  pub dir : List ℕ
-  pub spelled : words ≡ codes "serve" ∷ dir ∷ codes "--listen" ∷ codes "-" ∷ codes "--sessions" ∷ codes "1" ∷ codes "--at-once" ∷ codes "1" ∷ codes "--raw-key" ∷ []
+-- the jobs that the program does so far: of `serve` one session over standard input and output, and no `demo`
+abbrev pub IsOffered : Job → Type 0
+IsOffered (serve s) = (s.address ≡ codes "-") × (s.sessions ≡ 1)
+IsOffered (make dir) = ⊤
+IsOffered (demo d) = ⊥
+IsOffered help = ⊤
+IsOffered version = ⊤
 
--- how many sessions these words ask for, and how many workers share them
+-- the words ask for this job, and the program does it
+pub record Ask (words : List Text) (job : Job) : Type 0 where
+  pub asks : AsksFor job words
+  pub offered : IsOffered job
+
+-- the words ask for no job, or for one that the program doesn't do
+abbrev pub AreRefused : List Text → Type 0
+AreRefused words = IsRefused words ⊎ ((job : Job) × AsksFor job words × (IsOffered job → ⊥))
+
+-- what the secret is: the two keys with `--raw-key`, and else a password
+abbrev pub kind_where : Bool → SecretKind
+kind_where raw_key = if raw_key then RawKeys else Password
+
+abbrev pub kind_of : Serving → SecretKind
+kind_of s = kind_where s.raw_key
+
+-- how many sessions are served, and how many workers share them: so far one each, however many may be served at once
 abbrev pub sessions : ℕ
 sessions = 1
 
-abbrev pub at_once : ℕ
-at_once = 1
+abbrev pub sharers : ℕ
+sharers = 1

@@ -1,4 +1,4 @@
-//! Does the job that the command line names: serves a vault.
+//! Does the job that the command line names: serves a vault, makes one, or says how the program is called.
 //!
 //! ```
 //! let ended = run(&rt, rt.alloc(), &words, folder, &mut workers, &mut secret, &mut out, &clock, &gate);
@@ -6,15 +6,13 @@
 //! ```
 #![tactic(auto)]
 
-mod cause;
 mod laws;
+mod making;
 mod opening;
 mod program;
 mod report;
-mod secret;
 mod serving;
-mod words;
+mod task;
 
-pub use cause::Cause;
-pub use laws::a_sound_vault_is_served;
+pub use laws::{a_sound_vault_is_served, an_empty_folder_becomes_a_vault};
 pub use program::{Ended, Worker, run};

@@ -2,12 +2,17 @@
 
 ghost use Rattle.std.specs.Prelude.{◌≡◌, ◌≤◌, List, ◌++◌, length, take, IfOk, OnOk, OnErr, IsErr, string_bytes, decimal, option_to_list};
 ghost use Rattle.outside.specs.Calls.{Rose, HasCause, Changes};
-ghost use Rattle.vault_top.specs.Report.{sessions_line, TakesPart};
+ghost use Rattle.vault_causes.specs.Lines.{line_text};
+ghost use Rattle.vault_top.specs.Span.{course, sink_view};
+ghost use Rattle.vault_top.specs.Report.{line, sessions_line, TakesPart};
 ghost use Rattle.vault_top.specs.Writing.{IsWritten};
+ghost use Rattle.vault_top.specs.Ending.{refused, IsReported};
 
+use itoa::Buffer;
 use outside::{Failed, Sink};
 use session_server::SessionEnd;
 use std::alloc::{AllocError, Global};
+use vault_causes::{Cause, Line};
 
 /// Writes all bytes, unless the sink fails.
 pub(crate) fn write_all<O: Sink>(out: &mut O, bytes: &[u8]) -> Result<(), Failed>
@@ -32,6 +37,29 @@ pub(crate) fn report<O: Sink>(out: &mut O, text: &[u8], whole: u8, cut: u8) -> u
         Ok(()) => whole,
         Err(_) => cut,
     }
+}
+
+/// Reports why the job isn't done, and gives the program's status, which is the cause's whether the line was taken or not.
+pub(crate) fn refuse<O: Sink>(out: &mut O, cause: &Cause) -> u8
+    ensures { IsReported (course (sink_view O.taken O.faults) out.old out.new) (refused cause.now) result }
+{
+    let mut digits = Buffer::new();
+    let status = cause.status();
+    match write_line(out, &cause.line(&mut digits)) {
+        Ok(()) => status,
+        Err(_) => status,
+    }
+}
+
+// Writes a line of the report, piece by piece, and its LF.
+fn write_line<O: Sink>(out: &mut O, pieces: &Line<'_>) -> Result<(), Failed>
+    ensures whole { OnOk result (Changes (O.taken out.old) (O.taken out.new) (λ old new. new ≡ old ++ line (line_text pieces.now))) }
+    ensures part { OnErr result (Changes (O.taken out.old) (O.taken out.new) (TakesPart (line (line_text pieces.now)))) }
+    ensures cause { HasCause (O.faults out.old) (O.faults out.new) (IsErr result) }
+{
+    write_all(out, pieces.head.as_bytes())?;
+    write_all(out, pieces.detail)?;
+    write_all(out, b"\n")
 }
 
 /// How many sessions there were, and how many of them ended in each way.

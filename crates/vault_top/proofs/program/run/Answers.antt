@@ -1,27 +1,53 @@
-use Rattle.std.proofs.Common.{refl}
+use Rattle.std.proofs.Common.{refl, inl, inr}
+use Rattle.vault_causes.specs.declared.cause.Cause.TheVariants.{Words, Memory}
 use Rattle.vault_top.specs.Words.{words_of}
 use Rattle.vault_top.specs.Span.{course, source_view, sink_view, views_of}
-use Rattle.vault_top.proofs.Reasons.{run_served, run_refused}
+use Rattle.vault_top.specs.Ending.{usage_said, version_said}
+use Rattle.vault_top.proofs.Written.{written_as}
+use Rattle.vault_top.proofs.Reasons.{run_untouched, run_badly_asked}
 use Rattle.vault_top.proofs.program.run.Goals as goal
 
-pub returns-in-Ok : goal.returns-in-Ok
-returns-in-Ok g c =
+pub returns-in-Ok-Make : goal.returns-in-Ok-Make
+returns-in-Ok-Make g c =
+    let asked = rw c.in-Ok-Make.field-0-is at c.in-Ok-Make.ensures.task in
+    record { run = c.make.ensures (words_of c.args.words.now) asked.0 (g.K.Clock.second c.args.clock.now) asked.1 }
+
+pub returns-in-Ok-Usage : goal.returns-in-Ok-Usage
+returns-in-Ok-Usage g c =
     let views = views_of g.D.Reads.log g.D.Reads.faults g.D.Reads.changes g.N.Listener.to_come g.N.Listener.given_back g.N.Listener.faults
     g.N.Conn.Link.left g.N.Conn.Link.taken g.N.Conn.Link.read_faults g.N.Conn.Link.write_faults g.E.Entropy.drawn g.E.Entropy.faults in
     record {
-      run = run_served views (words_of c.args.words.now) (course (source_view g.S.Source.left g.S.Source.faults) c.args.secret.now c.open_vault.new.secret)
-          (g.K.Clock.second c.args.clock.now) c.args.folder c.in-Ok.store c.args.workers.now.items c.serve_vault.new.workers.items
-          (course (sink_view g.O.Sink.taken g.O.Sink.faults) c.args.out.now c.serve_vault.new.out) c.serve_vault.result
-          c.in-Ok.ensures.opened c.serve_vault.ensures.served;
+      run = run_untouched views (words_of c.args.words.now) (source_view g.S.Source.left g.S.Source.faults c.args.secret.now) (g.K.Clock.second c.args.clock.now)
+          c.args.folder c.args.workers.now.items (course (sink_view g.O.Sink.taken g.O.Sink.faults) c.args.out.now c.report.new.out) _ usage_said refl
+          (λ untouched. (rw c.in-Ok-Usage.field-0-is at c.in-Ok-Usage.ensures.task, untouched))
+          (written_as _ _ _ _ _ 0 4 c.report.result c.as_bytes.ensures.value c.report.ensures.written);
     }
 
-pub returns-in-Err : goal.returns-in-Err
-returns-in-Err g c =
+pub returns-in-Ok-Version : goal.returns-in-Ok-Version
+returns-in-Ok-Version g c =
     let views = views_of g.D.Reads.log g.D.Reads.faults g.D.Reads.changes g.N.Listener.to_come g.N.Listener.given_back g.N.Listener.faults
     g.N.Conn.Link.left g.N.Conn.Link.taken g.N.Conn.Link.read_faults g.N.Conn.Link.write_faults g.E.Entropy.drawn g.E.Entropy.faults in
     record {
-      run = run_refused views (words_of c.args.words.now) (course (source_view g.S.Source.left g.S.Source.faults) c.args.secret.now c.open_vault.new.secret)
-          (g.K.Clock.second c.args.clock.now) c.args.folder c.in-Err.field-0.folder c.args.workers.now.items
-          (course (sink_view g.O.Sink.taken g.O.Sink.faults) c.args.out.now c.refuse.new.out) _ c.in-Err.field-0.cause
-          refl c.in-Err.ensures.refused c.in-Err.ensures.read c.refuse.ensures;
+      run = run_untouched views (words_of c.args.words.now) (source_view g.S.Source.left g.S.Source.faults c.args.secret.now) (g.K.Clock.second c.args.clock.now)
+          c.args.folder c.args.workers.now.items (course (sink_view g.O.Sink.taken g.O.Sink.faults) c.args.out.now c.report-in-Ok-Version.new.out) _ version_said refl
+          (λ untouched. (rw c.in-Ok-Version.field-0-is at c.in-Ok-Version.ensures.task, untouched))
+          (written_as _ _ _ _ _ 0 4 c.report-in-Ok-Version.result c.as_bytes-in-Ok-Version.ensures.value c.report-in-Ok-Version.ensures.written);
+    }
+
+pub returns-in-Err-Refused : goal.returns-in-Err-Refused
+returns-in-Err-Refused g c =
+    let views = views_of g.D.Reads.log g.D.Reads.faults g.D.Reads.changes g.N.Listener.to_come g.N.Listener.given_back g.N.Listener.faults
+    g.N.Conn.Link.left g.N.Conn.Link.taken g.N.Conn.Link.read_faults g.N.Conn.Link.write_faults g.E.Entropy.drawn g.E.Entropy.faults in
+    record {
+      run = run_badly_asked views (words_of c.args.words.now) (source_view g.S.Source.left g.S.Source.faults c.args.secret.now) (g.K.Clock.second c.args.clock.now)
+          c.args.folder c.args.workers.now.items (course (sink_view g.O.Sink.taken g.O.Sink.faults) c.args.out.now c.refuse.new.out) _ Words refl (inl (refl, rw c.in-Err-Refused.field-0-is at c.in-Err-Refused.ensures.cause)) c.refuse.ensures;
+    }
+
+pub returns-in-Err-Memory : goal.returns-in-Err-Memory
+returns-in-Err-Memory g c =
+    let views = views_of g.D.Reads.log g.D.Reads.faults g.D.Reads.changes g.N.Listener.to_come g.N.Listener.given_back g.N.Listener.faults
+    g.N.Conn.Link.left g.N.Conn.Link.taken g.N.Conn.Link.read_faults g.N.Conn.Link.write_faults g.E.Entropy.drawn g.E.Entropy.faults in
+    record {
+      run = run_badly_asked views (words_of c.args.words.now) (source_view g.S.Source.left g.S.Source.faults c.args.secret.now) (g.K.Clock.second c.args.clock.now)
+          c.args.folder c.args.workers.now.items (course (sink_view g.O.Sink.taken g.O.Sink.faults) c.args.out.now c.refuse-in-Err-Memory.new.out) _ Memory refl (inr refl) c.refuse-in-Err-Memory.ensures;
     }

@@ -1,0 +1,90 @@
+-- An empty folder becomes a vault.
+use Rattle.std.proofs.Common.{◌≡◌, ℕ, List, [], ◌∷◌, Option, Some, None, IsSome, IsSomeAnd, refl, subst, ◌∙◌, inl, inr}
+use Rattle.std.proofs.lemmas.Bool.{false≢true}
+use Rattle.outside.specs.Calls.{Rose, Told}
+use Rattle.outside.specs.Images.{Log, now}
+use Rattle.outside.specs.Views.{EntropyView}
+use Rattle.clap.specs.Words.{Text}
+use Rattle.masterkey_file.specs.Password.{password_of}
+use Rattle.vault_unlock.specs.declared.secret.SecretErr.{SecretErr}
+use Rattle.vault_unlock.specs.declared.secret.SecretErr.TheVariants as secret_errs
+use Rattle.vault_make.specs.Vault.{IsEmpty}
+use Rattle.vault_make.specs.Entries.{IsFirstEntry}
+use Rattle.vault_make.specs.Errors.{IsUnmade}
+use Rattle.vault_make.specs.declared.error.MakeErr.{MakeErr}
+use Rattle.vault_make.specs.declared.error.MakeErr.TheVariants as make_errs
+use Rattle.vault_words.specs.Jobs.{serve, make, help, version}
+use Rattle.vault_causes.specs.Causes.{of_secret, of_make}
+use Rattle.vault_causes.specs.declared.cause.Cause.{Cause}
+use Rattle.vault_causes.specs.declared.cause.Cause.TheVariants.{Memory}
+use Rattle.vault_top.specs.Words.{Ask}
+use Rattle.vault_top.specs.Span.{Course, Views, WorkerSpan, Span, Given}
+use Rattle.vault_top.specs.Making.{HasNoPassword, HasRisen, IsNotMade}
+use Rattle.vault_top.specs.Ending.{Ending, refused, usage_said, version_said, made, served, listener_fault, closing_fault, no_memory_to_report, DrawsAlone, IsRefused, HasReason}
+use Rattle.vault_top.specs.Sound.{IsSoundToMake, IsFaultless, IsMadeOrFull, SomeRandomFailed}
+use Rattle.vault_top.proofs.Asked.{AskPlainly, one_job, not_refused}
+
+plainly : (words : List Text) (dir : Text) → Ask words (make dir) → AskPlainly words (make dir)
+plainly words dir h = record { taken = h.asks.0; named = h.asks.1 }
+
+none_is_none : {A : Type 0} (o : Option A) → IsSome o → o ≡ None → ⊥
+none_is_none o some e = false≢true (subst IsSome e some)
+
+no_password : (secret : Option (List ℕ)) → IsSomeAnd secret (λ bytes. IsSome (password_of bytes)) → Told secret (λ bytes. password_of bytes ≡ None) → ⊥
+no_password None some none = some
+no_password (Some bytes) some none = none_is_none (password_of bytes) some none
+
+no_entry : (name : List ℕ) (log : Option Log) → IsSomeAnd log (λ l. IsEmpty (now l)) → Told log (λ l. IsFirstEntry (now l) name) → ⊥
+no_entry name None some first = some
+no_entry name (Some l) empty first = none_is_none _ ((first.1.exact name).0 first.2.among) (empty.bare name)
+
+secret_sound : (given : Given) (error : SecretErr) → IsSomeAnd given.secret.before.left (λ bytes. IsSome (password_of bytes))
+    → (Rose given.secret.before.faults given.secret.after.faults → ⊥) → HasNoPassword given error → of_secret error ≡ Memory
+secret_sound given secret_errs.Device sound faultless h = absurd (faultless h)
+secret_sound given secret_errs.Bad sound faultless h = absurd (no_password given.secret.before.left sound h)
+secret_sound given secret_errs.Memory sound faultless h = refl
+
+make_sound : (given : Given) (entropy : Course EntropyView) (error : MakeErr) → IsSomeAnd given.folder.before.log (λ log. IsEmpty (now log))
+    → (Rose given.folder.before.faults given.folder.after.faults → ⊥) → (Rose entropy.before.faults entropy.after.faults → ⊥)
+    → IsUnmade error given.folder.before given.folder.after entropy.before entropy.after → HasRisen error given.folder entropy → of_make error ≡ Memory
+make_sound given entropy (make_errs.NotEmpty name) empty folder random why risen = absurd (no_entry name given.folder.before.log empty why.0)
+make_sound given entropy make_errs.Device empty folder random why risen = absurd (folder risen)
+make_sound given entropy make_errs.Entropy empty folder random why risen = absurd (random risen)
+make_sound given entropy make_errs.Memory empty folder random why risen = refl
+
+not_made_sound : {C : Type 0} (given : Given) (cause : Cause) (workers : List (WorkerSpan C)) → IsSomeAnd given.secret.before.left (λ bytes. IsSome (password_of bytes))
+    → IsSomeAnd given.folder.before.log (λ log. IsEmpty (now log))
+    → (Rose given.secret.before.faults given.secret.after.faults → ⊥) → (Rose given.folder.before.faults given.folder.after.faults → ⊥) → (SomeRandomFailed workers → ⊥)
+    → DrawsAlone (λ entropy. IsNotMade given entropy cause) workers → cause ≡ Memory
+not_made_sound given cause [] sound empty secret folder random drawn = absurd drawn
+not_made_sound given cause (first ∷ others) sound empty secret folder random drawn = elim drawn.1 [
+  | inl h ↦ h.is ∙ secret_sound given h.error sound secret h.why
+  | inr h ↦ h.is ∙ make_sound given first.entropy h.error empty folder (λ rose. random (inl rose)) h.why h.risen
+]
+
+refused_sound : {C : Type 0} (span : Span C) (cause : Cause) → IsSoundToMake span → IsFaultless span → (SomeRandomFailed span.workers → ⊥) → IsRefused span cause → cause ≡ Memory
+refused_sound span cause is faultless random (inl h) = elim h.why [
+  | inl bad ↦ absurd (not_refused span.words (make is.dir) (plainly span.words is.dir is.words) is.words.offered bad.1)
+  | inr memory ↦ memory
+]
+refused_sound span cause is faultless random (inr (inl h)) =
+    let e : serve h.serving ≡ make is.dir = one_job span.words (make is.dir) (serve h.serving) (plainly span.words is.dir is.words) h.words.asks in absurd cc
+refused_sound span cause is faultless random (inr (inr h)) =
+    not_made_sound span.given cause span.workers is.secret is.empty faultless.secret faultless.folder random h.drawn
+
+pub sound_to_make : {D N C E : Type 0} (views : Views D N C E) (span : Span C) (ending : Ending) → IsSoundToMake span → IsFaultless span → (SomeRandomFailed span.workers → ⊥)
+    → HasReason views span ending → IsMadeOrFull ending
+sound_to_make views span (refused cause) is faultless random h = refused_sound span cause is faultless random h
+sound_to_make views span usage_said is faultless random h =
+    let e : help ≡ make is.dir = one_job span.words (make is.dir) help (plainly span.words is.dir is.words) h.0.asks in absurd cc
+sound_to_make views span version_said is faultless random h =
+    let e : version ≡ make is.dir = one_job span.words (make is.dir) version (plainly span.words is.dir is.words) h.0.asks in absurd cc
+sound_to_make views span made is faultless random h = tt
+sound_to_make views span (served ends) is faultless random h =
+    let e : serve h.serving ≡ make is.dir = one_job span.words (make is.dir) (serve h.serving) (plainly span.words is.dir is.words) h.words.asks in absurd cc
+sound_to_make views span (listener_fault ends) is faultless random h =
+    let e : serve h.0.serving ≡ make is.dir = one_job span.words (make is.dir) (serve h.0.serving) (plainly span.words is.dir is.words) h.0.words.asks in absurd cc
+sound_to_make views span (closing_fault ends) is faultless random h =
+    let e : serve h.0.serving ≡ make is.dir = one_job span.words (make is.dir) (serve h.0.serving) (plainly span.words is.dir is.words) h.0.words.asks in absurd cc
+sound_to_make views span (no_memory_to_report ends) is faultless random h =
+    let e : serve h.serving ≡ make is.dir = one_job span.words (make is.dir) (serve h.serving) (plainly span.words is.dir is.words) h.words.asks in absurd cc

@@ -1,0 +1,31 @@
+use Rattle.std.proofs.Common.{refl, subst}
+use Rattle.vault_unlock.specs.declared.unlocking.SecretKind.{SecretKind}
+use Rattle.vault_top.specs.Span.{course, source_view, sink_view, views_of, given_of}
+use Rattle.vault_top.specs.Opening.{IsUnopened, IsUnlockedStore}
+use Rattle.vault_top.proofs.Reasons.{run_served, run_unserved}
+use Rattle.vault_top.proofs.program.serve.Goals as goal
+
+pub returns-in-Ok : goal.returns-in-Ok
+returns-in-Ok g c = λ words serving asked same.
+    let views = views_of g.D.Reads.log g.D.Reads.faults g.D.Reads.changes g.N.Listener.to_come g.N.Listener.given_back g.N.Listener.faults
+    g.N.Conn.Link.left g.N.Conn.Link.taken g.N.Conn.Link.read_faults g.N.Conn.Link.write_faults g.E.Entropy.drawn g.E.Entropy.faults in
+    let secret = course (source_view g.S.Source.left g.S.Source.faults) c.args.secret.now c.open_vault.new.secret in
+    let second = g.K.Clock.second c.args.clock.now in
+    run_served views words secret second c.args.folder serving c.in-Ok.store c.args.workers.now.items c.serve_vault.new.workers.items
+    (course (sink_view g.O.Sink.taken g.O.Sink.faults) c.args.out.now c.serve_vault.new.out) c.serve_vault.result asked
+    (subst (λ (k : SecretKind). IsUnlockedStore views.folder (given_of views.folder secret second c.args.folder c.args.folder) k c.args.folder c.in-Ok.store) same
+    c.in-Ok.ensures.opened)
+    c.serve_vault.ensures.served
+
+pub returns-in-Err : goal.returns-in-Err
+returns-in-Err g c = λ words serving asked same.
+    let views = views_of g.D.Reads.log g.D.Reads.faults g.D.Reads.changes g.N.Listener.to_come g.N.Listener.given_back g.N.Listener.faults
+    g.N.Conn.Link.left g.N.Conn.Link.taken g.N.Conn.Link.read_faults g.N.Conn.Link.write_faults g.E.Entropy.drawn g.E.Entropy.faults in
+    let secret = course (source_view g.S.Source.left g.S.Source.faults) c.args.secret.now c.open_vault.new.secret in
+    let second = g.K.Clock.second c.args.clock.now in
+    let kept = c.in-Err.field-0.folder in
+    let cause = c.in-Err.field-0.cause in
+    run_unserved views words secret second c.args.folder kept serving c.args.workers.now.items
+    (course (sink_view g.O.Sink.taken g.O.Sink.faults) c.args.out.now c.refuse.new.out) _ cause asked refl
+    (subst (λ (k : SecretKind). IsUnopened (given_of views.folder secret second c.args.folder kept) k cause) same c.in-Err.ensures.unopened)
+    c.refuse.ensures

@@ -1,0 +1,81 @@
+-- Unlocking and opening a vault: what it gives, and why not.
+use Rattle.std.specs.Prelude.{◌≡◌, ◌⊎◌, ℕ, Ok, ⊤}
+use Rattle.outside.specs.Calls.{Rose, Told, Changes}
+use Rattle.outside.specs.Disk.{IsFolder}
+use Rattle.outside.specs.Images.{disk_in}
+use Rattle.outside.specs.Views.{FolderView}
+use Rattle.vault_keys.specs.Unlock.{UnlockedVault}
+use Rattle.vault_unlock.specs.Secret.{IsAfterLine, TakesAtMost, taken_limit}
+use Rattle.vault_unlock.specs.Unlock.{IsUnlocking}
+use Rattle.vault_unlock.specs.Refusals.{IsRefusedBy}
+use Rattle.vault_unlock.specs.declared.unlocking.SecretKind.{SecretKind}
+use Rattle.vault_unlock.specs.declared.unlocking.SecretKind.TheVariants.{RawKeys}
+use Rattle.vault_unlock.specs.declared.refusal.Refusal.{Refusal}
+use Rattle.vault_unlock.specs.declared.refusal.Refusal.TheVariants as refusals
+use Rattle.tree_loading.specs.Clear.{HasTooMany, root_folder}
+use Rattle.vault_store.specs.Store.{IsOnlyRead, IsOpened}
+use Rattle.vault_store.specs.declared.store.Store.{Store}
+use Rattle.vault_store.specs.declared.opening.OpenErr.{OpenErr}
+use Rattle.vault_store.specs.declared.opening.OpenErr.TheVariants as open_errs
+use Rattle.vault_causes.specs.Causes.{of_refusal}
+use Rattle.vault_causes.specs.declared.cause.Cause.{Cause}
+use Rattle.vault_causes.specs.declared.cause.Cause.TheVariants as causes
+use Rattle.vault_top.specs.Span.{Given}
+
+-- the secret, and with a password the key files, gave these keys and this threshold, and of the secret its line alone was taken
+pub record IsUnlocked (given : Given) (kind : SecretKind) (vault : UnlockedVault) : Type 0 where
+  pub gave : IsUnlocking kind given.secret.before.left (disk_in given.folder.before.log) (λ found. found ≡ Ok vault)
+  pub line : Changes given.secret.before.left given.secret.after.left IsAfterLine
+
+-- Why the vault isn't unlocked: the first cause against it, and a fault only where its count rose. Of the secret no more was taken than its
+-- longest line and one byte, and where it is the two keys the folder wasn't looked at.
+pub record IsLocked (given : Given) (kind : SecretKind) (refusal : Refusal) : Type 0 where
+  pub cause : IsRefusedBy kind given.secret.before.left (disk_in given.folder.before.log) refusal
+  pub secret : refusal ≡ refusals.SecretFault → Rose given.secret.before.faults given.secret.after.faults
+  pub folder : refusal ≡ refusals.FolderFault → Rose given.folder.before.faults given.folder.after.faults
+  pub begun : Changes given.secret.before.left given.secret.after.left (TakesAtMost (taken_limit kind))
+  pub unseen : kind ≡ RawKeys → given.folder.after ≡ given.folder.before
+
+-- an unlocked vault isn't opened for this: the folder's count rose, its disk has too many nodes or no folder for the root, or there was no memory
+abbrev pub IsClosedBy : Given → UnlockedVault → OpenErr → Type 0
+IsClosedBy given vault open_errs.Device = Rose given.folder.before.faults given.folder.after.faults
+IsClosedBy given vault (open_errs.TooMany n) = HasTooMany vault.keys (disk_in given.folder.before.log) n
+IsClosedBy given vault open_errs.NoRoot = Told (disk_in given.folder.before.log) (λ disk. ¬ (IsFolder disk (root_folder vault.keys)))
+IsClosedBy given vault open_errs.Memory = ⊤
+
+-- an error of opening as a cause
+abbrev pub of_opening : OpenErr → Cause
+of_opening open_errs.Device = causes.FolderFault
+of_opening (open_errs.TooMany n) = causes.TooManyNodes
+of_opening open_errs.NoRoot = causes.NoRoot
+of_opening open_errs.Memory = causes.Memory
+
+-- the vault isn't unlocked, for this cause
+pub record FailsToUnlock (given : Given) (kind : SecretKind) (cause : Cause) : Type 0 where
+  pub refusal : Refusal
+  pub is : cause ≡ of_refusal refusal
+  pub locked : IsLocked given kind refusal
+
+-- the vault is unlocked, but isn't opened, for this cause
+pub record FailsToOpen (given : Given) (kind : SecretKind) (cause : Cause) : Type 0 where
+  pub vault : UnlockedVault
+  pub unlocked : IsUnlocked given kind vault
+  pub error : OpenErr
+  pub is : cause ≡ of_opening error
+  pub closed : IsClosedBy given vault error
+
+-- why nothing is served from the folder, which was only read
+pub record IsUnopened (given : Given) (kind : SecretKind) (cause : Cause) : Type 0 where
+  pub why : FailsToUnlock given kind cause ⊎ FailsToOpen given kind cause
+  pub read : IsOnlyRead given.folder.before given.folder.after
+
+-- the store was opened at the clock's second, under the keys of the unlocked vault, over the folder as unlocking left it
+pub record IsUnlockedStore {D : Type 0} (view : D → FolderView) (given : Given) (kind : SecretKind) (folder : D) (store : Store D) : Type 0 where
+  pub vault : UnlockedVault
+  pub unlocked : IsUnlocked given kind vault
+  pub looked : D
+  pub read : IsOnlyRead (view folder) (view looked)
+  pub unseen : kind ≡ RawKeys → looked ≡ folder
+  pub now : ℕ
+  pub second : Told given.second (λ second. now ≡ second)
+  pub opened : IsOpened view looked vault.keys now store

@@ -1,0 +1,29 @@
+-- Jobs as the code does them.
+use Rattle.std.specs.Prelude.{◌≡◌, List, ⊤}
+use Rattle.clap.specs.Words.{Text}
+use Rattle.vault_words.specs.Jobs.{Job, Serving, serve, make, demo, help, version}
+use Rattle.vault_words.specs.declared.job.WordsErr.{WordsErr}
+use Rattle.vault_words.specs.declared.job.WordsErr.TheVariants.{Refused, Memory}
+use Rattle.vault_top.specs.Words.{Ask, AreRefused, kind_of}
+use Rattle.vault_top.specs.declared.task.Task.{Task}
+use Rattle.vault_top.specs.declared.task.Task.TheVariants.{Serve, Make, Usage, Version}
+
+-- the task is this job's
+abbrev pub IsTaskOf : Job → Task → Type 0
+IsTaskOf (serve s) task = task ≡ Serve (kind_of s)
+IsTaskOf (make dir) task = task ≡ Make
+IsTaskOf (demo d) task = ⊥
+IsTaskOf help task = task ≡ Usage
+IsTaskOf version task = task ≡ Version
+
+-- what the words ask for is this task
+abbrev pub AskTask : List Text → Task → Type 0
+AskTask words (Serve kind) = (s : Serving) × Ask words (serve s) × (kind ≡ kind_of s)
+AskTask words Make = (dir : Text) × Ask words (make dir)
+AskTask words Usage = Ask words help
+AskTask words Version = Ask words version
+
+-- why the words give no task
+abbrev pub IsWordsCause : List Text → WordsErr → Type 0
+IsWordsCause words Refused = AreRefused words
+IsWordsCause words Memory = ⊤
