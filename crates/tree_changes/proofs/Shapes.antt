@@ -12,6 +12,7 @@ use Rattle.clear_tree.specs.Walk.{Path, same_path, Sealing, Node, File, Link, Di
 use Rattle.clear_tree.specs.Places.{folders_of}
 use Rattle.clear_tree.specs.Marks.{Marks, HasForeign, IsShadowedIn}
 use Rattle.clear_tree.specs.Queue.{In}
+use Rattle.clear_tree.specs.Kept.{what_of}
 use Rattle.clear_tree.specs.Rows.{kind_of, content_in}
 use Rattle.clear_tree.proofs.Paths.{path_cases, same_path-apart, same_path-itself}
 use Rattle.tree_changes.specs.Trees.{AreTexts, Tree, IsTreeOf, with_node, without_node, with_name, swapped}
@@ -263,7 +264,7 @@ module _ (s : Sealing) (d : Disk) (tree : Tree) (rows : Rows) (row : Row) (p : P
       ∙ sym (cond-false (row.number == root) _ _ (ne_eqb row.number root at_it.2.below)) ∙ none
 
   removal : (x : Node) → get tree.nodes (n ∷ p) ≡ Some x → removal_refusal rows row (kind_of x) ≡ None
-      → Follows s d (remove_deeds s (place_of s i n (tree.long (n ∷ p))) x) (without_row rows row now)
+      → Follows s d (remove_deeds (place_of s i n (tree.long (n ∷ p))) (what_of s x)) (without_row rows row now)
   removal (File b) e none =
       let h = unheld (File b) e (passes (is_held rows row) refusals.Foreign none) in
       record {
@@ -303,7 +304,7 @@ module _ (s : Sealing) (d : Disk) (tree : Tree) (rows : Rows) (row : Row) (p : P
   removal (Bad t) e none = absurd (cc)
 
   pub removed : (x : Node) → get tree.nodes (n ∷ p) ≡ Some x → remove_refusal rows row ≡ None
-      → Follows s d (remove_deeds s (place_of s i n (tree.long (n ∷ p))) x) (without_row rows row now)
+      → Follows s d (remove_deeds (place_of s i n (tree.long (n ∷ p))) (what_of s x)) (without_row rows row now)
   removed x e none = removal x e (refuses_kind x e none)
 
   -- ---- renaming
@@ -316,7 +317,7 @@ module _ (s : Sealing) (d : Disk) (tree : Tree) (rows : Rows) (row : Row) (p : P
     shaped x e = shape_moved s tree rows row (with_mtime c (record row { name = k })) p n k long now (apart x e) shape at_it free refl refl refl refl refl refl refl
 
     pub named_so : (x : Node) → get tree.nodes (n ∷ p) ≡ Some x → ((t : List ℕ) → x ≢ Bad t)
-        → Follows s d (rename_deeds (place_of s i n (tree.long (n ∷ p))) (place_of s i k long) (s.seal i k) x)
+        → Follows s d (rename_deeds (place_of s i n (tree.long (n ∷ p))) (place_of s i k long) (s.seal i k) (what_of s x))
         (set_row (change_dir rows row.parent now) (with_mtime c (record row { name = k })))
     named_so (File b) e good = record {
       tree = with_name tree (n ∷ p) (k ∷ p) long;

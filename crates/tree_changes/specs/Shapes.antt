@@ -8,6 +8,7 @@ use Rattle.tree_model.specs.Asked.{PlainChange}
 use Rattle.tree_model.specs.Step.{is_held, remove_refusal, change_dir, new_row, set_row, with_mtime, with_new, without_row}
 use Rattle.clear_tree.specs.Walk.{Path, Sealing, Node, Dir, Bad}
 use Rattle.clear_tree.specs.Queue.{In}
+use Rattle.clear_tree.specs.Kept.{what_of}
 use Rattle.clear_tree.specs.Rows.{kind_of, content_in, IsClear}
 use Rattle.tree_changes.specs.Trees.{AreTexts, Tree, IsTreeOf}
 use Rattle.tree_changes.specs.Deeds.{place_of, create_file_deeds, create_dir_deeds, remove_deeds, rename_deeds}
@@ -123,7 +124,7 @@ abbrev pub RemovalFollows : Type 0
 RemovalFollows = (s : Sealing) (d : Disk) (tree : Tree) (rows : Rows) (row : Row) (p : Path) (i n : List ℕ) (x : Node) (now : ℕ)
     → AreTexts s → IsTreeOf s d tree → HasShape s tree rows → IsRowAt rows (n ∷ p) row
     → get tree.nodes p ≡ Some (Dir i) → get tree.nodes (n ∷ p) ≡ Some x → remove_refusal rows row ≡ None
-    → Follows s d (remove_deeds s (place_of s i n (tree.long (n ∷ p))) x) (without_row rows row now)
+    → Follows s d (remove_deeds (place_of s i n (tree.long (n ∷ p))) (what_of s x)) (without_row rows row now)
 
 -- a node of any kind but a Bad one that isn't held, whose new name no node of its directory has
 abbrev pub RenameFollows : Type 0
@@ -131,5 +132,5 @@ RenameFollows = (s : Sealing) (d : Disk) (tree : Tree) (rows : Rows) (row : Row)
     → AreTexts s → IsTreeOf s d tree → HasShape s tree rows → IsRowAt rows (n ∷ p) row
     → get tree.nodes p ≡ Some (Dir i) → get tree.nodes (n ∷ p) ≡ Some x → ((t : List ℕ) → x ≢ Bad t)
     → child_of rows row.parent k ≡ None → is_held rows row ≡ false → IsNew s d tree p i k long None
-    → Follows s d (rename_deeds (place_of s i n (tree.long (n ∷ p))) (place_of s i k long) (s.seal i k) x)
+    → Follows s d (rename_deeds (place_of s i n (tree.long (n ∷ p))) (place_of s i k long) (s.seal i k) (what_of s x))
     (set_row (change_dir rows row.parent now) (with_mtime c (record row { name = k })))
