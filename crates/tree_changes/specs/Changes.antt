@@ -20,16 +20,19 @@ pub record Leads (s : Sealing) (d : Disk) (deeds : List PlainDeed) (tree : Tree)
   pub repeatable : IsRepeatable deeds
   pub clear : IsTreeOf s after tree
 
--- A name can come into the directory at p, of identifier i, at its short or its long place: it opens to itself, no node there has it, and no
--- place that it needs is taken.
-pub record IsNew (s : Sealing) (d : Disk) (tree : Tree) (p : Path) (i n : List ℕ) (long : Bool) (drawn : Option (List ℕ)) : Type 0 where
-  pub parent : get tree.nodes p ≡ Some (Dir i)
-  pub free : get tree.nodes (n ∷ p) ≡ None
+-- A name can stand in the directory of identifier i, at its short or its long place: it opens to itself, and no place that it needs is taken.
+pub record CanStand (s : Sealing) (d : Disk) (tree : Tree) (i n : List ℕ) (long : Bool) (drawn : Option (List ℕ)) : Type 0 where
   pub named : is_name n (s.open_name i (s.seal i n)) ≡ true
   pub part : long ≡ false → s.is_part (s.seal i n) ≡ true
   pub claims : List Claim
   pub claimed : AreClaimed s tree.nodes claims
   pub untaken : taken s d claims i n drawn ≡ None
+
+-- A new name can come into the directory at p, of identifier i.
+pub record IsNew (s : Sealing) (d : Disk) (tree : Tree) (p : Path) (i n : List ℕ) (long : Bool) (drawn : Option (List ℕ)) : Type 0 where
+  pub parent : get tree.nodes p ≡ Some (Dir i)
+  pub free : get tree.nodes (n ∷ p) ≡ None
+  pub place : CanStand s d tree i n long drawn
 
 -- A node of the directory at p, of identifier i, which has neither a twin nor further entries.
 pub record IsHeldByNone (tree : Tree) (p : Path) (i n : List ℕ) (x : Node) : Type 0 where

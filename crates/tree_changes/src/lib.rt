@@ -18,7 +18,7 @@ mod removal;
 mod renaming;
 
 ghost use Rattle.tree_changes.specs.Changes.{CreatesDirectory, CreatesFile, DoesAgain, EntriesAreOfPlaces, RemovesDirectory, RemovesFile, RemovesLink, RenamesDirectory, RenamesFile, RenamesLink, StaysBeside};
-ghost use Rattle.tree_changes.specs.Shapes.{ClearRowsHaveTree, DirectoryFollows, EmptyVaultHasTree, FileFollows, RemovalFollows, RenameFollows, ShapesAreOfClearRows};
+ghost use Rattle.tree_changes.specs.Shapes.{ClearRowsHaveTree, DirectoryFollows, EmptyVaultHasTree, FileFollows, RemovalFollows, RenameFollows, ShapesAreOfClearRows, StepMakesDirectory, StepMakesFile, StepRemoves, StepRenames};
 
 pub use creation::{create_dir_deeds, create_file_deeds};
 pub use place::Place;
@@ -84,6 +84,15 @@ pub fn removals_follow()
 /// Where the step gives a node a new name, the rows after it have the shape of the tree that the deeds lead to.
 pub fn renames_follow()
     ensures { RenameFollows }
+{}
+
+/// The same by requests: where the answer of a create, a remove or a change of name is no refusal and no place is taken, the
+/// deeds lead to the disk of a tree whose shape the step's rows have.
+pub fn steps_follow()
+    ensures file { StepMakesFile }
+    ensures directory { StepMakesDirectory }
+    ensures removed { StepRemoves }
+    ensures renamed { StepRenames }
 {}
 
 /// What the journal's two files hold does not matter to the tree.
