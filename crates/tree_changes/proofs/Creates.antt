@@ -169,10 +169,10 @@ module _ (s : Sealing) (d : Disk) (tree : Tree) (p : Path) (i n : List ℕ) (lon
   st = stands s d tree is
 
   pub new_name : IsNewName s d o p i n
-  new_name = record { parent = sym (is.exact p) ∙ new.parent; free = sym (is.exact (n ∷ p)) ∙ new.free; named = new.named }
+  new_name = record { parent = sym (is.exact p) ∙ new.parent; free = sym (is.exact (n ∷ p)) ∙ new.free; named = new.place.named }
 
-  pub places : (entry_at s d (s.folder_of i) (s.seal i n) ≡ None) × (get d (host_entry (s.folder_of i) (s.long_of (s.seal i n))) ≡ None) × (taken_by_identifier s d new.claims drawn ≡ None)
-  places = free_places s d new.claims i n drawn new.untaken
+  pub places : (entry_at s d (s.folder_of i) (s.seal i n) ≡ None) × (get d (host_entry (s.folder_of i) (s.long_of (s.seal i n))) ≡ None) × (taken_by_identifier s d new.place.claims drawn ≡ None)
+  places = free_places s d new.place.claims i n drawn new.place.untaken
 
   pub with_it : (x : Node) (d' : Disk) (o' : List ℕ → Path) → StandsFor s d' tree.marks (but_at tree.long (n ∷ p) long) o'
       → ((q : Path) → node_at s (folders_of s d') o' q ≡ cond (same_path (n ∷ p) q) (Some x) (node_at s (folders_of s d) o q)) → IsTreeOf s d' (with_node tree (n ∷ p) x long)
@@ -195,18 +195,18 @@ file_short s d tree p i n header texts is new = record {
     name : IsNewName s d is.owner p i n
     name = new_name s d tree p i n false None texts is new
 
-    free : (entry_at s d (s.folder_of i) (s.seal i n) ≡ None) × (get d (host_entry (s.folder_of i) (s.long_of (s.seal i n))) ≡ None) × (taken_by_identifier s d new.claims None ≡ None)
+    free : (entry_at s d (s.folder_of i) (s.seal i n) ≡ None) × (get d (host_entry (s.folder_of i) (s.long_of (s.seal i n))) ≡ None) × (taken_by_identifier s d new.place.claims None ≡ None)
     free = places s d tree p i n false None texts is new
 
     d1 : Disk
     d1 = insert d (host_entry (s.folder_of i) (s.seal i n)) (Bytes header)
 
     does : DoesAll (create_file_deeds (place_of s i n false) (s.seal i n) header) d d1
-    does = plain_does s d tree.marks tree.long is.owner p i n texts sf name free.0 free.1 header (new.part refl)
+    does = plain_does s d tree.marks tree.long is.owner p i n texts sf name free.0 free.1 header (new.place.part refl)
 
     run : StandsFor s d1 tree.marks (but_at tree.long (n ∷ p) false) is.owner
         × ((q : Path) → node_at s (folders_of s d1) is.owner q ≡ cond (same_path (n ∷ p) q) (Some (File header)) (node_at s (folders_of s d) is.owner q))
-    run = plain_run s d tree.marks tree.long is.owner p i n texts sf name free.0 free.1 header (new.part refl)
+    run = plain_run s d tree.marks tree.long is.owner p i n texts sf name free.0 free.1 header (new.place.part refl)
 
 file_long : (s : Sealing) (d : Disk) (tree : Tree) (p : Path) (i n header : List ℕ) → AreTexts s → IsTreeOf s d tree → IsNew s d tree p i n true None
     → Leads s d (create_file_deeds (place_of s i n true) (s.seal i n) header) (with_node tree (n ∷ p) (File header) true)
@@ -240,11 +240,11 @@ file_long s d tree p i n header texts is new = record {
     E : List ℕ
     E = s.long_of X
 
-    free : (entry_at s d F X ≡ None) × (get d (host_entry F E) ≡ None) × (taken_by_identifier s d new.claims None ≡ None)
+    free : (entry_at s d F X ≡ None) × (get d (host_entry F E) ≡ None) × (taken_by_identifier s d new.place.claims None ≡ None)
     free = places s d tree p i n true None texts is new
 
     text : s.is_text X ≡ true
-    text = text_of s texts i n new.named
+    text = text_of s texts i n new.place.named
 
     here : get d (host_folder F) ≡ Some Folder
     here = dir_there s d o sf.root p i name.parent
@@ -256,22 +256,22 @@ file_long s d tree p i n header texts is new = record {
     kind = inr (inr (refl, refl, refl))
 
     d2 : Disk
-    d2 = node_disk s d tree.marks tree.long o p i n texts sf name free.0 free.1 true d here free.1 none free.0 new.part text_contents header (Plain header) kind
+    d2 = node_disk s d tree.marks tree.long o p i n texts sf name free.0 free.1 true d here free.1 none free.0 new.place.part text_contents header (Plain header) kind
 
     does : DoesAll (create_file_at true F E X header) d d2
-    does = node_does s d tree.marks tree.long o p i n texts sf name free.0 free.1 true d here free.1 none free.0 new.part text_contents header (Plain header) kind
+    does = node_does s d tree.marks tree.long o p i n texts sf name free.0 free.1 true d here free.1 none free.0 new.place.part text_contents header (Plain header) kind
 
     it : IsNodeFolder s d2 F X true text_contents header (Plain header)
-    it = is_node s d tree.marks tree.long o p i n texts sf name free.0 free.1 true d here free.1 none free.0 new.part text_contents header (Plain header) kind
+    it = is_node s d tree.marks tree.long o p i n texts sf name free.0 free.1 true d here free.1 none free.0 new.place.part text_contents header (Plain header) kind
 
     shown : (seen_at s d2 F X ≡ Some (Plain header)) × (entry_of s d2 F X ≡ E) × (known_at d2 F E ≡ text_contents)
     shown = node_shown s d2 F X true text_contents header (Plain header) text it
 
     entry : (g u : List ℕ) → (g ≡ F → u ≡ E → ⊥) → get d2 (host_entry g u) ≡ get d (host_entry g u)
-    entry = off_entry s d tree.marks tree.long o p i n texts sf name free.0 free.1 true d here free.1 none free.0 new.part text_contents header (Plain header) kind
+    entry = off_entry s d tree.marks tree.long o p i n texts sf name free.0 free.1 true d here free.1 none free.0 new.place.part text_contents header (Plain header) kind
 
     inner' : (g u l : List ℕ) → (g ≡ F → u ≡ E → ⊥) → get d2 (host_inner g u l) ≡ get d (host_inner g u l)
-    inner' = off_inner s d tree.marks tree.long o p i n texts sf name free.0 free.1 true d here free.1 none free.0 new.part text_contents header (Plain header) kind
+    inner' = off_inner s d tree.marks tree.long o p i n texts sf name free.0 free.1 true d here free.1 none free.0 new.place.part text_contents header (Plain header) kind
 
     place : IsPlace s d d2 F X E
     place = at_place s d d2 F X true (λ z. holds_none X _ (none text_name)) (λ z. holds_it X _ (it.name refl))
@@ -289,7 +289,7 @@ file_long s d tree p i n header texts is new = record {
     at' = folder_at s d2 F X true text_contents header (Plain header) it
 
     folders' : (g : List ℕ) → get d2 (host_folder g) ≡ get d (host_folder g)
-    folders' = off_folder s d tree.marks tree.long o p i n texts sf name free.0 free.1 true d here free.1 none free.0 new.part text_contents header (Plain header) kind
+    folders' = off_folder s d tree.marks tree.long o p i n texts sf name free.0 free.1 true d here free.1 none free.0 new.place.part text_contents header (Plain header) kind
 
     done : StandsFor s d2 tree.marks (but_at tree.long (n ∷ p) true) o
     done = leaf_created s texts d d2 tree.marks tree.long o p i n E (Plain header) sf name.parent name.free name.named tree' place (λ g u nd h. entry g u h) inner' copies
@@ -333,14 +333,14 @@ creates_directory s d tree p i n t b texts is new valid = record {
     E : List ℕ
     E = entry_text s b X
 
-    free' : (entry_at s d F X ≡ None) × (get d (host_entry F (s.long_of X)) ≡ None) × (taken_by_identifier s d new.claims (Some t) ≡ None)
+    free' : (entry_at s d F X ≡ None) × (get d (host_entry F (s.long_of X)) ≡ None) × (taken_by_identifier s d new.place.claims (Some t) ≡ None)
     free' = places s d tree p i n b (Some t) texts is new
 
     ident : (get d (host_folder G) ≡ None) × ((y : List ℕ) → get d (host_two G) ≢ Some (Bytes y)) × ((q : Path) → claimed s (node_at s (folders_of s d) o q) ≢ Some G)
-    ident = free_identifier s d tree is new.claims t new.claimed free'.2
+    ident = free_identifier s d tree is new.place.claims t new.place.claimed free'.2
 
     text : s.is_text X ≡ true
-    text = text_of s texts i n new.named
+    text = text_of s texts i n new.place.named
 
     here : get d (host_folder F) ≡ Some Folder
     here = dir_there s d o sf.root p i name.parent
@@ -387,7 +387,7 @@ creates_directory s d tree p i n t b texts is new valid = record {
     there2 = folder2 F not_same ∙ here
 
     free : get d (host_entry F E) ≡ None
-    free = entry_free s d F X b (λ z. sym (entry_part s d F X (new.part z)) ∙ free'.0) free'.1
+    free = entry_free s d F X b (λ z. sym (entry_part s d F X (new.place.part z)) ∙ free'.0) free'.1
 
     free2 : get d2 (host_entry F E) ≡ None
     free2 = entry2 F E ∙ free
@@ -405,25 +405,25 @@ creates_directory s d tree p i n t b texts is new valid = record {
     kind = inl (refl, refl)
 
     d4 : Disk
-    d4 = node_disk s d tree.marks tree.long o p i n texts sf name free'.0 free'.1 b d2 there2 free2 none2 short2 new.part text_dir t (Named t) kind
+    d4 = node_disk s d tree.marks tree.long o p i n texts sf name free'.0 free'.1 b d2 there2 free2 none2 short2 new.place.part text_dir t (Named t) kind
 
     does : DoesAll (makes_dir b F E X G t) d d4
-    does = (d1, inr (can_two, refl), (d2, inr (can_folder, refl), node_does s d tree.marks tree.long o p i n texts sf name free'.0 free'.1 b d2 there2 free2 none2 short2 new.part text_dir t (Named t) kind))
+    does = (d1, inr (can_two, refl), (d2, inr (can_folder, refl), node_does s d tree.marks tree.long o p i n texts sf name free'.0 free'.1 b d2 there2 free2 none2 short2 new.place.part text_dir t (Named t) kind))
 
     it : IsNodeFolder s d4 F X b text_dir t (Named t)
-    it = is_node s d tree.marks tree.long o p i n texts sf name free'.0 free'.1 b d2 there2 free2 none2 short2 new.part text_dir t (Named t) kind
+    it = is_node s d tree.marks tree.long o p i n texts sf name free'.0 free'.1 b d2 there2 free2 none2 short2 new.place.part text_dir t (Named t) kind
 
     shown : (seen_at s d4 F X ≡ Some (Named t)) × (entry_of s d4 F X ≡ E) × (known_at d4 F E ≡ text_dir)
     shown = node_shown s d4 F X b text_dir t (Named t) text it
 
     entry : (g u : List ℕ) → (g ≡ F → u ≡ E → ⊥) → get d4 (host_entry g u) ≡ get d (host_entry g u)
-    entry g u h = off_entry s d tree.marks tree.long o p i n texts sf name free'.0 free'.1 b d2 there2 free2 none2 short2 new.part text_dir t (Named t) kind g u h ∙ entry2 g u
+    entry g u h = off_entry s d tree.marks tree.long o p i n texts sf name free'.0 free'.1 b d2 there2 free2 none2 short2 new.place.part text_dir t (Named t) kind g u h ∙ entry2 g u
 
     inner : (g u l : List ℕ) → (g ≡ F → u ≡ E → ⊥) → get d4 (host_inner g u l) ≡ get d (host_inner g u l)
-    inner g u l h = off_inner s d tree.marks tree.long o p i n texts sf name free'.0 free'.1 b d2 there2 free2 none2 short2 new.part text_dir t (Named t) kind g u l h ∙ inner2 g u l
+    inner g u l h = off_inner s d tree.marks tree.long o p i n texts sf name free'.0 free'.1 b d2 there2 free2 none2 short2 new.place.part text_dir t (Named t) kind g u l h ∙ inner2 g u l
 
     folder : (g : List ℕ) → get d4 (host_folder g) ≡ get d2 (host_folder g)
-    folder = off_folder s d tree.marks tree.long o p i n texts sf name free'.0 free'.1 b d2 there2 free2 none2 short2 new.part text_dir t (Named t) kind
+    folder = off_folder s d tree.marks tree.long o p i n texts sf name free'.0 free'.1 b d2 there2 free2 none2 short2 new.place.part text_dir t (Named t) kind
 
     none_in : (u : List ℕ) → get d (host_entry G u) ≡ None
     none_in u = nothing _ (λ y e. some_there _ _ (sf.tree.parents (host_entry G u) (subst IsSome (sym e) refl)) ident.0)

@@ -1,12 +1,14 @@
 -- What is known of a node that nothing holds.
-use Rattle.std.proofs.Common.{◌≡◌, ℕ, cond, List, ◌∷◌, Option, Some, None, sym, ap, ◌∙◌, subst}
-use Rattle.outside.specs.Disk.{Disk}
+use Rattle.std.proofs.Common.{◌≡◌, ℕ, Bool, true, false, cond, List, ◌∷◌, Option, Some, None, refl, sym, ap, ◌∙◌, subst, inl, inr, ◌⊎◌}
+use Rattle.outside.specs.Disk.{Disk, Node as Thing}
 use Rattle.clear_tree.specs.Walk.{Path, same_path, Sealing, Node, Dir, node_at, claimed}
-use Rattle.clear_tree.specs.Places.{folders_of}
+use Rattle.clear_tree.specs.Places.{folders_of, entry_at, entry_of}
 use Rattle.clear_tree.specs.Marks.{IsShadowedIn}
 use Rattle.clear_tree.proofs.Owner.{below_leaf}
 use Rattle.tree_changes.specs.Trees.{Tree, IsTreeOf, without_node}
-use Rattle.tree_changes.specs.Changes.{IsHeldByNone}
+use Rattle.tree_changes.specs.Changes.{IsHeldByNone, EntriesAreOfPlaces}
+use Rattle.tree_changes.specs.Deeds.{entry_text}
+use Rattle.tree_changes.proofs.Seeing.{entry_cases, some_there}
 use Rattle.tree_changes.proofs.Exact.{unset}
 use Rattle.tree_changes.proofs.Filling.{IsAt, is_at}
 use Rattle.tree_changes.proofs.Maps.{get_without}
@@ -43,3 +45,16 @@ module _ (s : Sealing) (d : Disk) (tree : Tree) (p : Path) (i n : List ℕ) (x :
   pub none_below : claimed s (Some x) ≡ None → (l : List ℕ) → node_at s (folders_of s d) o (l ∷ n ∷ p) ≡ None
   unfolding node_at
   none_below none_named l = below_leaf s (folders_of s d) o (l ∷ n ∷ p) l (node_at s (folders_of s d) o (n ∷ p)) (ap (claimed s) there ∙ none_named)
+
+pub entries_are_of_places : EntriesAreOfPlaces
+entries_are_of_places s d tree p i n x is at there = go (tree.long (n ∷ p)) (is_at s d (s.folder_of i) (s.seal i n) (tree.long (n ∷ p)) (is.placed n p i x at there))
+    (entry_cases s d (s.folder_of i) (s.seal i n))
+  where
+    go : (b : Bool) → IsAt s d (s.folder_of i) (s.seal i n) b
+        → ((entry_at s d (s.folder_of i) (s.seal i n) ≡ None) × (entry_of s d (s.folder_of i) (s.seal i n) ≡ s.long_of (s.seal i n)))
+        ⊎ ((y : Thing) × (entry_at s d (s.folder_of i) (s.seal i n) ≡ Some y) × (entry_of s d (s.folder_of i) (s.seal i n) ≡ s.seal i n))
+        → entry_of s d (s.folder_of i) (s.seal i n) ≡ entry_text s b (s.seal i n)
+    go true h (inl e) = e.1
+    go true h (inr e) = absurd (some_there _ _ e.1 (h.0 refl))
+    go false h (inl e) = absurd (h.1 refl e.0)
+    go false h (inr e) = e.2

@@ -19,6 +19,7 @@ pub mod Names
 pub mod Renames
 pub mod Rows
 pub mod Shapes
+pub mod Stepping
 pub mod Again
 pub mod Clear
 pub mod Beside

@@ -39,7 +39,7 @@ module _ (s : Sealing) (d : Disk) (tree : Tree) (p : Path) (i n k : List ℕ) (x
   abbrev pub name : IsNewName s d o p i k
   name = new_name s d tree p i k e None texts is new
 
-  abbrev pub free : (entry_at s d (s.folder_of i) (s.seal i k) ≡ None) × (get d (host_entry (s.folder_of i) (s.long_of (s.seal i k))) ≡ None) × (taken_by_identifier s d new.claims None ≡ None)
+  abbrev pub free : (entry_at s d (s.folder_of i) (s.seal i k) ≡ None) × (get d (host_entry (s.folder_of i) (s.long_of (s.seal i k))) ≡ None) × (taken_by_identifier s d new.place.claims None ≡ None)
   free = places s d tree p i k e None texts is new
 
   abbrev pub its : (kk : Kind) × (look s (folders_of s d) i n ≡ Some kk) × (kk ≢ Bare) × (node s (folders_of s d) o (n ∷ p) (Some kk) ≡ Some x)
@@ -57,18 +57,18 @@ module _ (s : Sealing) (d : Disk) (tree : Tree) (p : Path) (i n k : List ℕ) (x
     far = kind_name b kn t its.0 kind
 
     abbrev after : Disk
-    after = node_disk s d tree.marks tree.long o p i n k x b texts st it name free.0 free.1 at_b e new.part kn t kind kind'
+    after = node_disk s d tree.marks tree.long o p i n k x b texts st it name free.0 free.1 at_b e new.place.part kn t kind kind'
 
     moves : Moves s d after tree.marks tree.long o n k p e
-    moves = node_stands s d tree.marks tree.long o p i n k x b texts st it name free.0 free.1 at_b e new.part kn t kind kind' once
+    moves = node_stands s d tree.marks tree.long o p i n k x b texts st it name free.0 free.1 at_b e new.place.part kn t kind kind' once
 
     pub renames_node : Leads s d (rename_node_at b e (s.folder_of i) (entry_text s b (s.seal i n)) (entry_text s e (s.seal i k)) (s.seal i k) kn) (with_name tree (n ∷ p) (k ∷ p) e)
     renames_node = record {
       after = after;
       ordered = node_ordered (s.folder_of i) (entry_text s b (s.seal i n)) (entry_text s e (s.seal i k)) (s.seal i k) kn far b e;
-      does = node_does s d tree.marks tree.long o p i n k x b texts st it name free.0 free.1 at_b e new.part kn t kind kind';
+      does = node_does s d tree.marks tree.long o p i n k x b texts st it name free.0 free.1 at_b e new.place.part kn t kind kind';
       repeatable = node_repeatable (s.folder_of i) (entry_text s b (s.seal i n)) (entry_text s e (s.seal i k)) (s.seal i k) kn far b e
-          (node_entries s d tree.marks tree.long o p i n k x b texts st it name free.0 free.1 at_b e new.part kn t kind kind');
+          (node_entries s d tree.marks tree.long o p i n k x b texts st it name free.0 free.1 at_b e new.place.part kn t kind kind');
       clear = named_so after moves;
     }
 
@@ -125,17 +125,17 @@ module _ (s : Sealing) (d : Disk) (tree : Tree) (p : Path) (i n k y : List ℕ) 
       name' : IsNewName s d is.owner p i k
       name' = name s d tree p i n k (File y) false false texts is held new at_b
 
-      free' : (entry_at s d F Y ≡ None) × (get d (host_entry F (s.long_of Y)) ≡ None) × (taken_by_identifier s d new.claims None ≡ None)
+      free' : (entry_at s d F Y ≡ None) × (get d (host_entry F (s.long_of Y)) ≡ None) × (taken_by_identifier s d new.place.claims None ≡ None)
       free' = free s d tree p i n k (File y) false false texts is held new at_b
 
       after : Disk
       after = insert (remove d (host_entry F X)) (host_entry F Y) (Bytes y)
 
       does : DoesAll (rename_file_at false false F X Y Y) d after
-      does = plain_does s d tree.marks tree.long is.owner p i n k (File y) false texts stands' it' name' free'.0 free'.1 at_b y (kind_y false false new at_b) refl (new.part refl)
+      does = plain_does s d tree.marks tree.long is.owner p i n k (File y) false texts stands' it' name' free'.0 free'.1 at_b y (kind_y false false new at_b) refl (new.place.part refl)
 
       moves : Moves s d after tree.marks tree.long is.owner n k p false
-      moves = plain_stands s d tree.marks tree.long is.owner p i n k (File y) false texts stands' it' name' free'.0 free'.1 at_b y (kind_y false false new at_b) refl (new.part refl) refl
+      moves = plain_stands s d tree.marks tree.long is.owner p i n k (File y) false texts stands' it' name' free'.0 free'.1 at_b y (kind_y false false new at_b) refl (new.place.part refl) refl
 
   file_to_long : (new : IsNew s d tree p i k true None) → IsAt s d F X false → Leads s d (rename_file_at false true F X (s.long_of Y) Y) (with_name tree (n ∷ p) (k ∷ p) true)
   file_to_long new at_b = record {
@@ -159,7 +159,7 @@ module _ (s : Sealing) (d : Disk) (tree : Tree) (p : Path) (i n k y : List ℕ) 
       name' : IsNewName s d is.owner p i k
       name' = name s d tree p i n k (File y) false true texts is held new at_b
 
-      free' : (entry_at s d F Y ≡ None) × (get d (host_entry F (s.long_of Y)) ≡ None) × (taken_by_identifier s d new.claims None ≡ None)
+      free' : (entry_at s d F Y ≡ None) × (get d (host_entry F (s.long_of Y)) ≡ None) × (taken_by_identifier s d new.place.claims None ≡ None)
       free' = free s d tree p i n k (File y) false true texts is held new at_b
 
       off : X ≢ s.long_of Y
@@ -196,20 +196,20 @@ module _ (s : Sealing) (d : Disk) (tree : Tree) (p : Path) (i n k y : List ℕ) 
       name' : IsNewName s d is.owner p i k
       name' = name s d tree p i n k (File y) true false texts is held new at_b
 
-      free' : (entry_at s d F Y ≡ None) × (get d (host_entry F (s.long_of Y)) ≡ None) × (taken_by_identifier s d new.claims None ≡ None)
+      free' : (entry_at s d F Y ≡ None) × (get d (host_entry F (s.long_of Y)) ≡ None) × (taken_by_identifier s d new.place.claims None ≡ None)
       free' = free s d tree p i n k (File y) true false texts is held new at_b
 
       off : Y ≢ s.long_of X
-      off = not_long s texts Y X (text_of s texts i k new.named)
+      off = not_long s texts Y X (text_of s texts i k new.place.named)
 
       after : Disk
-      after = short_disk s d tree.marks tree.long is.owner p i n k (File y) true texts stands' it' name' free'.0 free'.1 at_b y (kind_y true false new at_b) refl (new.part refl)
+      after = short_disk s d tree.marks tree.long is.owner p i n k (File y) true texts stands' it' name' free'.0 free'.1 at_b y (kind_y true false new at_b) refl (new.place.part refl)
 
       does : DoesAll (rename_file_at true false F (s.long_of X) Y Y) d after
-      does = short_does s d tree.marks tree.long is.owner p i n k (File y) true texts stands' it' name' free'.0 free'.1 at_b y (kind_y true false new at_b) refl (new.part refl)
+      does = short_does s d tree.marks tree.long is.owner p i n k (File y) true texts stands' it' name' free'.0 free'.1 at_b y (kind_y true false new at_b) refl (new.place.part refl)
 
       moves : Moves s d after tree.marks tree.long is.owner n k p false
-      moves = short_stands s d tree.marks tree.long is.owner p i n k (File y) true texts stands' it' name' free'.0 free'.1 at_b y (kind_y true false new at_b) refl (new.part refl) refl
+      moves = short_stands s d tree.marks tree.long is.owner p i n k (File y) true texts stands' it' name' free'.0 free'.1 at_b y (kind_y true false new at_b) refl (new.place.part refl) refl
 
   file_long : (new : IsNew s d tree p i k true None) → IsAt s d F X true → Leads s d (rename_file_at true true F (s.long_of X) (s.long_of Y) Y) (with_name tree (n ∷ p) (k ∷ p) true)
   file_long new at_b = renames_node s d tree p i n k (File y) true true texts is held new at_b text_contents y

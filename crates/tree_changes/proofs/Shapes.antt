@@ -12,16 +12,17 @@ use Rattle.clear_tree.specs.Walk.{Path, same_path, Sealing, Node, File, Link, Di
 use Rattle.clear_tree.specs.Places.{folders_of}
 use Rattle.clear_tree.specs.Marks.{Marks, HasForeign, IsShadowedIn}
 use Rattle.clear_tree.specs.Queue.{In}
+use Rattle.clear_tree.specs.Kept.{what_of}
 use Rattle.clear_tree.specs.Rows.{kind_of, content_in}
 use Rattle.clear_tree.proofs.Paths.{path_cases, same_path-apart, same_path-itself}
 use Rattle.tree_changes.specs.Trees.{AreTexts, Tree, IsTreeOf, with_node, without_node, with_name, swapped}
-use Rattle.tree_changes.specs.Changes.{IsNew, IsHeldByNone}
+use Rattle.tree_changes.specs.Changes.{CanStand, IsNew, IsHeldByNone}
 use Rattle.tree_changes.specs.Deeds.{place_of, remove_deeds, rename_deeds}
 use Rattle.tree_changes.specs.Shapes.{IsRowAt, IsShown, HasRow, HasNode, HasShape, Follows, FileFollows, DirectoryFollows, RemovalFollows, RenameFollows}
 use Rattle.tree_changes.proofs.Seeing.{some_there, not_something}
 use Rattle.tree_changes.proofs.Maps.{get_with, get_without, get_moved}
 use Rattle.tree_changes.proofs.Rename.{swapped_twice}
-use Rattle.tree_changes.proofs.Rows.{AreLike, bump, bump_like, row_in, one_row, none_in, more_forth, more_new, more_back, more_numbered, less_forth, less_from, less_numbered, turned, turned_cases, moved_forth, moved_back, moved_numbered}
+use Rattle.tree_changes.proofs.Rows.{AreLike, bump, bump_like, row_in, one_row, no_child, none_in, more_forth, more_new, more_back, more_numbered, less_forth, less_from, less_numbered, turned, turned_cases, moved_forth, moved_back, moved_numbered}
 use Rattle.tree_changes.proofs.Held as held
 use Rattle.tree_changes.proofs.Creates.{creates_file, creates_directory}
 use Rattle.tree_changes.proofs.Removes.{removes_file, removes_link, removes_directory}
@@ -207,18 +208,30 @@ module _ (s : Sealing) (tree : Tree) (rows : Rows) (old new : Row) (p : Path) (n
 
 -- ---- creating
 
+-- a name that no row of the directory has is no node's
+no_node_of : (s : Sealing) (tree : Tree) (rows : Rows) (parent : Row) (p : Path) (n : List ℕ) → HasShape s tree rows → IsRowAt rows p parent → child_of rows parent.number n ≡ None
+    → get tree.nodes (n ∷ p) ≡ None
+no_node_of s tree rows parent p n shape at_p free = go (get tree.nodes (n ∷ p)) refl
+  where
+    go : (o : Option Node) → get tree.nodes (n ∷ p) ≡ o → get tree.nodes (n ∷ p) ≡ None
+    go None e = e
+    go (Some y) e =
+        let r = shape.rows_of (n ∷ p) y e in
+        let above : r.at.0 ≡ parent = one_row rows shape.numbered p r.at.0 parent r.at.1 at_p in
+        absurd (no_child rows parent.number n r.row free r.at.2.there r.at.2.below (r.at.2.parent ∙ ap (λ (w : Row). w.number) above) r.at.2.named)
+
 pub file_follows : FileFollows
-file_follows s d tree rows parent p i n header long now texts is shape at_p free new empty = record {
+file_follows s d tree rows parent p i n header long now texts is shape at_p dir_at free place empty = record {
   tree = with_node tree (n ∷ p) (File header) long;
-  leads = creates_file s d tree p i n header long texts is new;
-  shape = shape_more s d tree rows parent (new_row rows parent n false now) p n (File header) long now is shape at_p free new.free refl refl refl refl (sym empty) refl refl;
+  leads = creates_file s d tree p i n header long texts is (record { parent = dir_at; free = no_node_of s tree rows parent p n shape at_p free; place = place });
+  shape = shape_more s d tree rows parent (new_row rows parent n false now) p n (File header) long now is shape at_p free (no_node_of s tree rows parent p n shape at_p free) refl refl refl refl (sym empty) refl refl;
 }
 
 pub directory_follows : DirectoryFollows
-directory_follows s d tree rows parent p i n t long now texts is shape at_p free new valid = record {
+directory_follows s d tree rows parent p i n t long now texts is shape at_p dir_at free place valid = record {
   tree = with_node tree (n ∷ p) (Dir t) long;
-  leads = creates_directory s d tree p i n t long texts is new valid;
-  shape = shape_more s d tree rows parent (new_row rows parent n true now) p n (Dir t) long now is shape at_p free new.free refl refl refl refl refl refl refl;
+  leads = creates_directory s d tree p i n t long texts is (record { parent = dir_at; free = no_node_of s tree rows parent p n shape at_p free; place = place }) valid;
+  shape = shape_more s d tree rows parent (new_row rows parent n true now) p n (Dir t) long now is shape at_p free (no_node_of s tree rows parent p n shape at_p free) refl refl refl refl refl refl refl;
 }
 
 -- ---- removing
@@ -263,7 +276,7 @@ module _ (s : Sealing) (d : Disk) (tree : Tree) (rows : Rows) (row : Row) (p : P
       ∙ sym (cond-false (row.number == root) _ _ (ne_eqb row.number root at_it.2.below)) ∙ none
 
   removal : (x : Node) → get tree.nodes (n ∷ p) ≡ Some x → removal_refusal rows row (kind_of x) ≡ None
-      → Follows s d (remove_deeds s (place_of s i n (tree.long (n ∷ p))) x) (without_row rows row now)
+      → Follows s d (remove_deeds (place_of s i n (tree.long (n ∷ p))) (what_of s x)) (without_row rows row now)
   removal (File b) e none =
       let h = unheld (File b) e (passes (is_held rows row) refusals.Foreign none) in
       record {
@@ -303,11 +316,18 @@ module _ (s : Sealing) (d : Disk) (tree : Tree) (rows : Rows) (row : Row) (p : P
   removal (Bad t) e none = absurd (cc)
 
   pub removed : (x : Node) → get tree.nodes (n ∷ p) ≡ Some x → remove_refusal rows row ≡ None
-      → Follows s d (remove_deeds s (place_of s i n (tree.long (n ∷ p))) x) (without_row rows row now)
+      → Follows s d (remove_deeds (place_of s i n (tree.long (n ∷ p))) (what_of s x)) (without_row rows row now)
   removed x e none = removal x e (refuses_kind x e none)
 
   -- ---- renaming
-  module _ (k : List ℕ) (long : Bool) (c : PlainChange) (free : child_of rows row.parent k ≡ None) (held' : is_held rows row ≡ false) (new : IsNew s d tree p i k long None) where
+  module _ (k : List ℕ) (long : Bool) (c : PlainChange) (free : child_of rows row.parent k ≡ None) (held' : is_held rows row ≡ false) (place : CanStand s d tree i k long None) where
+    new : IsNew s d tree p i k long None
+    new = record {
+      parent = at_p;
+      free = no_node_of s tree rows at_it.0 p k shape at_it.1 (ap (λ (z : ℕ). child_of rows z k) (sym at_it.2.parent) ∙ free);
+      place = place;
+    }
+
     apart : (x : Node) → get tree.nodes (n ∷ p) ≡ Some x → n ≢ k
     apart x e h = some_there _ _ e (ap (λ (z : List ℕ). get tree.nodes (z ∷ p)) h ∙ new.free)
 
@@ -316,7 +336,7 @@ module _ (s : Sealing) (d : Disk) (tree : Tree) (rows : Rows) (row : Row) (p : P
     shaped x e = shape_moved s tree rows row (with_mtime c (record row { name = k })) p n k long now (apart x e) shape at_it free refl refl refl refl refl refl refl
 
     pub named_so : (x : Node) → get tree.nodes (n ∷ p) ≡ Some x → ((t : List ℕ) → x ≢ Bad t)
-        → Follows s d (rename_deeds (place_of s i n (tree.long (n ∷ p))) (place_of s i k long) (s.seal i k) x)
+        → Follows s d (rename_deeds (place_of s i n (tree.long (n ∷ p))) (place_of s i k long) (s.seal i k) (what_of s x))
         (set_row (change_dir rows row.parent now) (with_mtime c (record row { name = k })))
     named_so (File b) e good = record {
       tree = with_name tree (n ∷ p) (k ∷ p) long;
@@ -339,5 +359,5 @@ pub removal_follows : RemovalFollows
 removal_follows s d tree rows row p i n x now texts is shape at_it at_p there none = removed s d tree rows row p i n now texts is shape at_it at_p x there none
 
 pub rename_follows : RenameFollows
-rename_follows s d tree rows row p i n k x long c now texts is shape at_it at_p there good free held' new =
-    named_so s d tree rows row p i n now texts is shape at_it at_p k long c free held' new x there good
+rename_follows s d tree rows row p i n k x long c now texts is shape at_it at_p there good free held' place =
+    named_so s d tree rows row p i n now texts is shape at_it at_p k long c free held' place x there good

@@ -2,8 +2,9 @@
 -- is filled (Cryptomator's vault format 8).
 use Rattle.std.specs.Prelude.{ℕ, Bool, true, false, List, [], ◌∷◌, ◌++◌}
 use Rattle.deeds.specs.Deeds.{PlainDeed, MakesDir, Puts, Renames, Removes, RemovesDir}
-use Rattle.clear_tree.specs.Walk.{Sealing, Node, File, Link, Dir, Bad}
+use Rattle.clear_tree.specs.Walk.{Sealing}
 use Rattle.clear_tree.specs.Places.{host_two, host_folder, host_entry, host_inner, text_dir, text_dirid, text_symlink, text_contents, text_name}
+use Rattle.clear_tree.specs.Kept.{What, KeptFile, KeptLink, KeptDir, KeptBad}
 
 -- a place of a node: the 32 characters of its directory's folder, its entry there, and whether that is the long place
 pub record Place : Type 0 where
@@ -81,16 +82,16 @@ create_dir_deeds place text own identifier =
     ∷ MakesDir (host_folder own)
     ∷ (make_node place.long place.folder place.entry text ++ Puts (inner_path place text_dir) identifier ∷ [])
 
--- a Bad node is never removed
-abbrev pub remove_deeds : Sealing → Place → Node → List PlainDeed
-remove_deeds s place (File b) = remove_file_at place.long place.folder place.entry
-remove_deeds s place (Link b) = remove_node_at place.long place.folder place.entry text_symlink
-remove_deeds s place (Dir i) = remove_dir_at place.long place.folder place.entry (s.folder_of i)
-remove_deeds s place (Bad t) = []
+-- of a node, by what is kept of it. A Bad node is never removed
+abbrev pub remove_deeds : Place → What → List PlainDeed
+remove_deeds place (KeptFile size) = remove_file_at place.long place.folder place.entry
+remove_deeds place (KeptLink size) = remove_node_at place.long place.folder place.entry text_symlink
+remove_deeds place (KeptDir identifier own) = remove_dir_at place.long place.folder place.entry own
+remove_deeds place (KeptBad text) = []
 
 -- from one place to another of the same directory. A directory's own folder stays where it is; a Bad node is never renamed
-abbrev pub rename_deeds : Place → Place → List ℕ → Node → List PlainDeed
-rename_deeds old new text (File b) = rename_file_at old.long new.long old.folder old.entry new.entry text
-rename_deeds old new text (Link b) = rename_node_at old.long new.long old.folder old.entry new.entry text text_symlink
-rename_deeds old new text (Dir i) = rename_node_at old.long new.long old.folder old.entry new.entry text text_dir
-rename_deeds old new text (Bad t) = []
+abbrev pub rename_deeds : Place → Place → List ℕ → What → List PlainDeed
+rename_deeds old new text (KeptFile size) = rename_file_at old.long new.long old.folder old.entry new.entry text
+rename_deeds old new text (KeptLink size) = rename_node_at old.long new.long old.folder old.entry new.entry text text_symlink
+rename_deeds old new text (KeptDir identifier own) = rename_node_at old.long new.long old.folder old.entry new.entry text text_dir
+rename_deeds old new text (KeptBad text') = []

@@ -3,3 +3,4 @@ pub mod Taken
 pub mod Trees
 pub mod Changes
 pub mod Shapes
+pub mod Made

@@ -1,17 +1,20 @@
 -- The shape of a tree's rows: by path, but for numbers, versions and moments.
-use Rattle.std.specs.Prelude.{◌≡◌, ◌≢◌, ◌<◌, ℕ, List, [], ◌∷◌, Bool, true, false, Some, None}
+use Rattle.std.specs.Prelude.{◌≡◌, ◌≢◌, ◌<◌, ℕ, List, [], ◌∷◌, Bool, true, false, Some, None, Ok}
 use Rattle.std.specs.FinMap.{get}
 use Rattle.outside.specs.Disk.{Disk, IsTree}
 use Rattle.deeds.specs.Deeds.{PlainDeed}
-use Rattle.tree_model.specs.Rows.{chunks, Row, Rows, root, child_of}
-use Rattle.tree_model.specs.Asked.{PlainChange}
-use Rattle.tree_model.specs.Step.{is_held, remove_refusal, change_dir, new_row, set_row, with_mtime, with_new, without_row}
+use Rattle.tree_model.specs.declared.stat.Qid.{Qid}
+use Rattle.tree_model.specs.Names.{clear_name}
+use Rattle.tree_model.specs.Rows.{chunks, Row, Rows, root, row_of, child_of}
+use Rattle.tree_model.specs.Asked.{PlainChange, create, remove, change, qid, done}
+use Rattle.tree_model.specs.Step.{is_held, remove_refusal, change_dir, new_row, set_row, with_mtime, with_new, without_row, new_name, new_length, step}
 use Rattle.clear_tree.specs.Walk.{Path, Sealing, Node, Dir, Bad}
 use Rattle.clear_tree.specs.Queue.{In}
+use Rattle.clear_tree.specs.Kept.{what_of}
 use Rattle.clear_tree.specs.Rows.{kind_of, content_in, IsClear}
 use Rattle.tree_changes.specs.Trees.{AreTexts, Tree, IsTreeOf}
 use Rattle.tree_changes.specs.Deeds.{place_of, create_file_deeds, create_dir_deeds, remove_deeds, rename_deeds}
-use Rattle.tree_changes.specs.Changes.{IsNew, Leads}
+use Rattle.tree_changes.specs.Changes.{CanStand, Leads}
 
 -- a row of this name in the directory of another
 pub record IsRowIn (rows : Rows) (above : Row) (name : List ℕ) (row : Row) : Type 0 where
@@ -108,14 +111,14 @@ pub record Follows (s : Sealing) (d : Disk) (deeds : List PlainDeed) (rows : Row
 -- a new file, whose header makes it one without chunks: no node of its directory has the name
 abbrev pub FileFollows : Type 0
 FileFollows = (s : Sealing) (d : Disk) (tree : Tree) (rows : Rows) (parent : Row) (p : Path) (i n header : List ℕ) (long : Bool) (now : ℕ)
-    → AreTexts s → IsTreeOf s d tree → HasShape s tree rows → IsRowAt rows p parent → child_of rows parent.number n ≡ None
-    → IsNew s d tree p i n long None → s.content header ≡ chunks true []
+    → AreTexts s → IsTreeOf s d tree → HasShape s tree rows → IsRowAt rows p parent → get tree.nodes p ≡ Some (Dir i)
+    → child_of rows parent.number n ≡ None → CanStand s d tree i n long None → s.content header ≡ chunks true []
     → Follows s d (create_file_deeds (place_of s i n long) (s.seal i n) header) (with_new rows (new_row rows parent n false now) now)
 
 abbrev pub DirectoryFollows : Type 0
 DirectoryFollows = (s : Sealing) (d : Disk) (tree : Tree) (rows : Rows) (parent : Row) (p : Path) (i n t : List ℕ) (long : Bool) (now : ℕ)
-    → AreTexts s → IsTreeOf s d tree → HasShape s tree rows → IsRowAt rows p parent → child_of rows parent.number n ≡ None
-    → IsNew s d tree p i n long (Some t) → s.valid_id t ≡ true
+    → AreTexts s → IsTreeOf s d tree → HasShape s tree rows → IsRowAt rows p parent → get tree.nodes p ≡ Some (Dir i)
+    → child_of rows parent.number n ≡ None → CanStand s d tree i n long (Some t) → s.valid_id t ≡ true
     → Follows s d (create_dir_deeds (place_of s i n long) (s.seal i n) (s.folder_of t) t) (with_new rows (new_row rows parent n true now) now)
 
 -- a node of any kind that the step does not refuse to remove
@@ -123,13 +126,44 @@ abbrev pub RemovalFollows : Type 0
 RemovalFollows = (s : Sealing) (d : Disk) (tree : Tree) (rows : Rows) (row : Row) (p : Path) (i n : List ℕ) (x : Node) (now : ℕ)
     → AreTexts s → IsTreeOf s d tree → HasShape s tree rows → IsRowAt rows (n ∷ p) row
     → get tree.nodes p ≡ Some (Dir i) → get tree.nodes (n ∷ p) ≡ Some x → remove_refusal rows row ≡ None
-    → Follows s d (remove_deeds s (place_of s i n (tree.long (n ∷ p))) x) (without_row rows row now)
+    → Follows s d (remove_deeds (place_of s i n (tree.long (n ∷ p))) (what_of s x)) (without_row rows row now)
 
 -- a node of any kind but a Bad one that isn't held, whose new name no node of its directory has
 abbrev pub RenameFollows : Type 0
 RenameFollows = (s : Sealing) (d : Disk) (tree : Tree) (rows : Rows) (row : Row) (p : Path) (i n k : List ℕ) (x : Node) (long : Bool) (c : PlainChange) (now : ℕ)
     → AreTexts s → IsTreeOf s d tree → HasShape s tree rows → IsRowAt rows (n ∷ p) row
     → get tree.nodes p ≡ Some (Dir i) → get tree.nodes (n ∷ p) ≡ Some x → ((t : List ℕ) → x ≢ Bad t)
-    → child_of rows row.parent k ≡ None → is_held rows row ≡ false → IsNew s d tree p i k long None
-    → Follows s d (rename_deeds (place_of s i n (tree.long (n ∷ p))) (place_of s i k long) (s.seal i k) x)
+    → child_of rows row.parent k ≡ None → is_held rows row ≡ false → CanStand s d tree i k long None
+    → Follows s d (rename_deeds (place_of s i n (tree.long (n ∷ p))) (place_of s i k long) (s.seal i k) (what_of s x))
     (set_row (change_dir rows row.parent now) (with_mtime c (record row { name = k })))
+
+-- ---- by requests: the deeds and the rows of a step that answers no refusal
+
+-- a file made in the directory of a number
+abbrev pub StepMakesFile : Type 0
+StepMakesFile = (s : Sealing) (d : Disk) (tree : Tree) (rows : Rows) (parent : Row) (p : Path) (i n name header : List ℕ) (long : Bool) (number mode now : ℕ) (q : Qid)
+    → AreTexts s → IsTreeOf s d tree → HasShape s tree rows → row_of rows number ≡ Some parent → IsRowAt rows p parent → get tree.nodes p ≡ Some (Dir i) → clear_name name ≡ Ok n
+    → (step rows (create number name false mode) now).answer.reply ≡ qid q → CanStand s d tree i n long None → s.content header ≡ chunks true []
+    → Follows s d (create_file_deeds (place_of s i n long) (s.seal i n) header) (step rows (create number name false mode) now).rows
+
+abbrev pub StepMakesDirectory : Type 0
+StepMakesDirectory = (s : Sealing) (d : Disk) (tree : Tree) (rows : Rows) (parent : Row) (p : Path) (i n name t : List ℕ) (long : Bool) (number mode now : ℕ) (q : Qid)
+    → AreTexts s → IsTreeOf s d tree → HasShape s tree rows → row_of rows number ≡ Some parent → IsRowAt rows p parent → get tree.nodes p ≡ Some (Dir i) → clear_name name ≡ Ok n
+    → (step rows (create number name true mode) now).answer.reply ≡ qid q → CanStand s d tree i n long (Some t) → s.valid_id t ≡ true
+    → Follows s d (create_dir_deeds (place_of s i n long) (s.seal i n) (s.folder_of t) t) (step rows (create number name true mode) now).rows
+
+-- the node of a number removed
+abbrev pub StepRemoves : Type 0
+StepRemoves = (s : Sealing) (d : Disk) (tree : Tree) (rows : Rows) (row : Row) (p : Path) (i n : List ℕ) (x : Node) (number now : ℕ)
+    → AreTexts s → IsTreeOf s d tree → HasShape s tree rows → row_of rows number ≡ Some row → IsRowAt rows (n ∷ p) row
+    → get tree.nodes p ≡ Some (Dir i) → get tree.nodes (n ∷ p) ≡ Some x → (step rows (remove number) now).answer.reply ≡ done
+    → Follows s d (remove_deeds (place_of s i n (tree.long (n ∷ p))) (what_of s x)) (step rows (remove number) now).rows
+
+-- and given another name
+abbrev pub StepRenames : Type 0
+StepRenames = (s : Sealing) (d : Disk) (tree : Tree) (rows : Rows) (row : Row) (p : Path) (i n k name : List ℕ) (x : Node) (long : Bool) (number now : ℕ) (c : PlainChange)
+    → AreTexts s → IsTreeOf s d tree → HasShape s tree rows → row_of rows number ≡ Some row → IsRowAt rows (n ∷ p) row
+    → get tree.nodes p ≡ Some (Dir i) → get tree.nodes (n ∷ p) ≡ Some x
+    → new_name row c ≡ Some name → new_length row c ≡ None → clear_name name ≡ Ok k
+    → (step rows (change number c) now).answer.reply ≡ done → CanStand s d tree i k long None
+    → Follows s d (rename_deeds (place_of s i n (tree.long (n ∷ p))) (place_of s i k long) (s.seal i k) (what_of s x)) (step rows (change number c) now).rows

@@ -2,16 +2,28 @@
 //! refuse one and no place is taken, they can be done, again after a stop too, and leave the disk of the tree after it.
 //!
 //! ```
-//! // From the tree of a disk: a new file's one deed at a short place puts its header.
-//! tree_changes::creates_file();
-//! tree_changes::removes_file();
+//! let old = Place { folder, entry: node.entry(), long: node.is_long() };
+//! let new = Place { folder, entry: b"dGV4dA==.c9r", long: false };
+//! let deeds = tree_changes::rename_deeds(alloc, &old, &new, b"dGV4dA==.c9r", node.what())?;
+//! let batch = Batch::from_deeds(deeds);
 //! ```
 //!
-//! Its functions are laws: they do nothing, and their clauses hold.
+//! Its functions without arguments are laws: they do nothing, and their clauses hold.
 #![tactic(auto)]
 
-ghost use Rattle.tree_changes.specs.Changes.{CreatesDirectory, CreatesFile, DoesAgain, RemovesDirectory, RemovesFile, RemovesLink, RenamesDirectory, RenamesFile, RenamesLink, StaysBeside};
-ghost use Rattle.tree_changes.specs.Shapes.{ClearRowsHaveTree, DirectoryFollows, EmptyVaultHasTree, FileFollows, RemovalFollows, RenameFollows, ShapesAreOfClearRows};
+mod creation;
+mod known;
+mod place;
+mod removal;
+mod renaming;
+
+ghost use Rattle.tree_changes.specs.Changes.{CreatesDirectory, CreatesFile, DoesAgain, EntriesAreOfPlaces, RemovesDirectory, RemovesFile, RemovesLink, RenamesDirectory, RenamesFile, RenamesLink, StaysBeside};
+ghost use Rattle.tree_changes.specs.Shapes.{ClearRowsHaveTree, DirectoryFollows, EmptyVaultHasTree, FileFollows, RemovalFollows, RenameFollows, ShapesAreOfClearRows, StepMakesDirectory, StepMakesFile, StepRemoves, StepRenames};
+
+pub use creation::{create_dir_deeds, create_file_deeds};
+pub use place::Place;
+pub use removal::remove_deeds;
+pub use renaming::rename_deeds;
 
 /// A file is made, at its short or its long place.
 pub fn creates_file()
@@ -74,6 +86,15 @@ pub fn renames_follow()
     ensures { RenameFollows }
 {}
 
+/// The same by requests: where the answer of a create, a remove or a change of name is no refusal and no place is taken, the
+/// deeds lead to the disk of a tree whose shape the step's rows have.
+pub fn steps_follow()
+    ensures file { StepMakesFile }
+    ensures directory { StepMakesDirectory }
+    ensures removed { StepRemoves }
+    ensures renamed { StepRenames }
+{}
+
 /// What the journal's two files hold does not matter to the tree.
 pub fn stays_beside()
     ensures { StaysBeside }
@@ -85,4 +106,9 @@ pub fn clear_rows_have_shape()
     ensures have { ClearRowsHaveTree }
     ensures some { EmptyVaultHasTree }
     ensures same { ShapesAreOfClearRows }
+{}
+
+/// Each node's entry is that of its place.
+pub fn entries_are_of_places()
+    ensures { EntriesAreOfPlaces }
 {}

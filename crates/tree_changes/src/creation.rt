@@ -1,0 +1,68 @@
+ghost use Rattle.std.specs.Prelude.{◌≡◌, IfOk, IsTrue};
+ghost use Rattle.vault_path.specs.Parts.{is_path};
+ghost use Rattle.deeds.specs.Plain.{plains};
+ghost use Rattle.clear_tree.specs.Places.{host_folder};
+ghost use Rattle.tree_changes.specs.Deeds as changes;
+ghost use Rattle.tree_changes.specs.Made.{IsHostPlace, place_at};
+
+use crate::known::{CONTENTS, DIR, NAME};
+use crate::place::{Place, entry_of, folder_of, inner_of, two_of};
+use deeds::Deed;
+use std::alloc::{AllocError, Global};
+
+/// The deeds that make a file without chunks, of this header, at a place. `text` is the text of its name, which a long place
+/// keeps. Fails only where memory runs out.
+pub fn create_file_deeds(
+    alloc: Global,
+    place: &Place,
+    text: &[u8],
+    header: Vec<u8>,
+) -> Result<Vec<Deed>, AllocError>
+    requires { IsHostPlace (place_at place.now) }
+    ensures { IfOk result (λ deeds. plains deeds.items ≡ changes.create_file_deeds (place_at place.now) text.now header.items) }
+{
+    if !place.long {
+        return Ok(vec![in alloc; Deed::Put(entry_of(place), header)]?);
+    }
+    let name = Vec::from_slice(alloc, text)?;
+    let deeds = vec![in alloc;
+        Deed::MakeDir(entry_of(place)),
+        Deed::Put(inner_of(place, NAME), name),
+        Deed::Put(inner_of(place, CONTENTS), header),
+    ]?;
+    Ok(deeds)
+}
+
+/// The deeds that make a directory of this identifier at a place, with its own folder of these 32 characters. Fails only where
+/// memory runs out.
+pub fn create_dir_deeds(
+    alloc: Global,
+    place: &Place,
+    text: &[u8],
+    own: &[u8; 32],
+    identifier: &[u8],
+) -> Result<Vec<Deed>, AllocError>
+    requires place { IsHostPlace (place_at place.now) }
+    requires own { IsTrue (is_path (host_folder own.now)) }
+    ensures { IfOk result (λ deeds. plains deeds.items ≡ changes.create_dir_deeds (place_at place.now) text.now own.now identifier.now) }
+{
+    let bytes = Vec::from_slice(alloc, identifier)?;
+    if !place.long {
+        let deeds = vec![in alloc;
+            Deed::MakeDir(two_of(own)),
+            Deed::MakeDir(folder_of(own)),
+            Deed::MakeDir(entry_of(place)),
+            Deed::Put(inner_of(place, DIR), bytes),
+        ]?;
+        return Ok(deeds);
+    }
+    let name = Vec::from_slice(alloc, text)?;
+    let deeds = vec![in alloc;
+        Deed::MakeDir(two_of(own)),
+        Deed::MakeDir(folder_of(own)),
+        Deed::MakeDir(entry_of(place)),
+        Deed::Put(inner_of(place, NAME), name),
+        Deed::Put(inner_of(place, DIR), bytes),
+    ]?;
+    Ok(deeds)
+}
