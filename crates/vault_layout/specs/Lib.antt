@@ -1,4 +1,0 @@
-pub mod Clear
-pub mod Loaded
-pub mod Entries
-pub mod Faults
