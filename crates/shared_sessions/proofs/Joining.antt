@@ -237,11 +237,14 @@ module _ {N E C : Type 0} (start : Rows → Origin → Type 0) (draws : Option (
       let p = parts start draws listener entropy z whole.history (tickets_of ss') r.rows r.origin r.begins 0 n ss ss' ws ws' h.crews h.after h.served.shares new h.hired h.served.extended h.dismissed h.ready whole.parts in
       let pairs = worked_pairs h in
       let count = pairs.0 in
+      let gone = crews_pairs ss ws h.crews h.hired in
+      let back = crews_pairs ss' ws' h.after h.dismissed in
       let drawn = p.drawn in (
         r.rows,
         r.origin,
         r.begins,
         record {
+          count = back.1 ∙ (extended_pairs _ h.crews h.after h.served.shares h.served.extended ∙ sym gone.1);
           entries = entries_in whole.history;
           right = r.right;
           shares = h.served.shares;

@@ -39,11 +39,12 @@ AreCallers draws origin entries j workers shares = ⊥
 abbrev pub all_asked : {C : Type 0} → List (Share C) → List Asked
 all_asked shares = flat_map (λ share. share.asked) shares
 
--- Each worker served its share of the sessions, and their ends were counted, or some listener failed. The tree stands for one history, in which
+-- All workers are back. Each served its share of the sessions, and their ends were counted, or some listener failed. The tree stands for one history, in which
 -- each caller has what was asked in its worker's share, and nobody else has anything. A request has no turn left only where the most tickets
 -- that all requests may take are more than there are turns.
 pub record IsJoined {T N E C : Type 0} (stands : T → Rows → Origin → List Entry → Type 0) (draws : Option (List ℕ) → Option (List ℕ) → Made → Type 0) (listener : N → ListenerView C) (entropy : E → EntropyView) (link : C → LinkView) (second : Option ℕ)
     (sessions at_once : ℕ) (rows : Rows) (origin : Origin) (tree : T) (olds news : List (Worker N E)) (counts : Result SessionCounts Failed) : Type 0 where
+  pub count : length news ≡ length olds
   pub entries : List Entry
   pub right : stands tree rows origin entries
   pub shares : List (Share C)

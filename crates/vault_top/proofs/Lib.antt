@@ -1,9 +1,13 @@
 pub mod Counted
 pub mod Shares
+pub mod Callers
 pub mod Written
 pub mod Outcomes
 pub mod Opened
+pub mod Begun
+pub mod Handed
 pub mod Reasons
 pub mod Asked
+pub mod Numbers
 pub mod Soundness
 pub mod SoundMaking

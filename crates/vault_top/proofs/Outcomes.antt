@@ -1,15 +1,24 @@
 -- The endings that serving comes to.
-use Rattle.std.proofs.Common.{◌≡◌, ℕ, ◌≤◌, List, [], ◌∷◌, ◌++◌, length, codes, get_or, drop, refl, sym, ap, subst, ◌∙◌, inl, arith}
+use Rattle.std.proofs.Common.{◌≡◌, ℕ, ◌≤◌, List, [], ◌∷◌, ◌++◌, length, codes, get_or, drop, refl, sym, ap, subst, ◌∙◌, inl, inr, Option, Result, IfOk, arith}
 use Rattle.outside.specs.Calls.{Rose, Changes}
 use Rattle.session_server.specs.declared.ending.SessionEnd.{SessionEnd}
 use Rattle.vault_top.specs.Report.{line, sessions_line, TakesPart}
-use Rattle.vault_top.specs.Span.{SinkView}
-use Rattle.vault_top.specs.Ending.{Ending, served, listener_fault, closing_fault, serving, report_of, status_of, cut_status_of, IsReported}
-use Rattle.vault_top.specs.Writing.{AreCounts, IsWritten}
-use Rattle.vault_top.specs.Serving.{HasOutcome, AreCounted, MayEnd}
-use Rattle.vault_top.specs.declared.report.SessionCounts.{SessionCounts}
+use Rattle.vault_top.specs.Span.{SinkView, Views}
+use Rattle.vault_top.specs.Ending.{Ending, no_memory_to_serve, served, listener_fault, closing_fault, serving, report_of, status_of, cut_status_of, IsReported}
+use Rattle.vault_top.specs.Writing.{IsWritten}
+use Rattle.vault_top.specs.Serving.{HasOutcome, HasServed, AreCounted, MayEnd, unreported}
+use Rattle.session_workers.specs.declared.counts.SessionCounts.{SessionCounts}
+use Rattle.session_workers.specs.Ends.{AreCounts}
+use Rattle.session_workers.specs.Shares.{all_ends}
+use Rattle.shared_sessions.specs.declared.workers.Worker.{Worker}
+use Rattle.tree_model.specs.Rows.{Rows}
+use Rattle.tree_history.specs.History.{Origin}
+use Rattle.outside.specs.Views.{FolderView}
+use Rattle.outside.specs.declared.stream.Failed.{Failed}
+use Rattle.vault_top.specs.declared.task.Service.{Service}
+use Rattle.vault_top.specs.declared.serving.HandedBack.{HandedBack}
 use Rattle.vault_top.specs.declared.serving.Outcome.{Outcome}
-use Rattle.vault_top.specs.declared.serving.Outcome.TheVariants.{Served, ListenerFault, FolderFault}
+use Rattle.vault_top.specs.declared.serving.Outcome.TheVariants.{Served, ListenerFault, FolderFault, NoMemory}
 use Rattle.vault_top.proofs.Written.{written_then, written_not, written_as}
 
 pub counts_of : (ends : List SessionEnd) (outcome : Outcome) (counts : SessionCounts) → outcome ≡ Served counts → AreCounted ends outcome → AreCounts counts ends
@@ -18,16 +27,25 @@ counts_of ends outcome counts e h = subst (λ o. AreCounted ends o) e h
 pub may_end : (ends : List SessionEnd) (outcome other : Outcome) (ending : Ending) → outcome ≡ other → MayEnd ends other ending → MayEnd ends outcome ending
 may_end ends outcome other ending e h = subst (λ o. MayEnd ends o ending) (sym e) h
 
-pub counted_in : (F G : Type 0) (ends : List SessionEnd) (outcome : Outcome) → HasOutcome F G ends outcome → AreCounted ends outcome
-counted_in F G ends (Served counts) h = h
-counted_in F G ends ListenerFault h = tt
-counted_in F G ends FolderFault h = tt
+counted_as : (counts : Result SessionCounts Failed) (F : Type 0) (all ends : List SessionEnd) (outcome : Outcome) → HasOutcome counts F outcome → IfOk counts (λ c. AreCounts c all) → all ≡ ends → AreCounted ends outcome
+counted_as counts F all ends (Served c) h counted same =
+    let counted' : AreCounts c all = subst (λ (r : Result SessionCounts Failed). IfOk r (λ c. AreCounts c all)) h counted in
+    subst (λ (l : List SessionEnd). AreCounts c l) same counted'
+counted_as counts F all ends ListenerFault h counted same = tt
+counted_as counts F all ends FolderFault h counted same = tt
+counted_as counts F all ends NoMemory h counted same = tt
+
+pub counted_in : {D N C E : Type 0} (start : Rows → Origin → Type 0) (since : FolderView → Type 0) (views : Views D N C E) (second : Option ℕ) (service : Service) (workers workers' : List (Worker N E)) (ends : List SessionEnd) (back : HandedBack D)
+    → HasServed start since views second service workers workers' ends back → AreCounted ends back.outcome
+counted_in start since views second service workers workers' ends back (inl h) = counted_as h.counts _ (all_ends h.joined.shares) ends back.outcome h.outcome h.joined.counted h.ended
+counted_in start since views second service workers workers' ends back (inr h) = subst (λ (o : Outcome). AreCounted ends o) (sym h.outcome) tt
 
 -- where `serving` wasn't taken whole, the ending is that of the last line that isn't written
-pub unwritten : (ends : List SessionEnd) (outcome : Outcome) → (ending : Ending) × MayEnd ends outcome ending × (cut_status_of ending ≡ 4) × (rest : List ℕ) × (report_of ending ≡ serving ++ rest)
+pub unwritten : (ends : List SessionEnd) (outcome : Outcome) → (ending : Ending) × MayEnd ends outcome ending × (cut_status_of ending ≡ unreported outcome) × (rest : List ℕ) × (report_of ending ≡ serving ++ rest)
 unwritten ends (Served counts) = (served ends, inl refl, refl, sessions_line ends, refl)
 unwritten ends ListenerFault = (listener_fault ends, refl, refl, line (codes "listener fault"), refl)
 unwritten ends FolderFault = (closing_fault ends, refl, refl, line (codes "device fault: folder"), refl)
+unwritten ends NoMemory = (no_memory_to_serve, refl, refl, line (codes "out of memory"), refl)
 
 -- how serving was reported: by an ending that its outcome comes to
 abbrev pub Reports : List SessionEnd → Outcome → SinkView → SinkView → ℕ → Type 0
@@ -48,7 +66,7 @@ reports_both ends outcome before middle after status le first last counted =
     )
 
 -- the first line wasn't taken whole
-pub reports_first : (ends : List SessionEnd) (outcome : Outcome) (before after : SinkView) (status : ℕ) → Rose before.faults after.faults → status ≡ 4
+pub reports_first : (ends : List SessionEnd) (outcome : Outcome) (before after : SinkView) (status : ℕ) → Rose before.faults after.faults → status ≡ unreported outcome
     → Changes before.taken after.taken (TakesPart serving) → Reports ends outcome before after status
 reports_first ends outcome before after status failed same h =
     let l = unwritten ends outcome in (

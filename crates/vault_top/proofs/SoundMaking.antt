@@ -20,7 +20,7 @@ use Rattle.vault_causes.specs.declared.cause.Cause.TheVariants.{Memory}
 use Rattle.vault_top.specs.Words.{Ask}
 use Rattle.vault_top.specs.Span.{Course, Views, WorkerSpan, Span, Given}
 use Rattle.vault_top.specs.Making.{HasNoPassword, HasRisen, IsNotMade}
-use Rattle.vault_top.specs.Ending.{Ending, refused, usage_said, version_said, made, served, listener_fault, closing_fault, no_memory_to_report, DrawsAlone, IsRefused, HasReason}
+use Rattle.vault_top.specs.Ending.{Ending, refused, usage_said, version_said, made, no_memory_to_serve, served, listener_fault, closing_fault, no_memory_to_report, DrawsAlone, IsRefused, HasReason}
 use Rattle.vault_top.specs.Sound.{IsSoundToMake, IsFaultless, IsMadeOrFull, SomeRandomFailed}
 use Rattle.vault_top.proofs.Asked.{AskPlainly, one_job, not_refused}
 
@@ -80,6 +80,8 @@ sound_to_make views span usage_said is faultless random h =
 sound_to_make views span version_said is faultless random h =
     let e : version ≡ make is.dir = one_job span.words (make is.dir) version (plainly span.words is.dir is.words) h.0.asks in absurd cc
 sound_to_make views span made is faultless random h = tt
+sound_to_make views span no_memory_to_serve is faultless random h =
+    let e : serve h.serving ≡ make is.dir = one_job span.words (make is.dir) (serve h.serving) (plainly span.words is.dir is.words) h.words.asks in absurd cc
 sound_to_make views span (served ends) is faultless random h =
     let e : serve h.serving ≡ make is.dir = one_job span.words (make is.dir) (serve h.serving) (plainly span.words is.dir is.words) h.words.asks in absurd cc
 sound_to_make views span (listener_fault ends) is faultless random h =

@@ -24,7 +24,7 @@ use Rattle.vault_causes.specs.declared.cause.Cause.TheVariants.{Memory}
 use Rattle.vault_top.specs.Words.{Ask, kind_of}
 use Rattle.vault_top.specs.Span.{Views, Span, Given}
 use Rattle.vault_top.specs.Opening.{IsLocked, IsClosedBy, FailsToUnlock, FailsToOpen, of_opening}
-use Rattle.vault_top.specs.Ending.{Ending, refused, usage_said, version_said, made, served, listener_fault, closing_fault, no_memory_to_report, IsRefused, HasReason}
+use Rattle.vault_top.specs.Ending.{Ending, refused, usage_said, version_said, made, no_memory_to_serve, served, listener_fault, closing_fault, no_memory_to_report, IsRefused, HasReason}
 use Rattle.vault_top.specs.Sound.{IsVaultFor, IsSound, IsFaultless, IsServedOrFull}
 use Rattle.session_server.proofs.Links.{rose_later}
 use Rattle.vault_top.proofs.Asked.{AskPlainly, one_job, not_refused}
@@ -120,6 +120,7 @@ sound views span version_said is faultless h =
     let e : version ≡ serve is.serving = one_job span.words (serve is.serving) version (plainly span.words is.serving is.words) h.0.asks in absurd cc
 sound views span made is faultless h =
     let e : make h.dir ≡ serve is.serving = one_job span.words (serve is.serving) (make h.dir) (plainly span.words is.serving is.words) h.words.asks in absurd cc
+sound views span no_memory_to_serve is faultless h = tt
 sound views span (served ends) is faultless h = tt
 sound views span (listener_fault ends) is faultless h = absurd (faultless.listeners h.1)
 sound views span (closing_fault ends) is faultless h =

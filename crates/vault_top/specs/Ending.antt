@@ -1,6 +1,6 @@
 -- How the program ends: what each ending's cause is, its report and its status.
-use Rattle.std.specs.Prelude.{◌≡◌, ◌⊎◌, ℕ, List, [], ◌∷◌, ◌++◌, length, map, codes, Option, Some}
-use Rattle.std.specs.List.{flat_map, AllByRecursion}
+use Rattle.std.specs.Prelude.{◌≡◌, ◌⊎◌, ℕ, List, [], ◌∷◌, ◌++◌, length, codes, Option, Some, None}
+use Rattle.std.specs.List.{AllByRecursion}
 use Rattle.outside.specs.Calls.{Rose, Changes}
 use Rattle.outside.specs.Views.{EntropyView}
 use Rattle.session_server.specs.declared.ending.SessionEnd.{SessionEnd}
@@ -8,27 +8,29 @@ use Rattle.clap.specs.Words.{Text}
 use Rattle.vault_keys.specs.Unlock.{UnlockedVault}
 use Rattle.vault_words.specs.Jobs.{Serving, serve, make, help, version}
 use Rattle.vault_words.specs.declared.job.TheConstants.{USAGE, VERSION}
-use Rattle.vault_store.specs.Store.{folder_in}
+use Rattle.vault_store.specs.Store.{IsOnlyRead, folder_in}
+pub use Rattle.session_workers.specs.Workers.{ListenerFailed, SomeFailed}
 use Rattle.vault_causes.specs.Causes.{text_of}
 use Rattle.vault_causes.specs.Causes as causes
 use Rattle.vault_causes.specs.declared.cause.Cause.{Cause}
 use Rattle.vault_causes.specs.declared.cause.Cause.TheVariants.{Words, Memory}
-use Rattle.vault_top.specs.Words.{Ask, AreRefused, kind_of, sessions, sharers}
+use Rattle.vault_top.specs.Words.{Ask, AreRefused, kind_of, sharers}
 use Rattle.vault_top.specs.Report.{line, sessions_line, TakesPart}
 use Rattle.vault_top.specs.Span.{Course, SourceView, SinkView, Views, WorkerSpan, Span, span_of}
-use Rattle.vault_top.specs.Served.{Share, AreShares, HasHistory}
+use Rattle.vault_top.specs.Served.{Share, AreShares, all_ends, HasHistory}
 use Rattle.vault_top.specs.Opening.{IsUnlocked, IsUnopened}
 use Rattle.vault_top.specs.Making.{IsMade, IsNotMade}
-use Rattle.vault_top.specs.declared.program.Worker.{Worker}
+use Rattle.shared_sessions.specs.declared.workers.Worker.{Worker}
 use Rattle.vault_top.specs.declared.program.Ended.{Ended}
 
--- the endings: the job wasn't done, for a cause; how the program is called, or its version, was said; a vault was made; or one was served, and
--- its sessions ended so
+-- the endings: the job wasn't done, for a cause; how the program is called, or its version, was said; a vault was made; there was no memory to
+-- serve one that was open; or one was served, and its sessions ended so
 pub data Ending : Type 0 where
   refused : Cause → Ending
   usage_said : Ending
   version_said : Ending
   made : Ending
+  no_memory_to_serve : Ending
   served : List SessionEnd → Ending
   listener_fault : List SessionEnd → Ending
   closing_fault : List SessionEnd → Ending
@@ -69,10 +71,15 @@ pub record IsMaking {C : Type 0} (span : Span C) (P : Course EntropyView → Typ
   pub words : Ask span.words (make dir)
   pub drawn : DrawsAlone P span.workers
 
--- some listener failed
-abbrev pub SomeFailed : {C : Type 0} → List (WorkerSpan C) → Type 0
-SomeFailed [] = ⊥
-SomeFailed (worker ∷ workers) = Rose worker.listener.before.faults worker.listener.after.faults ⊎ SomeFailed workers
+-- A vault was unlocked under these keys, and there was no memory to share it among workers: the folder was only read, and no worker did
+-- anything.
+pub record IsUnshared {C : Type 0} (span : Span C) : Type 0 where
+  pub serving : Serving
+  pub words : Ask span.words (serve serving)
+  pub vault : UnlockedVault
+  pub unlocked : IsUnlocked span.given (kind_of serving) vault
+  pub read : IsOnlyRead span.given.folder.before span.given.folder.after
+  pub idle : AreIdle span.workers
 
 -- The vault was served under the keys that were unlocked: each worker its share of the sessions, which ended so, and what was asked in them is
 -- one legal history, for which the store that was closed stands. `MayStop` is what may have kept a worker from its share. Nothing was drawn.
@@ -82,16 +89,13 @@ pub record IsServed {D N C E : Type 0} (views : Views D N C E) (span : Span C) (
   pub vault : UnlockedVault
   pub unlocked : IsUnlocked span.given (kind_of serving) vault
   pub shares : List (Share C)
-  pub are : AreShares views.link span.given.second MayStop sessions sharers 0 span.workers shares
+  pub are : AreShares views.link span.given.second MayStop serving.sessions (sharers serving (length span.workers)) 0 span.workers shares
   pub history : HasHistory views span vault.keys shares
   pub undrawn : AllByRecursion (λ worker. worker.entropy.after.drawn ≡ worker.entropy.before.drawn) span.workers
-  pub ended : flat_map (λ share. map (λ link. link.end) share.links) shares ≡ ends
+  pub ended : all_ends shares ≡ ends
 
 abbrev pub Never : {C : Type 0} → WorkerSpan C → Type 0
 Never worker = ⊥
-
-abbrev pub ListenerFailed : {C : Type 0} → WorkerSpan C → Type 0
-ListenerFailed worker = Rose worker.listener.before.faults worker.listener.after.faults
 
 -- why a job isn't done
 abbrev pub IsRefused : {C : Type 0} → Span C → Cause → Type 0
@@ -104,6 +108,7 @@ HasReason views span (refused cause) = IsRefused span cause
 HasReason views span usage_said = Ask span.words help × IsUntouched span
 HasReason views span version_said = Ask span.words version × IsUntouched span
 HasReason views span made = IsMaking span (λ entropy. IsMade span.given entropy)
+HasReason views span no_memory_to_serve = IsUnshared span
 HasReason views span (served ends) = IsServed views span Never ends
 HasReason views span (listener_fault ends) = IsServed views span ListenerFailed ends × SomeFailed span.workers
 HasReason views span (closing_fault ends) =
@@ -121,6 +126,7 @@ report_of (refused cause) = line (text_of cause)
 report_of usage_said = USAGE.now
 report_of version_said = VERSION.now
 report_of made = line (codes "made")
+report_of no_memory_to_serve = serving ++ line (codes "out of memory")
 report_of (served ends) = serving ++ sessions_line ends
 report_of (listener_fault ends) = serving ++ line (codes "listener fault")
 report_of (closing_fault ends) = serving ++ line (codes "device fault: folder")
@@ -131,6 +137,7 @@ status_of (refused cause) = causes.status_of cause
 status_of usage_said = 0
 status_of version_said = 0
 status_of made = 0
+status_of no_memory_to_serve = 5
 status_of (served ends) = 0
 status_of (listener_fault ends) = 7
 status_of (closing_fault ends) = 4
@@ -142,6 +149,7 @@ cut_status_of (refused cause) = causes.status_of cause
 cut_status_of usage_said = 4
 cut_status_of version_said = 4
 cut_status_of made = 4
+cut_status_of no_memory_to_serve = 5
 cut_status_of (served ends) = 4
 cut_status_of (listener_fault ends) = 4
 cut_status_of (closing_fault ends) = 4
@@ -156,11 +164,15 @@ IsReported sink ending status =
 
 -- ---- a run
 
+-- the folder is handed back; only where there was no memory to serve it may be lost with the vault
+abbrev pub IsHandedBack : {D : Type 0} → Ending → D → Option D → Type 0
+IsHandedBack ending kept folder = (folder ≡ Some kept) ⊎ ((folder ≡ None) × (ending ≡ no_memory_to_serve))
+
 -- the workers are those that they were, in their order: each is the one of its place
 pub record HasRun {D N C E : Type 0} (views : Views D N C E) (words : List (List ℕ)) (secret : Course SourceView) (second : Option ℕ) (folder : D) (workers workers' : List (Worker N E)) (sink : Course SinkView) (ended : Ended D) : Type 0 where
   pub ending : Ending
   pub kept : D
-  pub folder_is : ended.folder ≡ Some kept
+  pub folder_is : IsHandedBack ending kept ended.folder
   pub count : length workers' ≡ length workers
   pub reason : HasReason views (span_of views words secret second folder kept workers workers') ending
   pub reported : IsReported sink ending ended.status

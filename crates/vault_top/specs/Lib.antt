@@ -3,6 +3,7 @@ pub mod Tasks
 pub mod Report
 pub mod Span
 pub mod Served
+pub mod Sharing
 pub mod Opening
 pub mod Making
 pub mod Ending

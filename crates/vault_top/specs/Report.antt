@@ -1,7 +1,7 @@
 -- The lines of the report.
-use Rattle.std.specs.Prelude.{◌≡◌, ℕ, ◌<◌, List, [], ◌∷◌, ◌++◌, length, codes, decimal, Bool, true, false, filter}
+use Rattle.std.specs.Prelude.{◌≡◌, ℕ, ◌<◌, List, [], ◌∷◌, ◌++◌, length, codes, decimal, Bool}
 use Rattle.session_server.specs.declared.ending.SessionEnd.{SessionEnd}
-use Rattle.session_server.specs.declared.ending.SessionEnd.TheVariants as ends
+use Rattle.session_workers.specs.Ends.{is_done, is_cut, is_bad, is_read_fault, is_write_fault, is_memory, is_limit, count_of}
 
 -- a line ends with LF
 abbrev pub line : List ℕ → List ℕ
@@ -12,37 +12,6 @@ abbrev pub TakesPart : List ℕ → List ℕ → List ℕ → Type 0
 TakesPart text old new = (part : List ℕ) × (lost : List ℕ) × (0 < length lost) × (text ≡ part ++ lost) × (new ≡ old ++ part)
 
 -- ---- how sessions ended
-
-abbrev pub is_done : SessionEnd → Bool
-is_done ends.Done = true
-is_done end = false
-
-abbrev pub is_cut : SessionEnd → Bool
-is_cut (ends.Cut had wanted) = true
-is_cut end = false
-
-abbrev pub is_bad : SessionEnd → Bool
-is_bad (ends.BadFrame size) = true
-is_bad end = false
-
-abbrev pub is_read_fault : SessionEnd → Bool
-is_read_fault ends.ReadFault = true
-is_read_fault end = false
-
-abbrev pub is_write_fault : SessionEnd → Bool
-is_write_fault ends.WriteFault = true
-is_write_fault end = false
-
-abbrev pub is_memory : SessionEnd → Bool
-is_memory ends.Memory = true
-is_memory end = false
-
-abbrev pub is_limit : SessionEnd → Bool
-is_limit ends.Limit = true
-is_limit end = false
-
-abbrev pub count_of : (SessionEnd → Bool) → List SessionEnd → ℕ
-count_of test served = length (filter test served)
 
 -- a word and how many sessions ended so
 abbrev pub counted : List ℕ → (SessionEnd → Bool) → List SessionEnd → List ℕ

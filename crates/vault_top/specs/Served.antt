@@ -1,42 +1,22 @@
 -- What a vault that was served has done: each worker served its share of the sessions, and what was asked in all of them is one legal
 -- history of the tree that the vault's disk stands for.
-use Rattle.std.specs.Prelude.{◌≡◌, ℕ, zero, suc, ◌+◌, ◌/◌, ◌%◌, ◌≤◌, List, [], ◌∷◌, map, nat_lt, if◌then◌else◌, Option, ⊤}
+use Rattle.std.specs.Prelude.{◌≡◌, ◌⊎◌, ℕ, zero, suc, ◌*◌, ◌<◌, ◌≤◌, List, [], ◌∷◌, length, map}
 use Rattle.outside.specs.Calls.{Told}
 use Rattle.outside.specs.Images.{disk_in}
-use Rattle.outside.specs.Views.{LinkView}
 use Rattle.siv_mode.specs.Keys.{KeyPair}
 use Rattle.tree_model.specs.Rows.{Rows}
 use Rattle.tree_model.specs.Asked.{Asked, entered}
 use Rattle.tree_history.specs.History.{Entry, entries_of, Origin, tally_of, IsLegal, IsUpTo}
-use Rattle.session_server.specs.Served.{ServedLink, TalkedOnEach, GaveBack}
+pub use Rattle.session_workers.specs.Shares.{share_of, Share, IsShare, AreShares, all_ends}
+use Rattle.shared_sessions.specs.Joined.{all_asked}
+use Rattle.shared_vault.specs.declared.TheConstants.{MOST_TICKETS}
+use Rattle.turn_lock.specs.declared.TheConstants.{TURN_LIMIT}
 use Rattle.tree_loading.specs.Clear.{IsClear}
 use Rattle.vault_store.specs.Store.{IsStoreOf, IsOnlyRead, folder_in, moment_of}
 use Rattle.vault_store.specs.declared.store.Store.{Store}
 use Rattle.vault_top.specs.Span.{Views, WorkerSpan, Span}
 
--- ---- shares
-
--- how many of n sessions worker j serves, where m workers share them: the first n % m serve one more than the others
-abbrev pub share_of : ℕ → ℕ → ℕ → ℕ
-share_of n m j = if nat_lt j m then n / m + (if nat_lt j (n % m) then 1 else 0) else 0
-
--- the links that a worker served, and what was asked on them
-pub record Share (C : Type 0) : Type 0 where
-  pub links : List (ServedLink C)
-  pub asked : List Asked
-
--- a worker served this share of so many sessions; where fewer links came, the listener had no more, or what may stop it did
-pub record IsShare {C : Type 0} (link : C → LinkView) (second : Option ℕ) (MayStop : WorkerSpan C → Type 0) (sessions : ℕ) (worker : WorkerSpan C) (share : Share C) : Type 0 where
-  pub gave : GaveBack sessions (MayStop worker) worker.listener.before worker.listener.after share.links
-  pub talked : TalkedOnEach link second share.links share.asked
-
--- each worker from number j on served its share of n sessions
-abbrev pub AreShares : {C : Type 0} → (C → LinkView) → Option ℕ → (WorkerSpan C → Type 0) → ℕ → ℕ → ℕ → List (WorkerSpan C) → List (Share C) → Type 0
-AreShares link second MayStop n m j [] [] = ⊤
-AreShares link second MayStop n m j [] (share ∷ shares) = ⊥
-AreShares link second MayStop n m j (worker ∷ workers) [] = ⊥
-AreShares link second MayStop n m j (worker ∷ workers) (share ∷ shares) =
-    IsShare link second MayStop (share_of n m j) worker share × AreShares link second MayStop n m (suc j) workers shares
+-- ---- callers
 
 -- what worker j was asked; nothing past the last
 abbrev pub asked_by : {C : Type 0} → List (Share C) → ℕ → List Asked
@@ -74,8 +54,9 @@ end_of span = record {
 -- ---- the history
 
 -- The store that was closed stands for a history from the rows on that the disk stands for under these keys. Of each caller it has what
--- was asked on the links of the worker of that number, in order, but for requests that were answered as exhausted; and nothing else. Where
--- the disk is told it is legal.
+-- was asked on the links of the worker of that number, in order, but for requests that were answered as exhausted; and nothing else. One is
+-- answered so only where the most tickets that all requests may take are more than there are turns. Where the disk is told the history is
+-- legal.
 pub record HasHistory {D N C E : Type 0} (views : Views D N C E) (span : Span C) (keys : KeyPair) (shares : List (Share C)) : Type 0 where
   pub rows : Rows
   pub origin : Origin
@@ -84,6 +65,7 @@ pub record HasHistory {D N C E : Type 0} (views : Views D N C E) (span : Span C)
   pub stands : IsStoreOf views.folder store rows origin entries
   pub legal : Told (disk_in span.given.folder.before.log) (λ disk. IsLegal rows origin entries)
   pub callers : (j : ℕ) → map (λ entry. entry.made.asked) (entries_of j entries) ≡ entered (asked_by shares j)
+  pub in_time : (entered (all_asked shares) ≡ all_asked shares) ⊎ (TURN_LIMIT < MOST_TICKETS * length (all_asked shares))
   pub since : IsSince span origin
   pub up_to : IsUpTo (end_of span) (tally_of origin entries)
   pub unlocked : ℕ

@@ -15,7 +15,7 @@ use Rattle.tree_loading.specs.Clear.{HasTooMany, root_folder}
 use Rattle.vault_causes.specs.declared.cause.Cause.TheVariants.{Memory}
 use Rattle.vault_top.specs.Words.{Ask, kind_of}
 use Rattle.vault_top.specs.Span.{WorkerSpan, Span}
-use Rattle.vault_top.specs.Ending.{Ending, refused, usage_said, version_said, made, served, listener_fault, closing_fault, no_memory_to_report, SomeFailed}
+use Rattle.vault_top.specs.Ending.{Ending, refused, usage_said, version_said, made, no_memory_to_serve, served, listener_fault, closing_fault, no_memory_to_report, SomeFailed}
 
 -- the disk is that of a vault which the secret unlocks, with a folder for the root and no more nodes than a tree may have
 pub record IsVaultFor (kind : SecretKind) (secret : List ℕ) (disk : Disk) : Type 0 where
@@ -42,6 +42,7 @@ IsServedOrFull (refused cause) = cause ≡ Memory
 IsServedOrFull usage_said = ⊥
 IsServedOrFull version_said = ⊥
 IsServedOrFull made = ⊥
+IsServedOrFull no_memory_to_serve = ⊤
 IsServedOrFull (served ends) = ⊤
 IsServedOrFull (listener_fault ends) = ⊥
 IsServedOrFull (closing_fault ends) = ⊥
@@ -66,6 +67,7 @@ IsMadeOrFull (refused cause) = cause ≡ Memory
 IsMadeOrFull usage_said = ⊥
 IsMadeOrFull version_said = ⊥
 IsMadeOrFull made = ⊤
+IsMadeOrFull no_memory_to_serve = ⊥
 IsMadeOrFull (served ends) = ⊥
 IsMadeOrFull (listener_fault ends) = ⊥
 IsMadeOrFull (closing_fault ends) = ⊥

@@ -2,15 +2,9 @@
 use Rattle.std.specs.Prelude.{ℕ, List, [], ◌∷◌, Option}
 use Rattle.outside.specs.Images.{Log}
 use Rattle.outside.specs.Views.{FolderView, folder_view, EntropyView, entropy_view, ListenerView, listener_view, LinkView, link_view}
-use Rattle.vault_top.specs.declared.program.Worker.{Worker}
-
--- something before and after
-pub record Course (X : Type 0) : Type 0 where
-  pub before : X
-  pub after : X
-
-abbrev pub course : {X Y : Type 0} → (X → Y) → X → X → Course Y
-course view before after = record { before = view before; after = view after }
+pub use Rattle.session_workers.specs.Shares.{Course, course, WorkerSpan}
+use Rattle.shared_sessions.specs.Workers as workers
+use Rattle.shared_sessions.specs.declared.workers.Worker.{Worker}
 
 -- the bytes that are left of a source, and its faults
 pub record SourceView : Type 0 where
@@ -53,11 +47,6 @@ pub record Given : Type 0 where
   pub folder : Course FolderView
   pub second : Option ℕ
 
--- a worker's listener and random source
-pub record WorkerSpan (C : Type 0) : Type 0 where
-  pub listener : Course (ListenerView C)
-  pub entropy : Course EntropyView
-
 -- the words after the program's name, what a vault is unlocked by, and the workers
 pub record Span (C : Type 0) : Type 0 where
   pub words : List (List ℕ)
@@ -65,16 +54,11 @@ pub record Span (C : Type 0) : Type 0 where
   pub workers : List (WorkerSpan C)
 
 abbrev pub worker_span : {D N C E : Type 0} → Views D N C E → Worker N E → Worker N E → WorkerSpan C
-worker_span views before after = record {
-  listener = course views.listener before.listener after.listener;
-  entropy = course views.entropy before.entropy after.entropy;
-}
+worker_span views before after = workers.worker_span views.listener views.entropy before after
 
 -- the workers before and after, one by one
 abbrev pub worker_spans : {D N C E : Type 0} → Views D N C E → List (Worker N E) → List (Worker N E) → List (WorkerSpan C)
-worker_spans views [] after = []
-worker_spans views (w ∷ before) [] = []
-worker_spans views (w ∷ before) (v ∷ after) = worker_span views w v ∷ worker_spans views before after
+worker_spans views before after = workers.worker_spans views.listener views.entropy before after
 
 -- what a vault is unlocked by, where the folder is this before and that after
 abbrev pub given_of : {D : Type 0} → (D → FolderView) → Course SourceView → Option ℕ → D → D → Given

@@ -1,16 +1,31 @@
 -- Jobs as the code does them.
-use Rattle.std.specs.Prelude.{◌≡◌, List, ⊤}
+use Rattle.std.specs.Prelude.{◌≡◌, ◌≤◌, List, ⊤}
 use Rattle.clap.specs.Words.{Text}
 use Rattle.vault_words.specs.Jobs.{Job, Serving, serve, make, demo, help, version}
 use Rattle.vault_words.specs.declared.job.WordsErr.{WordsErr}
 use Rattle.vault_words.specs.declared.job.WordsErr.TheVariants.{Refused, Memory}
 use Rattle.vault_top.specs.Words.{Ask, AreRefused, kind_of}
+use Rattle.vault_top.specs.declared.task.Service.{Service}
 use Rattle.vault_top.specs.declared.task.Task.{Task}
 use Rattle.vault_top.specs.declared.task.Task.TheVariants.{Serve, Make, Usage, Version}
 
+-- what is served is what the words say
+pub record IsServiceOf (s : Serving) (service : Service) : Type 0 where
+  pub kind : service.kind ≡ kind_of s
+  pub sessions : service.sessions ≡ s.sessions
+  pub at_once : service.at_once ≡ s.at_once
+
+-- the numbers of a job are within their bounds
+abbrev pub IsWithin : Job → Type 0
+IsWithin (serve s) = (s.sessions ≤ 1000000) × (s.at_once ≤ 64)
+IsWithin (make dir) = ⊤
+IsWithin (demo d) = ⊤
+IsWithin help = ⊤
+IsWithin version = ⊤
+
 -- the task is this job's
 abbrev pub IsTaskOf : Job → Task → Type 0
-IsTaskOf (serve s) task = task ≡ Serve (kind_of s)
+IsTaskOf (serve s) task = (service : Service) × (task ≡ Serve service) × IsServiceOf s service
 IsTaskOf (make dir) task = task ≡ Make
 IsTaskOf (demo d) task = ⊥
 IsTaskOf help task = task ≡ Usage
@@ -18,7 +33,7 @@ IsTaskOf version task = task ≡ Version
 
 -- what the words ask for is this task
 abbrev pub AskTask : List Text → Task → Type 0
-AskTask words (Serve kind) = (s : Serving) × Ask words (serve s) × (kind ≡ kind_of s)
+AskTask words (Serve service) = (s : Serving) × Ask words (serve s) × IsServiceOf s service
 AskTask words Make = (dir : Text) × Ask words (make dir)
 AskTask words Usage = Ask words help
 AskTask words Version = Ask words version

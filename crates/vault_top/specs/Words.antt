@@ -1,5 +1,5 @@
 -- The jobs that the program does, and the words that ask for them.
-use Rattle.std.specs.Prelude.{◌≡◌, ◌⊎◌, ℕ, List, Bool, String, codes, map, ⊤, if◌then◌else◌}
+use Rattle.std.specs.Prelude.{◌≡◌, ◌⊎◌, ℕ, List, Bool, String, codes, map, min, ⊤, if◌then◌else◌}
 use Rattle.std.specs.String.{string_bytes}
 use Rattle.clap.specs.Words.{Text}
 use Rattle.vault_unlock.specs.declared.unlocking.SecretKind.{SecretKind}
@@ -9,9 +9,9 @@ use Rattle.vault_words.specs.Jobs.{Job, Serving, serve, make, demo, help, versio
 abbrev pub words_of : {A : Type 0} → List (String A) → List Text
 words_of words = map string_bytes words
 
--- the jobs that the program does so far: of `serve` one session over standard input and output, and no `demo`
+-- the jobs that the program does so far: of `serve` that over standard input and output, and no `demo`
 abbrev pub IsOffered : Job → Type 0
-IsOffered (serve s) = (s.address ≡ codes "-") × (s.sessions ≡ 1)
+IsOffered (serve s) = s.address ≡ codes "-"
 IsOffered (make dir) = ⊤
 IsOffered (demo d) = ⊥
 IsOffered help = ⊤
@@ -33,9 +33,6 @@ kind_where raw_key = if raw_key then RawKeys else Password
 abbrev pub kind_of : Serving → SecretKind
 kind_of s = kind_where s.raw_key
 
--- how many sessions are served, and how many workers share them: so far one each, however many may be served at once
-abbrev pub sessions : ℕ
-sessions = 1
-
-abbrev pub sharers : ℕ
-sharers = 1
+-- how many of so many workers share the sessions: as many as may be served at once, or all where there are fewer
+abbrev pub sharers : Serving → ℕ → ℕ
+sharers s workers = min s.at_once workers

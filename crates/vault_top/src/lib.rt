@@ -13,6 +13,8 @@ mod program;
 mod report;
 mod serving;
 mod task;
+mod vault;
 
 pub use laws::{a_sound_vault_is_served, an_empty_folder_becomes_a_vault};
-pub use program::{Ended, Worker, run};
+pub use program::{Ended, run};
+pub use shared_sessions::Worker;

@@ -1,37 +1,42 @@
-ghost use Rattle.std.specs.Prelude.{◌≡◌, ℕ, ◌<◌, ◌≤◌, ◌∷◌, ◌++◌, List, Option, OnOk, OnErr, IsErr, vec_len, vec_capacity};
+ghost use Rattle.std.specs.Prelude.{◌≡◌, ℕ, ◌<◌, ◌≤◌, ◌∷◌, ◌++◌, [], List, Option, OnOk, OnErr, IsErr, vec_len, vec_capacity};
 ghost use Rattle.outside.specs.Calls.{Rose, HasCause, Changes};
 ghost use Rattle.session_server.specs.declared.ending.SessionEnd.{SessionEnd};
 ghost use Rattle.vault_words.specs.Jobs.{Serving, serve, make};
-ghost use Rattle.vault_top.specs.Words.{Ask, kind_of, words_of};
+ghost use Rattle.vault_top.specs.Words.{Ask, words_of};
+ghost use Rattle.vault_top.specs.Tasks.{IsServiceOf};
 ghost use Rattle.vault_top.specs.Span.{course, source_view, sink_view, views_of};
 ghost use Rattle.vault_top.specs.Report.{TakesPart};
 ghost use Rattle.vault_top.specs.Ending.{Ending, HasRun, serving, report_of, status_of, cut_status_of};
 ghost use Rattle.vault_top.specs.Writing.{IsWritten};
+ghost use Rattle.vault_top.specs.Sharing.{AreBeginnings, IsAlone, IsSharedStore};
 ghost use Rattle.vault_top.specs.Serving.{HasServedVault, AreCounted, MayEnd};
+ghost use Rattle.outside.specs.Views.{folder_view};
+ghost use Rattle.tree_model.specs.Rows.{Rows};
+ghost use Rattle.tree_history.specs.History.{Origin};
+ghost use Rattle.shared_vault.specs.Turns.{StandsFor};
+ghost use Rattle.shared_sessions.specs.Joined.{AreSince};
 
 use crate::making::make_vault;
 use crate::opening::open_vault;
-use crate::report::{refuse, report, write_all};
-use crate::serving::{Outcome, serve_worker};
-use crate::task::{Task, read_task};
+use crate::report::{counts_line, refuse, report, write_all};
+use crate::serving::{Outcome, serve_workers};
+use crate::task::{Service, Task, read_task};
+use crate::vault::Since;
 use outside::{Clock, Entropy, Failed, Folder, Gate, Listener, Refused, Sink, Source};
+use shared_sessions::Worker;
+use shared_vault::Start;
 use std::alloc::Global;
+use std::marker::Brand;
+use std::sync::Wait;
+use std::thread::Threads;
 use vault_causes::Cause;
 use vault_store::Store;
-use vault_unlock::SecretKind;
 use vault_words::{USAGE, VERSION, WordsErr};
 
 /// The status where the report's last line wasn't taken whole.
 const CUT_STATUS: u8 = 4;
 
-/// One who serves links: where they come from, and a source of random bytes.
-#[derive(Drop)]
-pub struct Worker<N, E> {
-    pub listener: N,
-    pub entropy: E,
-}
-
-/// How the program ended: its exit status, and the vault's folder.
+/// How the program ended: its exit status, and the vault's folder. None comes with status 5 alone.
 #[derive(Drop)]
 pub struct Ended<D> {
     pub status: u8,
@@ -40,8 +45,9 @@ pub struct Ended<D> {
 
 /// Runs the program: does the job that the words after its name ask for, and writes the report to `out`.
 ///
-/// `serve` reads the secret, unlocks the vault in `folder`, serves one link of the first worker, and gives the folder back: nothing in it
-/// is changed. `make` reads the secret and makes a vault in `folder`, of what it draws from the first worker. `--help` and `--version`
+/// `serve` reads the secret, unlocks the vault in `folder`, serves so many sessions as the words say, and gives the folder back: nothing in
+/// it is changed. As many workers as the words say, or all where there are fewer, share the sessions, each in a thread of its own where one
+/// can be made; a worker whose listener has no more links, or fails, ends before. `make` reads the secret and makes a vault in `folder`, of what it draws from the first worker. `--help` and `--version`
 /// touch nothing. Of a good secret its line alone is taken.
 ///
 /// | status | report | comes |
@@ -56,13 +62,23 @@ pub struct Ended<D> {
 /// | 4 | `serving`, then `device fault: folder` | the folder's count of faults rose as the vault was closed |
 /// | 5 | `out of memory` | memory ran out before the job was done |
 /// | 5 | `serving`, then `out of memory` | the vault was served, and memory for the last line ran out |
-/// | 7 | `serving`, then `listener fault` | the listener's count of faults rose |
+/// | 5 | `serving`, then `out of memory` | memory ran out before a session was served; the folder may be lost |
+/// | 7 | `serving`, then `listener fault` | some listener's count of faults rose |
 /// | 8 | `not empty: NAME` | `make`'s folder has an entry, the first by the names' bytes |
 ///
 /// Where the sink failed, it took a part of the report; the status is then 4 in place of 0 and 7, and else the same.
 ///
-/// `rt` starts no thread yet, and `gate` is passed by no session.
-pub fn run<R, D: Folder, N: Listener, E: Entropy, S: Source, O: Sink, K: Clock, G: Gate>(
+/// `rt` starts the workers' threads, and `gate` is passed by no session.
+pub fn run<
+    R: Threads + Wait + Sync,
+    D: Folder + Send,
+    N: Listener + Send,
+    E: Entropy + Send,
+    S: Source,
+    O: Sink,
+    K: Clock + Sync,
+    G: Gate,
+>(
     rt: &R,
     alloc: Global,
     words: &[String],
@@ -73,6 +89,8 @@ pub fn run<R, D: Folder, N: Listener, E: Entropy, S: Source, O: Sink, K: Clock, 
     clock: &K,
     gate: &G,
 ) -> Ended<D>
+where
+    N::Conn: Send,
     requires { (1 ≤ vec_len workers.old) × (vec_len workers.old ≤ 64) }
     // The program has one ending, which has its reason; its status and its report are that ending's.
     ensures run { HasRun
@@ -81,10 +99,11 @@ pub fn run<R, D: Folder, N: Listener, E: Entropy, S: Source, O: Sink, K: Clock, 
         (words_of words.now) (course (source_view S.left S.faults) secret.old secret.new) (K.second clock.now)
         folder workers.old.items workers.new.items (course (sink_view O.taken O.faults) out.old out.new) result }
 {
-    let _ = rt;
     let _ = gate;
     match read_task(alloc, words) {
-        Ok(Task::Serve(kind)) => serve(alloc, kind, folder, workers, secret, out, clock),
+        Ok(Task::Serve(service)) => serve::<R, D, Brand, N, E, S, O, K>(
+            rt, alloc, service, folder, workers, secret, out, clock,
+        ),
         Ok(Task::Make) => make(alloc, folder, workers, secret, out),
         Ok(Task::Usage) => Ended {
             status: report(out, USAGE.as_bytes(), 0, CUT_STATUS),
@@ -105,25 +124,42 @@ pub fn run<R, D: Folder, N: Listener, E: Entropy, S: Source, O: Sink, K: Clock, 
     }
 }
 
-// Serves the vault that the secret unlocks.
-fn serve<D: Folder, N: Listener, E: Entropy, S: Source, O: Sink, K: Clock>(
+// Serves the vault that the secret unlocks. B says from where the history of all sessions may begin, and how the folder was then.
+fn serve<
+    R: Threads + Wait + Sync,
+    D: Folder + Send,
+    B: Start + Since + Send + Sync,
+    N: Listener + Send,
+    E: Entropy + Send,
+    S: Source,
+    O: Sink,
+    K: Clock + Sync,
+>(
+    rt: &R,
     alloc: Global,
-    kind: SecretKind,
+    service: Service,
     folder: D,
     workers: &mut Vec<Worker<N, E>>,
     secret: &mut S,
     out: &mut O,
     clock: &K,
 ) -> Ended<D>
-    requires { 1 ≤ vec_len workers.old }
-    ensures { (words : List (List ℕ)) (serving : Serving) → Ask words (serve serving) → kind ≡ kind_of serving → HasRun
+where
+    N::Conn: Send,
+    requires some { 1 ≤ vec_len workers.old }
+    requires start { AreBeginnings B.is
+        (views_of D.log D.faults D.changes N.to_come N.given_back N.faults
+        N.Conn.left N.Conn.taken N.Conn.read_faults N.Conn.write_faults E.drawn E.faults)
+        service.kind folder workers.old.items (source_view S.left S.faults secret.old) (K.second clock.now) }
+    requires since { IsAlone B.since (folder_view D.log D.faults D.changes folder) }
+    ensures { (words : List (List ℕ)) (serving : Serving) → Ask words (serve serving) → IsServiceOf serving service → HasRun
         (views_of D.log D.faults D.changes N.to_come N.given_back N.faults
         N.Conn.left N.Conn.taken N.Conn.read_faults N.Conn.write_faults E.drawn E.faults)
         words (course (source_view S.left S.faults) secret.old secret.new) (K.second clock.now)
         folder workers.old.items workers.new.items (course (sink_view O.taken O.faults) out.old out.new) result }
 {
-    match open_vault(alloc, kind, folder, secret, clock) {
-        Ok(store) => serve_vault(alloc, store, workers, out, clock),
+    match open_vault(alloc, service.kind, folder, secret, clock) {
+        Ok(store) => serve_vault::<R, D, B, N, E, O, K>(rt, alloc, store, service, workers, out, clock),
         Err(Refused { folder, cause }) => Ended {
             status: refuse(out, &cause),
             folder: Some(folder),
@@ -162,32 +198,44 @@ fn make<D: Folder, N: Listener, E: Entropy, S: Source, O: Sink>(
     }
 }
 
-// Serves the first worker's share over an open vault, closes the vault, and reports it: `serving` before, and the last line after.
+// Serves all workers' shares over an open vault, closes the vault, and reports it: `serving` before, and the last line after.
 // Once the sink failed, nothing more is written.
-fn serve_vault<D: Folder, N: Listener, E: Entropy, O: Sink, K: Clock>(
+fn serve_vault<
+    R: Threads + Wait + Sync,
+    D: Folder + Send,
+    B: Start + Since + Send + Sync,
+    N: Listener + Send,
+    E: Entropy + Send,
+    O: Sink,
+    K: Clock + Sync,
+>(
+    rt: &R,
     alloc: Global,
     store: Store<D>,
+    service: Service,
     workers: &mut Vec<Worker<N, E>>,
     out: &mut O,
     clock: &K,
 ) -> Ended<D>
-    requires { 1 ≤ vec_len workers.old }
-    ensures served { HasServedVault
+where
+    N::Conn: Send,
+    requires some { 1 ≤ vec_len workers.old }
+    requires right { StandsFor B.is (λ s rows origin history. IsSharedStore (folder_view D.log D.faults D.changes) B.since s rows origin history) store [] }
+    requires since { (rows : Rows) (origin : Origin) → B.is rows origin → AreSince E.faults origin 0 workers.old.items }
+    ensures served { HasServedVault B.is B.since
         (views_of D.log D.faults D.changes N.to_come N.given_back N.faults
         N.Conn.left N.Conn.taken N.Conn.read_faults N.Conn.write_faults E.drawn E.faults)
-        (K.second clock.now) store workers.old.items workers.new.items (course (sink_view O.taken O.faults) out.old out.new) result }
+        (K.second clock.now) service workers.old.items workers.new.items (course (sink_view O.taken O.faults) out.old out.new) result }
 {
     let serving = announce(out);
-    let worker = workers.remove(0);
-    let served = serve_worker(alloc, store, worker, clock);
-    put_back(workers, served.worker);
+    let served = serve_workers::<R, D, B, N, E, K>(rt, alloc, store, service, workers, clock);
     let status = match serving {
         Ok(()) => report_outcome(alloc, out, served.outcome),
-        Err(_) => CUT_STATUS,
+        Err(_) => served.outcome.unreported(),
     };
     Ended {
         status,
-        folder: Some(served.folder),
+        folder: served.folder,
     }
 }
 
@@ -218,11 +266,12 @@ fn report_outcome<O: Sink>(alloc: Global, out: &mut O, outcome: Outcome) -> u8
         × IsWritten (Rose (O.faults out.old) (O.faults out.new)) (O.taken out.old) (O.taken out.new) text (status_of ending) (cut_status_of ending) result }
 {
     match outcome {
-        Outcome::Served(counts) => match counts.line(alloc) {
+        Outcome::Served(counts) => match counts_line(alloc, &counts) {
             Ok(line) => report(out, line.as_bytes(), 0, CUT_STATUS),
             Err(_) => report(out, b"out of memory\n", 5, 5),
         },
         Outcome::ListenerFault => report(out, b"listener fault\n", 7, CUT_STATUS),
         Outcome::FolderFault => report(out, b"device fault: folder\n", 4, CUT_STATUS),
+        Outcome::NoMemory => report(out, b"out of memory\n", 5, 5),
     }
 }

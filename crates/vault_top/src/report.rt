@@ -5,12 +5,14 @@ ghost use Rattle.outside.specs.Calls.{Rose, HasCause, Changes};
 ghost use Rattle.vault_causes.specs.Lines.{line_text};
 ghost use Rattle.vault_top.specs.Span.{course, sink_view};
 ghost use Rattle.vault_top.specs.Report.{line, sessions_line, TakesPart};
+ghost use Rattle.session_server.specs.declared.ending.SessionEnd as ends;
+ghost use Rattle.session_workers.specs.Ends.{AreCounts};
 ghost use Rattle.vault_top.specs.Writing.{IsWritten};
 ghost use Rattle.vault_top.specs.Ending.{refused, IsReported};
 
 use itoa::Buffer;
 use outside::{Failed, Sink};
-use session_server::SessionEnd;
+use session_workers::SessionCounts;
 use std::alloc::{AllocError, Global};
 use vault_causes::{Cause, Line};
 
@@ -62,61 +64,21 @@ fn write_line<O: Sink>(out: &mut O, pieces: &Line<'_>) -> Result<(), Failed>
     write_all(out, b"\n")
 }
 
-/// How many sessions there were, and how many of them ended in each way.
-#[derive(Clone, Copy, Debug, Default, PartialEq, Eq)]
-pub(crate) struct SessionCounts {
-    sessions: u32,
-    done: u32,
-    cut: u32,
-    bad: u32,
-    read: u32,
-    write: u32,
-    memory: u32,
-    limit: u32,
-}
-
-impl SessionCounts {
-    ghost use Rattle.std.specs.Prelude.{◌≡◌, List, IfOk, string_bytes, option_to_list};
-    ghost use Rattle.vault_top.specs.Report.{sessions_line};
-    ghost use Rattle.vault_top.specs.Writing.{AreCounts};
-
-    /// The counts of one session, or of none.
-    pub(crate) fn of(end: Option<SessionEnd>) -> SessionCounts
-        ensures { AreCounts result (option_to_list end) }
-    {
-        let mut counts = SessionCounts::default();
-        let Some(end) = end else {
-            return counts;
-        };
-        counts.sessions = 1;
-        match end {
-            SessionEnd::Done => counts.done = 1,
-            SessionEnd::Cut { .. } => counts.cut = 1,
-            SessionEnd::BadFrame(_) => counts.bad = 1,
-            SessionEnd::ReadFault => counts.read = 1,
-            SessionEnd::WriteFault => counts.write = 1,
-            SessionEnd::Memory => counts.memory = 1,
-            SessionEnd::Limit => counts.limit = 1,
-        }
-        counts
-    }
-
-    /// The report's last line.
-    pub(crate) fn line(&self, alloc: Global) -> Result<String, AllocError>
-        ensures { IfOk result (λ line. (ends : List SessionEnd) → AreCounts self.now ends → string_bytes line ≡ sessions_line ends) }
-    {
-        let mut line = String::new(alloc);
-        add_count(&mut line, "sessions ", self.sessions)?;
-        add_count(&mut line, " done ", self.done)?;
-        add_count(&mut line, " cut ", self.cut)?;
-        add_count(&mut line, " bad ", self.bad)?;
-        add_count(&mut line, " read ", self.read)?;
-        add_count(&mut line, " write ", self.write)?;
-        add_count(&mut line, " memory ", self.memory)?;
-        add_count(&mut line, " limit ", self.limit)?;
-        line.push_str("\n")?;
-        Ok(line)
-    }
+/// The report's last line, of the counts of how sessions ended.
+pub(crate) fn counts_line(alloc: Global, counts: &SessionCounts) -> Result<String, AllocError>
+    ensures { IfOk result (λ line. (ends : List ends.SessionEnd) → AreCounts counts.now ends → string_bytes line ≡ sessions_line ends) }
+{
+    let mut line = String::new(alloc);
+    add_count(&mut line, "sessions ", counts.sessions)?;
+    add_count(&mut line, " done ", counts.done)?;
+    add_count(&mut line, " cut ", counts.cut)?;
+    add_count(&mut line, " bad ", counts.bad)?;
+    add_count(&mut line, " read ", counts.read)?;
+    add_count(&mut line, " write ", counts.write)?;
+    add_count(&mut line, " memory ", counts.memory)?;
+    add_count(&mut line, " limit ", counts.limit)?;
+    line.push_str("\n")?;
+    Ok(line)
 }
 
 fn add_count(line: &mut String, word: &str, count: u32) -> Result<(), AllocError>

@@ -1,92 +1,134 @@
-//! Serving a worker's share of the sessions: one link.
+//! Serving all workers' sessions over an open vault.
 
-ghost use Rattle.std.specs.Prelude.{IsErr};
-ghost use Rattle.outside.specs.Calls.{HasCause};
-ghost use Rattle.outside.specs.Views.{link_view, listener_view};
+ghost use Rattle.std.specs.Prelude.{◌≡◌, ◌≤◌, [], List, IfSome, IsErr, min, vec_len};
+ghost use Rattle.outside.specs.Views.{folder_view};
+ghost use Rattle.session_server.specs.declared.ending.SessionEnd as ends;
+ghost use Rattle.tree_model.specs.Rows.{Rows};
+ghost use Rattle.tree_history.specs.History.{Origin};
+ghost use Rattle.shared_vault.specs.Turns.{StandsFor};
+ghost use Rattle.shared_sessions.specs.Joined.{AreSince};
 ghost use Rattle.vault_top.specs.Span.{views_of};
-ghost use Rattle.vault_top.specs.Serving.{ends_of, HasServed, HasServedWorker, FailedIn, HasOutcome};
+ghost use Rattle.vault_top.specs.Sharing.{IsReadSince, IsSharedStore};
+ghost use Rattle.vault_store.specs.Store.{folder_in};
+ghost use Rattle.vault_top.specs.Serving.{HasOutcome, HasServed, unreported};
 
-use crate::program::Worker;
-use crate::report::SessionCounts;
+use crate::task::Service;
+use crate::vault::{SharedVault, Since};
 use outside::{Clock, Entropy, Failed, Folder, Listener};
-use session_server::{SessionEnd, serve_session};
+use session_workers::SessionCounts;
+use shared_sessions::{Served, Worker, serve_all};
+use shared_vault::Start;
 use std::alloc::Global;
-use tree_model::TreeObject;
-use vault_store::{SoleCaller, Store};
+use std::sync::Wait;
+use std::thread::Threads;
+use vault_store::Store;
 
 /// What serving came to.
 #[derive(Clone, Copy, Debug, PartialEq, Eq)]
 pub(crate) enum Outcome {
     Served(SessionCounts),
-    /// The listener failed.
+    /// Some listener failed.
     ListenerFault,
     /// The vault's folder failed as it was closed.
     FolderFault,
+    /// There was no memory to serve.
+    NoMemory,
 }
 
-/// What is handed back after serving.
-#[derive(Drop)]
-pub(crate) struct HandedBack<D, N, E> {
-    pub folder: D,
-    pub worker: Worker<N, E>,
-    pub outcome: Outcome,
-}
-
-// Serves the next link, if one comes, and gives it back. None: no link came.
-fn serve_link<N: Listener, B: TreeObject, K: Clock>(
-    alloc: Global,
-    listener: &mut N,
-    object: &mut B,
-    clock: &K,
-) -> Result<Option<SessionEnd>, Failed>
-    ensures served { HasServed B.stands object.old object.new
-        (link_view N.Conn.left N.Conn.taken N.Conn.read_faults N.Conn.write_faults) (K.second clock.now)
-        (listener_view N.to_come N.given_back N.faults listener.old) (listener_view N.to_come N.given_back N.faults listener.new)
-        (IsErr result) (ends_of result) }
-    ensures cause { HasCause (N.faults listener.old) (N.faults listener.new) (IsErr result) }
-{
-    let Some(mut link) = listener.next()? else {
-        return Ok(None);
-    };
-    let end = serve_session(alloc, &mut link, object, clock);
-    listener.back(link);
-    Ok(Some(end))
-}
-
-/// Serves a worker's share over an open vault, and closes the vault.
-pub(crate) fn serve_worker<D: Folder, N: Listener, E: Entropy, K: Clock>(
-    alloc: Global,
-    store: Store<D>,
-    worker: Worker<N, E>,
-    clock: &K,
-) -> HandedBack<D, N, E>
-    ensures { HasServedWorker
-        (views_of D.log D.faults D.changes N.to_come N.given_back N.faults
-        N.Conn.left N.Conn.taken N.Conn.read_faults N.Conn.write_faults E.drawn E.faults)
-        (K.second clock.now) store worker result }
-{
-    let Worker {
-        mut listener,
-        entropy,
-    } = worker;
-    let mut object = SoleCaller::new(store, entropy);
-    let served = serve_link(alloc, &mut listener, &mut object, clock);
-    let (store, entropy) = object.into_parts();
-    let (folder, closed) = store.close();
-    HandedBack {
-        folder,
-        worker: Worker { listener, entropy },
-        outcome: outcome_of(served, closed),
+impl Outcome {
+    /// The status where the sink failed before this could be reported.
+    pub(crate) fn unreported(self) -> u8
+        ensures { result ≡ unreported self }
+    {
+        match self {
+            Outcome::NoMemory => 5,
+            Outcome::Served(_) | Outcome::ListenerFault | Outcome::FolderFault => 4,
+        }
     }
 }
 
-fn outcome_of(served: Result<Option<SessionEnd>, Failed>, closed: Result<(), Failed>) -> Outcome
-    ensures outcome { HasOutcome (IsErr served) (IsErr closed) (ends_of served) result }
-    ensures failed { IsErr served → FailedIn (IsErr served) result }
+/// What is handed back after serving; the folder may be lost where memory ran out.
+#[derive(Drop)]
+pub(crate) struct HandedBack<D> {
+    pub folder: Option<D>,
+    pub outcome: Outcome,
+}
+
+/// Serves all workers' sessions over an open vault, and closes the vault.
+pub(crate) fn serve_workers<
+    R: Threads + Wait + Sync,
+    D: Folder + Send,
+    B: Start + Since + Send + Sync,
+    N: Listener + Send,
+    E: Entropy + Send,
+    K: Clock + Sync,
+>(
+    rt: &R,
+    alloc: Global,
+    store: Store<D>,
+    service: Service,
+    workers: &mut Vec<Worker<N, E>>,
+    clock: &K,
+) -> HandedBack<D>
+where
+    N::Conn: Send,
+    requires some { 1 ≤ vec_len workers.old }
+    requires right { StandsFor B.is (λ s rows origin history. IsSharedStore (folder_view D.log D.faults D.changes) B.since s rows origin history) store [] }
+    requires since { (rows : Rows) (origin : Origin) → B.is rows origin → AreSince E.faults origin 0 workers.old.items }
+    ensures served { (ends : List ends.SessionEnd) × HasServed B.is B.since
+        (views_of D.log D.faults D.changes N.to_come N.given_back N.faults
+        N.Conn.left N.Conn.taken N.Conn.read_faults N.Conn.write_faults E.drawn E.faults)
+        (K.second clock.now) service workers.old.items workers.new.items ends result }
 {
-    match (served, closed) {
+    let vault = SharedVault::<D, B>::new(store);
+    let at_once = sharers(service.at_once, workers.len());
+    match serve_all::<R, SharedVault<D, B>, B, N, E, K>(
+        rt,
+        alloc,
+        vault,
+        service.sessions,
+        at_once,
+        workers,
+        clock,
+    ) {
+        Ok(Served { tree, counts }) => {
+            let (folder, closed) = tree.into_store().close();
+            HandedBack {
+                folder: Some(folder),
+                outcome: outcome_of(counts, closed),
+            }
+        }
+        Err(left) => HandedBack {
+            folder: folder_of(left),
+            outcome: Outcome::NoMemory,
+        },
+    }
+}
+
+// How many of so many workers share the sessions.
+fn sharers(at_once: u32, workers: usize) -> usize
+    ensures { result ≡ min at_once workers }
+{
+    workers.min(at_once as usize)
+}
+
+// The folder of a vault that was served to nobody, if it is left.
+fn folder_of<D: Folder, B: Since>(left: Option<SharedVault<D, B>>) -> Option<D>
+    ensures { IfSome left (λ vault. IsReadSince B.since (folder_view D.log D.faults D.changes (folder_in vault.store)))
+        → IfSome result (λ folder. IsReadSince B.since (folder_view D.log D.faults D.changes folder)) }
+{
+    match left {
+        Some(vault) => Some(vault.into_store().close().0),
+        None => None,
+    }
+}
+
+fn outcome_of(counts: Result<SessionCounts, Failed>, closed: Result<(), Failed>) -> Outcome
+    ensures { HasOutcome counts (IsErr closed) result }
+{
+    match (counts, closed) {
         (_, Err(_)) => Outcome::FolderFault,
         (Err(_), Ok(())) => Outcome::ListenerFault,
-        (Ok(end), Ok(())) => Outcome::Served(SessionCounts::of(end)),
+        (Ok(counts), Ok(())) => Outcome::Served(counts),
     }
 }

@@ -3,17 +3,26 @@
 ghost use Rattle.std.specs.Prelude.{◌≡◌, MatchOption, IfOk, IfErr};
 ghost use Rattle.vault_words.specs.Read.{job_data};
 ghost use Rattle.vault_top.specs.Words.{IsOffered, kind_where, words_of};
-ghost use Rattle.vault_top.specs.Tasks.{AskTask, IsTaskOf, IsWordsCause};
+ghost use Rattle.vault_top.specs.Tasks.{AskTask, IsTaskOf, IsWithin, IsWordsCause};
 
 use std::alloc::Global;
 use vault_unlock::SecretKind;
 use vault_words::{Job, WordsErr, read_words};
 
+/// What is served: a vault that a secret of this kind unlocks, over standard input and output. There are so many sessions, 1 to 1,000,000,
+/// of which so many are served at once, 1 to 64.
+#[derive(Clone, Copy, Debug, PartialEq, Eq)]
+pub(crate) struct Service {
+    pub kind: SecretKind,
+    pub sessions: u32,
+    pub at_once: u32,
+}
+
 /// What is to be done.
 #[derive(Clone, Copy, Debug, PartialEq, Eq)]
 pub(crate) enum Task {
-    /// Serves one session over standard input and output, from a vault that the secret unlocks.
-    Serve(SecretKind),
+    /// Serves a vault.
+    Serve(Service),
     /// Makes a vault under the secret's password.
     Make,
     /// Says how the program is called.
@@ -35,18 +44,24 @@ pub(crate) fn read_task(alloc: Global, words: &[String]) -> Result<Task, WordsEr
 
 // The task of a job, if the program does it.
 fn task_of(job: Job<'_>) -> Option<Task>
-    ensures { MatchOption result (IsOffered (job_data job.entry) → ⊥)
+    requires within { IsWithin (job_data job) }
+    ensures task { MatchOption result (IsOffered (job_data job.entry) → ⊥)
         (λ task. IsOffered (job_data job.entry) × IsTaskOf (job_data job.entry) task) }
 {
     match job {
         Job::Serve {
             address,
             sessions,
+            at_once,
             raw_key,
             ..
         } => {
-            if address == "-" && sessions == 1 {
-                Some(Task::Serve(kind_of(raw_key)))
+            if address == "-" {
+                Some(Task::Serve(Service {
+                    kind: kind_of(raw_key),
+                    sessions: sessions as u32,
+                    at_once: at_once as u32,
+                }))
             } else {
                 None
             }

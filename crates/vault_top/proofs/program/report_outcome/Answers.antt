@@ -1,6 +1,6 @@
 use Rattle.std.proofs.Common.{codes, refl, ◌∙◌, inl, inr}
 use Rattle.vault_top.specs.Report.{line, sessions_line}
-use Rattle.vault_top.specs.Ending.{served, listener_fault, closing_fault, no_memory_to_report}
+use Rattle.vault_top.specs.Ending.{no_memory_to_serve, served, listener_fault, closing_fault, no_memory_to_report}
 use Rattle.vault_top.proofs.Written.{written_as}
 use Rattle.vault_top.proofs.Outcomes.{counts_of, may_end}
 use Rattle.vault_top.proofs.program.report_outcome.Goals as goal
@@ -40,4 +40,13 @@ returns-in-FolderFault g c = λ ends counted. (
   line (codes "device fault: folder"),
   refl,
   c.report-in-FolderFault.ensures.written,
+)
+
+pub returns-in-NoMemory : goal.returns-in-NoMemory
+returns-in-NoMemory g c = λ ends counted. (
+  no_memory_to_serve,
+  may_end ends c.args.outcome _ no_memory_to_serve c.in-NoMemory.is refl,
+  line (codes "out of memory"),
+  refl,
+  c.report-in-NoMemory.ensures.written,
 )

@@ -7,6 +7,17 @@ use Rattle.vault_top.proofs.Written.{written_as}
 use Rattle.vault_top.proofs.Reasons.{run_untouched, run_badly_asked}
 use Rattle.vault_top.proofs.program.run.Goals as goal
 
+pub serve-requires-clause-start : goal.serve-requires-clause-start
+serve-requires-clause-start g c κs within = record { all = λ rows origin h. h; only = λ rows origin h. h }
+
+pub serve-requires-clause-since : goal.serve-requires-clause-since
+serve-requires-clause-since g c κs within = record { is = refl; only = λ other h. h }
+
+pub returns-in-Ok-Serve : goal.returns-in-Ok-Serve
+returns-in-Ok-Serve g c =
+    let asked = rw c.in-Ok-Serve.field-0-is at c.in-Ok-Serve.ensures.task in
+    record { run = c.serve.ensures (words_of c.args.words.now) asked.0 asked.1 asked.2 }
+
 pub returns-in-Ok-Make : goal.returns-in-Ok-Make
 returns-in-Ok-Make g c =
     let asked = rw c.in-Ok-Make.field-0-is at c.in-Ok-Make.ensures.task in

@@ -1,7 +1,7 @@
 use Rattle.std.proofs.Common.{ℕ, List, [], ◌∷◌, ◌++◌, codes, ap, ◌∙◌}
 use Rattle.vault_top.specs.Report.{sessions_line}
 use Rattle.vault_top.proofs.Counted.{count_added}
-use Rattle.vault_top.proofs.report.SessionCounts.line.Goals as goal
+use Rattle.vault_top.proofs.report.counts_line.Goals as goal
 
 pub returns : goal.returns
 unfolding sessions_line

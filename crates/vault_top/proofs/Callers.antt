@@ -1,0 +1,87 @@
+-- What each caller has in the one history of all workers' sessions.
+use Rattle.std.proofs.Common.{◌≡◌, ℕ, zero, suc, ◌+◌, ◌≤◌, Bool, true, false, eqb, cond, List, [], ◌∷◌, length, map, Option, refl, sym, ap, subst, ◌∙◌, arith}
+use Rattle.std.specs.List.{AllByRecursion}
+use Rattle.outside.specs.Views.{EntropyView}
+use Rattle.tree_model.specs.Asked.{entered}
+use Rattle.tree_history.specs.History.{Made, Entry, entries_of, Tally, next, after, Origin, tally_at, tally_of}
+use Rattle.shared_vault.specs.Clients.{AreDrawnFor}
+use Rattle.shared_sessions.specs.Joined.{AreSince, IsCaller, AreCallers}
+use Rattle.shared_sessions.specs.declared.workers.Worker.{Worker}
+use Rattle.vault_top.specs.Span.{Views, WorkerSpan, worker_spans}
+use Rattle.vault_top.specs.Served.{Share, asked_by, entropy_before, entropy_after}
+use Rattle.vault_top.specs.Sharing.{is_undrawn}
+
+-- ---- one caller
+
+eqb_sym : (m n : ℕ) → eqb m n ≡ eqb n m
+eqb_sym m n = grind arith
+
+not_own : (j : ℕ) (entry : Entry) (entries : List Entry) (own : Bool) → eqb entry.caller j ≡ own → entries_of j (entry ∷ entries) ≡ [] → (eqb entry.caller j ≡ false) × (entries_of j entries ≡ [])
+not_own j entry entries true is none =
+    let e : entry ∷ entries_of j entries ≡ [] = sym (ap (λ (b : Bool). cond b (entry ∷ entries_of j entries) (entries_of j entries)) is) ∙ none in absurd cc
+not_own j entry entries false is none = (is, sym (ap (λ (b : Bool). cond b (entry ∷ entries_of j entries) (entries_of j entries)) is) ∙ none)
+
+-- the random source of one who has no entries is where it was
+pub faults_stay : (j : ℕ) (tally : Tally) (entries : List Entry) → entries_of j entries ≡ [] → (after tally entries).entropy_faults j ≡ tally.entropy_faults j
+faults_stay j tally [] none = refl
+faults_stay j tally (entry ∷ entries) none =
+    let other = not_own j entry entries (eqb entry.caller j) refl none in
+    faults_stay j (next tally entry) entries other.1 ∙ ap (λ (b : Bool). cond b entry.made.entropy.after (tally.entropy_faults j)) (eqb_sym j entry.caller ∙ other.0)
+
+undrawn_of : (before after : EntropyView) (made : List Made) → AreDrawnFor is_undrawn before after made → after.drawn ≡ before.drawn
+undrawn_of before after [] h = ap (λ (v : EntropyView). v.drawn) h
+undrawn_of before after (made ∷ others) h = undrawn_of h.next after others h.rest ∙ h.source.drawn
+
+-- ---- all callers
+
+module _ {C : Type 0} (origin : Origin) (entries : List Entry) where
+  pub all_undrawn : (k : ℕ) (workers : List (WorkerSpan C)) (shares : List (Share C)) → AreCallers is_undrawn origin entries k workers shares
+      → AllByRecursion (λ worker. worker.entropy.after.drawn ≡ worker.entropy.before.drawn) workers
+  all_undrawn k [] shares h = tt
+  all_undrawn k (worker ∷ workers) [] h = absurd h
+  all_undrawn k (worker ∷ workers) (share ∷ shares) h = (undrawn_of worker.entropy.before worker.entropy.after _ h.0.drawn, all_undrawn (k + 1) workers shares h.1)
+
+  -- what the caller of a number was asked, where none past the last was asked anything
+  pub callers_at : (n k i : ℕ) (workers : List (WorkerSpan C)) (shares : List (Share C)) → n ≡ k + i → AreCallers is_undrawn origin entries k workers shares
+      → ((j : ℕ) → k + length workers ≤ j → entries_of j entries ≡ []) → map (λ entry. entry.made.asked) (entries_of n entries) ≡ entered (asked_by shares i)
+  callers_at n k i [] [] is h none = ap (λ (es : List Entry). map (λ entry. entry.made.asked) es) (none n (omega arith))
+  callers_at n k i [] (share ∷ shares) is h none = absurd h
+  callers_at n k i (worker ∷ workers) [] is h none = absurd h
+  callers_at n k zero (worker ∷ workers) (share ∷ shares) is h none =
+      let e : n ≡ k = omega arith in ap (λ (m : ℕ). map (λ (entry : Entry). entry.made.asked) (entries_of m entries)) e ∙ h.0.asked
+  callers_at n k (suc i) (worker ∷ workers) (share ∷ shares) is h none = callers_at n (k + 1) i workers shares (omega arith) h.1 (λ j past. none j (omega arith))
+
+  -- the faults of its random source, where past the last there are none
+  pub faults_at : (n k i : ℕ) (workers : List (WorkerSpan C)) (shares : List (Share C)) → n ≡ k + i → AreCallers is_undrawn origin entries k workers shares
+      → ((j : ℕ) → k + length workers ≤ j → (tally_of origin entries).entropy_faults j ≤ 0) → (tally_of origin entries).entropy_faults n ≤ entropy_after workers i
+  faults_at n k i [] [] is h none = none n (omega arith)
+  faults_at n k i [] (share ∷ shares) is h none = absurd h
+  faults_at n k i (worker ∷ workers) [] is h none = absurd h
+  faults_at n k zero (worker ∷ workers) (share ∷ shares) is h none =
+      let e : k ≡ n = omega arith in subst (λ (m : ℕ). (tally_of origin entries).entropy_faults m ≤ worker.entropy.after.faults) e h.0.faults
+  faults_at n k (suc i) (worker ∷ workers) (share ∷ shares) is h none = faults_at n (k + 1) i workers shares (omega arith) h.1 (λ j past. none j (omega arith))
+
+-- ---- as the run began
+
+pub spans_count : {D N C E : Type 0} (views : Views D N C E) (workers workers' : List (Worker N E)) → length workers' ≡ length workers → length (worker_spans views workers workers') ≡ length workers
+spans_count views [] workers' same = refl
+spans_count views (w ∷ workers) [] same = absurd (omega arith)
+spans_count views (w ∷ workers) (v ∷ workers') same = ap suc (spans_count views workers workers' (omega arith))
+
+pub before_same : {D N C E : Type 0} (views : Views D N C E) (workers workers' : List (Worker N E)) (j : ℕ) → length workers' ≡ length workers
+    → entropy_before (worker_spans views workers workers') j ≡ entropy_before (worker_spans views workers workers) j
+before_same views [] workers' j same = refl
+before_same views (w ∷ workers) [] j same = absurd (omega arith)
+before_same views (w ∷ workers) (v ∷ workers') zero same = refl
+before_same views (w ∷ workers) (v ∷ workers') (suc j) same = before_same views workers workers' j (omega arith)
+
+pub none_past : {C : Type 0} (workers : List (WorkerSpan C)) (j : ℕ) → length workers ≤ j → entropy_before workers j ≡ 0
+none_past [] j past = refl
+none_past (worker ∷ workers) zero past = absurd (omega arith)
+none_past (worker ∷ workers) (suc j) past = none_past workers j (omega arith)
+
+pub since_at : {D N C E : Type 0} (views : Views D N C E) (origin : Origin) (k : ℕ) (workers : List (Worker N E)) → ((n i : ℕ) → n ≡ k + i → origin.entropy_faults n ≡ entropy_before (worker_spans views workers workers) i)
+    → AreSince (λ (e : E). (views.entropy e).faults) origin k workers
+since_at views origin k [] same = tt
+since_at views origin k (w ∷ workers) same =
+    (let e = same k 0 (omega arith) in omega arith, since_at views origin (k + 1) workers (λ n i is. same n (suc i) (omega arith)))

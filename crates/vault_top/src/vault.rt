@@ -1,0 +1,64 @@
+//! An open vault as a tree that many callers ask.
+
+use outside::{Entropy, Folder};
+use shared_vault::SharedTree;
+use std::marker::{Brand, PhantomData};
+use tree_model::{Reply, Request};
+use vault_store::Store;
+
+/// How the folder was as the run began. `Brand` is one that each call of a function picks in its proof.
+pub(crate) trait Since {
+    ghost use Rattle.outside.specs.Views.{FolderView};
+
+    ghost since: { FolderView → Type 0 };
+}
+
+impl Since for Brand {
+    ghost since = { λ _. Unit {0} };
+}
+
+/// An open vault, whose folder was only read since the run began.
+#[derive(Drop)]
+pub(crate) struct SharedVault<D, B> {
+    store: Store<D>,
+    since: PhantomData<B>,
+}
+
+impl<D, B> SharedVault<D, B> {
+    ghost use Rattle.std.specs.Prelude.{◌≡◌};
+
+    pub(crate) fn new(store: Store<D>) -> SharedVault<D, B>
+        ensures { result.store ≡ store }
+    {
+        SharedVault {
+            store,
+            since: PhantomData,
+        }
+    }
+
+    pub(crate) fn into_store(self) -> Store<D>
+        ensures { result ≡ self.store }
+    {
+        let SharedVault { store, since: _ } = self;
+        store
+    }
+}
+
+impl<D: Folder, B: Since> SharedTree for SharedVault<D, B> {
+    ghost use Rattle.outside.specs.Views.{folder_view};
+    ghost use Rattle.vault_top.specs.Sharing.{IsSharedStore, is_undrawn};
+
+    ghost stands = { λ vault rows origin history. IsSharedStore (folder_view D.log D.faults D.changes) B.since vault.store rows origin history };
+
+    ghost draws = { is_undrawn };
+
+    fn serve<E: Entropy>(
+        &mut self,
+        request: &Request<'_>,
+        now: u32,
+        entropy: &mut E,
+        buffer: &mut [u8],
+    ) -> Reply {
+        self.store.serve(request, now, entropy, buffer)
+    }
+}
