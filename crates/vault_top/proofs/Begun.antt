@@ -1,5 +1,5 @@
 -- From where the history of all sessions begins.
-use Rattle.std.proofs.Common.{◌≡◌, ℕ, ◌≤◌, List, [], length, Option, refl, sym, ap, subst, ◌∙◌, arith}
+use Rattle.std.proofs.Common.{◌≡◌, ℕ, List, [], Option, refl, ap, subst, ◌∙◌, arith}
 use Rattle.outside.specs.Calls.{Told}
 use Rattle.outside.specs.Images.{Log, disk_in}
 use Rattle.outside.specs.Views.{FolderView}

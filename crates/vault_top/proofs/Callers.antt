@@ -1,11 +1,11 @@
 -- What each caller has in the one history of all workers' sessions.
-use Rattle.std.proofs.Common.{◌≡◌, ℕ, zero, suc, ◌+◌, ◌≤◌, Bool, true, false, eqb, cond, List, [], ◌∷◌, length, map, Option, refl, sym, ap, subst, ◌∙◌, arith}
+use Rattle.std.proofs.Common.{◌≡◌, ℕ, zero, suc, ◌+◌, ◌≤◌, Bool, true, false, eqb, cond, List, [], ◌∷◌, length, map, refl, sym, ap, subst, ◌∙◌, arith}
 use Rattle.std.specs.List.{AllByRecursion}
 use Rattle.outside.specs.Views.{EntropyView}
 use Rattle.tree_model.specs.Asked.{entered}
-use Rattle.tree_history.specs.History.{Made, Entry, entries_of, Tally, next, after, Origin, tally_at, tally_of}
+use Rattle.tree_history.specs.History.{Made, Entry, entries_of, Tally, next, after, Origin, tally_of}
 use Rattle.shared_vault.specs.Clients.{AreDrawnFor}
-use Rattle.shared_sessions.specs.Joined.{AreSince, IsCaller, AreCallers}
+use Rattle.shared_sessions.specs.Joined.{AreSince, AreCallers}
 use Rattle.shared_sessions.specs.declared.workers.Worker.{Worker}
 use Rattle.vault_top.specs.Span.{Views, WorkerSpan, worker_spans}
 use Rattle.vault_top.specs.Served.{Share, asked_by, entropy_before, entropy_after}

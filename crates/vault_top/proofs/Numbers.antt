@@ -8,7 +8,7 @@ use Rattle.std.proofs.lemmas.Bool.{leb-true}
 use Rattle.clap.specs.Words.{Row, Text, first_of, subcommand_of}
 use Rattle.vault_words.specs.Command.{vaultd}
 use Rattle.vault_words.specs.Numbers.{is_decimal, number_in}
-use Rattle.vault_words.specs.Jobs.{Job, Serving, Demonstration, serve, make, demo, help, version, AsksFor, job_in, job_named, serving_in, demonstration_in, number_at, at_once_in, is_raw}
+use Rattle.vault_words.specs.Jobs.{Job, Serving, Demonstration, serve, make, demo, help, version, AsksFor, job_in, serving_in, demonstration_in, number_at, at_once_in, is_raw}
 use Rattle.vault_top.specs.Tasks.{IsWithin}
 
 -- ---- one number

@@ -8,7 +8,7 @@ use Rattle.session_server.specs.Served.{ServedLink, GaveBack}
 use Rattle.session_workers.specs.declared.counts.SessionCounts.{SessionCounts}
 use Rattle.session_workers.specs.Workers.{MayStop, ListenerFailed}
 use Rattle.vault_top.specs.Span.{WorkerSpan}
-use Rattle.vault_top.specs.Served.{Share, IsShare, AreShares}
+use Rattle.vault_top.specs.Served.{Share, AreShares}
 
 weaker : {C : Type 0} (share : ℕ) (F G : Type 0) (links : List (ServedLink C)) (left : List C) → (F → G) → (length links ≡ share) ⊎ (left ≡ []) ⊎ F
     → (length links ≡ share) ⊎ (left ≡ []) ⊎ G

@@ -1,5 +1,5 @@
 -- What serving a vault does, step by step.
-use Rattle.std.specs.Prelude.{◌≡◌, ◌⊎◌, ℕ, min, List, [], length, Option, Some, None, Result, Ok, IsErr, IfSome, ⊤}
+use Rattle.std.specs.Prelude.{◌≡◌, ◌⊎◌, ℕ, min, List, length, Option, Some, Result, Ok, IsErr, IfSome, ⊤}
 use Rattle.outside.specs.declared.stream.Failed.{Failed}
 use Rattle.outside.specs.Calls.{Rose}
 use Rattle.outside.specs.Views.{FolderView}

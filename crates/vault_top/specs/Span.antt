@@ -1,5 +1,5 @@
 -- What a run of the program is given and what it leaves.
-use Rattle.std.specs.Prelude.{ℕ, List, [], ◌∷◌, Option}
+use Rattle.std.specs.Prelude.{ℕ, List, Option}
 use Rattle.outside.specs.Images.{Log}
 use Rattle.outside.specs.Views.{FolderView, folder_view, EntropyView, entropy_view, ListenerView, listener_view, LinkView, link_view}
 pub use Rattle.session_workers.specs.Shares.{Course, course, WorkerSpan}

@@ -159,7 +159,9 @@ where
         folder workers.old.items workers.new.items (course (sink_view O.taken O.faults) out.old out.new) result }
 {
     match open_vault(alloc, service.kind, folder, secret, clock) {
-        Ok(store) => serve_vault::<R, D, B, N, E, O, K>(rt, alloc, store, service, workers, out, clock),
+        Ok(store) => serve_vault::<R, D, B, N, E, O, K>(
+            rt, alloc, store, service, workers, out, clock,
+        ),
         Err(Refused { folder, cause }) => Ended {
             status: refuse(out, &cause),
             folder: Some(folder),
