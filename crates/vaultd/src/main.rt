@@ -1,25 +1,29 @@
-//! Serves the clear tree of a Cryptomator vault over 9P2000. README.md has its words.
+//! Serves the clear tree of a Cryptomator vault over 9P2000, and makes such vaults. README.md has its words.
 #![tactic(auto)]
 
-ghost use Rattle.std.specs.Prelude.{◌≡◌, ◌↔◌, ◌+◌, ◌<◌, length, drop, IfOk, IsTrue, Some, slice_get, string_bytes};
+ghost use Rattle.std.specs.Prelude.{◌≡◌, ◌↔◌, drop, IfOk};
 ghost use Rattle.std.specs.declared.io.ErrorKind.TheVariants.{InvalidData};
 ghost use Rattle.std.specs.IoError.{error_kind};
+ghost use Rattle.outside_real.specs.Behind.{base_of};
+ghost use Rattle.outside_real.specs.declared.stream.NullSink.{NullSink};
 ghost use Rattle.vault_top.specs.Words.{words_of};
 ghost use Rattle.vault_top.specs.Ending.{report_of, status_of};
-ghost use Rattle.outside_real.specs.Behind.{base_of};
-ghost use Rattle.vault_top.specs.Span.{views_of};
-ghost use Rattle.vaultd.specs.Starting.{IsRunOf, IsStatus, ListensOnStreams, StandsAt, directory_in, ending_of};
+ghost use Rattle.vault_top.specs.Span.{sink_view, views_of};
+ghost use Rattle.vaultd.specs.Starting.{IsRunOf, IsStarted, ending_of};
 
 use outside::{Entropy, Gate, Link, Listener, Reads, Sink, Stage};
 use outside_real::{
-    HostClock, HostFolder, HostLink, HostListen, NullSink, OsEntropy, StdSink, StdSource,
+    HostClock, HostFolder, HostLink, HostListen, NullSink, OsEntropy, Output, StdSink, StdSource,
 };
 use std::alloc::AllocError;
+use std::env::{Env, FillError};
+use std::fs::File;
 use std::io::{ErrorKind, Input};
 use std::process::ExitCode;
 use std::rt::{Clock, Files};
 use std::{env, io};
 use vault_top::{Worker, run};
+use vault_words::places;
 
 /// Why the program doesn't come to its job.
 #[derive(Clone, Copy, Debug, PartialEq, Eq)]
@@ -79,65 +83,21 @@ impl Gate for OpenGate {
     fn pass(&self, _stage: Stage) {}
 }
 
-fn is_word(word: &String, text: &str) -> bool
-    ensures { IsTrue result ↔ (string_bytes word.now ≡ text.now) }
-{
-    word.as_str() == text
-}
-
-// Whether the word at this place is this text.
-fn is_word_at(words: &[String], place: usize, text: &str) -> bool
-    requires { place < length words.now }
-    ensures { IsTrue result ↔ (slice_get (words_of words.now) place ≡ Some text.now) }
-{
-    is_word(&words[place], text)
-}
-
-// Whether the word at this place is `--listen`, and the one behind it `-`.
-fn stands_at(words: &[String], place: usize) -> bool
-    requires { place + 1 < length words.now }
-    ensures { IsTrue result ↔ StandsAt (words_of words.now) place }
-{
-    is_word_at(words, place, "--listen") && is_word_at(words, place + 1, "-")
-}
-
-// Whether the standard streams are the client's, so that no report may be written there.
-fn listens_on_streams(words: &[String]) -> bool
-    ensures { IsTrue result ↔ ListensOnStreams (words_of words.now) }
-{
-    for value in 1..words.len() {
-        if stands_at(words, value - 1) {
-            return true;
-        }
-    }
-    false
-}
-
-// The folder that the words name: their second, and the empty path where there is none.
-fn directory(words: &[String]) -> &str
-    ensures { result.now ≡ directory_in (words_of words.now) }
-{
-    match words.get(1) {
-        Some(word) => word.as_str(),
-        None => "",
-    }
-}
-
-/// Makes the objects of the outside and runs the job that these words are.
+/// Makes the objects of the outside over the folder at a path, and runs the job that these words are.
 fn serve<'a, R: Clock + Files + Input + Print + AllocGlobal, O: Sink>(
     rt: &'a R,
     words: &[String],
+    path: &str,
     out: &mut O,
 ) -> Result<u8, AllocError>
-    ensures status { IfOk result (IsStatus (words_of words.now)) }
-    ensures run { IfOk result (IsRunOf
+    ensures { IfOk result (IsRunOf
         (views_of ⟦<HostFolder<&'a R> as Reads>⟧.log ⟦<HostFolder<&'a R> as Reads>⟧.faults ⟦<HostFolder<&'a R> as Reads>⟧.changes
         ⟦<HostListen<&'a R> as Listener>⟧.to_come ⟦<HostListen<&'a R> as Listener>⟧.given_back ⟦<HostListen<&'a R> as Listener>⟧.faults
         ⟦<HostLink<&'a R> as Link>⟧.left ⟦<HostLink<&'a R> as Link>⟧.taken ⟦<HostLink<&'a R> as Link>⟧.read_faults ⟦<HostLink<&'a R> as Link>⟧.write_faults
         ⟦<OsEntropy<&'a R> as Entropy>⟧.drawn ⟦<OsEntropy<&'a R> as Entropy>⟧.faults)
-        base_of (words_of words.now)) }
+        base_of (sink_view O.taken O.faults) (words_of words.now) path.now) }
 {
-    let folder = HostFolder::new(rt, rt.alloc(), directory(words))?;
+    let folder = HostFolder::new(rt, rt.alloc(), path)?;
     let mut workers = Vec::new(rt.alloc());
     workers.push(Worker {
         listener: HostListen::new(rt),
@@ -164,22 +124,55 @@ fn behind_name(args: &[String]) -> &[String]
     &args[args.len().min(1)..]
 }
 
-/// Runs the job that the words behind the program's name are.
-fn start<R: Clock + Files + Input + Print + AllocGlobal>(
-    rt: &R,
+/// Runs the job that the words behind the program's name are. Where standard output is the client's, nothing is reported.
+fn start<'a, R: Clock + Files + Input + Print + AllocGlobal>(
+    rt: &'a R,
     args: &[String],
 ) -> Result<u8, AllocError>
-    ensures { IfOk result (IsStatus (words_of (drop 1 args.now))) }
+    ensures { IfOk result (IsStarted
+        (views_of ⟦<HostFolder<&'a R> as Reads>⟧.log ⟦<HostFolder<&'a R> as Reads>⟧.faults ⟦<HostFolder<&'a R> as Reads>⟧.changes
+        ⟦<HostListen<&'a R> as Listener>⟧.to_come ⟦<HostListen<&'a R> as Listener>⟧.given_back ⟦<HostListen<&'a R> as Listener>⟧.faults
+        ⟦<HostLink<&'a R> as Link>⟧.left ⟦<HostLink<&'a R> as Link>⟧.taken ⟦<HostLink<&'a R> as Link>⟧.read_faults ⟦<HostLink<&'a R> as Link>⟧.write_faults
+        ⟦<OsEntropy<&'a R> as Entropy>⟧.drawn ⟦<OsEntropy<&'a R> as Entropy>⟧.faults)
+        base_of (sink_view ⟦<NullSink as Sink>⟧.taken ⟦<NullSink as Sink>⟧.faults)
+        (sink_view ⟦<StdSink<Output<&'a R>> as Sink>⟧.taken ⟦<StdSink<Output<&'a R>> as Sink>⟧.faults)
+        (words_of (drop 1 args.now))) }
 {
     let words = behind_name(args);
-    if listens_on_streams(words) {
-        serve(rt, words, &mut NullSink)
+    let places = places(rt.alloc(), words)?;
+    if places.address == "-" {
+        serve(rt, words, places.dir, &mut NullSink)
     } else {
-        serve(rt, words, &mut StdSink::new(rt))
+        serve(rt, words, places.dir, &mut StdSink::new(rt))
     }
 }
 
+// Whether a word says that standard output is a client's.
+fn is_for_streams(word: &[u8]) -> bool {
+    matches!(word, b"-" | b"--listen=-")
+}
+
+// Whether standard output may be a client's, where the words can't be read.
+fn may_serve_streams<R: Env>(rt: &R) -> bool {
+    let mut word = [0u8; 16];
+    for index in 1..usize::MAX {
+        match rt.arg(index, &mut word) {
+            Ok(count) if is_for_streams(&word[..count]) => return true,
+            Ok(_) | Err(FillError::TooLong) => {}
+            Err(FillError::NotPresent) => return false,
+        }
+    }
+    false
+}
+
+// Takes the lowest descriptor that is free.
+fn placeholder<R: Files>(rt: &R) -> io::Result<R::File> {
+    File::open(rt, "/dev/null")
+}
+
 fn main(rt: HostRuntime) -> ExitCode {
+    // Where the program was started without one of the descriptors 0 to 2, no file of the vault is to be given it.
+    let _placeholders = [placeholder(&rt), placeholder(&rt), placeholder(&rt)];
     let started = match env::args(&rt) {
         Ok(args) => args
             .collect::<Vec<_>>(rt.alloc())
@@ -190,8 +183,10 @@ fn main(rt: HostRuntime) -> ExitCode {
     match started {
         Ok(status) => ExitCode::from(status),
         Err(cause) => {
-            // What can't be printed is lost: the status says it as well.
-            let _ = print!(rt; "{}", cause.line());
+            if !may_serve_streams(&rt) {
+                // What can't be printed is lost: the status says it as well.
+                let _ = print!(rt; "{}", cause.line());
+            }
             ExitCode::from(cause.status())
         }
     }
