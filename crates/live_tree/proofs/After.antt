@@ -8,8 +8,8 @@ use Rattle.std.specs.Map.{lookup, keys_of}
 use Rattle.std.specs.BTreeMap.{is_at}
 use Rattle.tree_model.specs.Rows.{root}
 use Rattle.clear_tree.specs.Kept.{What, KeptFile, KeptLink, KeptDir, KeptBad, folder_in}
-use Rattle.live_tree.specs.Held.{HeldNode, HeldTree, node_of, IsNamed, IsFree}
-use Rattle.live_tree.specs.Index.{Names, number_at, has_names, is_place, IsSet, HasParent, IsHeld}
+use Rattle.live_tree.specs.Held.{HeldNode, HeldTree, node_of, IsNamed, IsFree, HasParent}
+use Rattle.live_tree.specs.Index.{Names, number_at, has_names, is_place, IsSet, IsHeld}
 use Rattle.live_tree.specs.Changes.{edited_nodes, edited, counted, changed_node, renamed_node, sized_node, dated_node, IsFile}
 use Rattle.live_tree.proofs.Entries.{edit}
 use Rattle.live_tree.proofs.Held.{place_is, place_true, folder_there, folder_some, number_from}

@@ -9,8 +9,8 @@ use Rattle.std.specs.Map.{keys_of}
 use Rattle.std.specs.BTreeMap.{is_at}
 use Rattle.tree_model.specs.Rows.{root}
 use Rattle.clear_tree.specs.Kept.{folder_in}
-use Rattle.live_tree.specs.Held.{HeldNode, HeldTree, node_of, IsNamed, IsChildless}
-use Rattle.live_tree.specs.Index.{Names, number_at, is_place, IsSet, IsClosed, IsNameless, HasParent, IsHeld}
+use Rattle.live_tree.specs.Held.{HeldNode, HeldTree, node_of, IsNamed, IsChildless, HasParent}
+use Rattle.live_tree.specs.Index.{Names, number_at, is_place, IsSet, IsClosed, IsNameless, IsHeld}
 use Rattle.live_tree.specs.Changes.{dropped}
 use Rattle.live_tree.proofs.Held.{place_is, place_true, folder_there, folder_some, number_from}
 

@@ -4,7 +4,7 @@ use Rattle.std.specs.Ordering.{nat_cmp}
 use Rattle.std.specs.Cmp.Lexicographic.{slice_cmp}
 use Rattle.std.specs.declared.cmp.Ordering.TheVariants.{Less}
 use Rattle.clear_tree.specs.Kept.{IsBehind}
-use Rattle.live_tree.specs.Held.{HeldNode, HeldTree, IsChild, IsFree, IsNext, IsNoNext}
+use Rattle.live_tree.specs.Held.{HeldNode, HeldTree, IsChild, IsFree, IsNext, IsNoNext, IsTree}
 use Rattle.live_tree.specs.Index.{Names, number_at, IsHeld, IsNextName}
 
 module _ (names : Names) (tree : HeldTree) (held : IsHeld names tree) where
@@ -43,3 +43,16 @@ module _ (names : Names) (tree : HeldTree) (held : IsHeld names tree) where
       → IfNone o ((name : List ℕ) (number : ℕ) → number_at names parent name ≡ Some number → IsBehind last name → ⊥) → IfNone o (IsNoNext tree parent last)
   if_no_next parent last None none = no_next_held parent last none
   if_no_next parent last (Some number) none = tt
+
+  pub tree_is : IsTree tree
+  tree_is = record {
+    ordered = held.ordered;
+    first = held.first;
+    parents = held.parents;
+    numbers = held.numbers;
+    versions = held.versions;
+    names = λ parent name a b first second.
+        let one = held.found parent name a first in
+        let other = held.found parent name b second in
+        cc (one, other);
+  }

@@ -9,8 +9,8 @@ use Rattle.std.specs.Map.{lookup, keys_of}
 use Rattle.std.specs.BTreeMap.{is_at}
 use Rattle.tree_model.specs.Rows.{root}
 use Rattle.clear_tree.specs.Kept.{folder_in}
-use Rattle.live_tree.specs.Held.{HeldNode, HeldTree, node_of, IsNamed, IsFree, IsDirectory}
-use Rattle.live_tree.specs.Index.{Names, number_at, has_names, is_place, IsSet, IsSame, IsGrown, IsNameless, HasParent, IsHeld}
+use Rattle.live_tree.specs.Held.{HeldNode, HeldTree, node_of, IsNamed, IsFree, IsDirectory, HasParent}
+use Rattle.live_tree.specs.Index.{Names, number_at, has_names, is_place, IsSet, IsSame, IsGrown, IsNameless, IsHeld}
 use Rattle.live_tree.specs.Changes.{appended}
 use Rattle.live_tree.proofs.Places.{at_number}
 use Rattle.live_tree.proofs.Entries.{AreBelow, below_from}

@@ -1,10 +1,11 @@
 -- What is held of a tree that changes: its nodes by number, and the rows that they stand for.
-use Rattle.std.specs.Prelude.{◌≡◌, ◌≢◌, ℕ, suc, List, [], ◌∷◌, map, Bool, Option, Some, IsSome}
+use Rattle.std.specs.Prelude.{◌≡◌, ◌≢◌, ◌<◌, ◌≤◌, ℕ, suc, List, [], ◌∷◌, map, Bool, Option, Some, IsSome}
 use Rattle.std.specs.declared.cmp.Ordering.TheVariants.{Less}
 use Rattle.std.specs.Ordering.{nat_cmp}
 use Rattle.std.specs.Cmp.Lexicographic.{slice_cmp}
 use Rattle.std.specs.Option.{option_and_then}
-use Rattle.std.specs.Map.{lookup}
+use Rattle.std.specs.List.Sorted.{IsStrictlySortedBy}
+use Rattle.std.specs.Map.{keys_of, lookup}
 use Rattle.std.specs.BTreeMap.{is_at}
 use Rattle.tree_model.specs.Rows.{Content, Row, Rows, root}
 use Rattle.clear_tree.specs.Kept.{KeptNode, kind_of, content_of, folder_in, path_in, size_in, IsBehind}
@@ -116,3 +117,26 @@ pub record IsDirectory (tree : HeldTree) (number : ℕ) : Type 0 where
   pub node : HeldNode
   pub there : node_of tree number ≡ Some node
   pub folder : IsSome (folder_in node.kept.what)
+
+-- ---- what holds of each tree
+
+-- the root is a directory that is its own parent
+pub record IsRoot (tree : HeldTree) (node : HeldNode) : Type 0 where
+  pub there : node_of tree root ≡ Some node
+  pub own : node.kept.parent ≡ root
+  pub folder : IsSome (folder_in node.kept.what)
+
+-- a node below the root is in a directory of a lower number
+pub record HasParent (tree : HeldTree) (number : ℕ) (node : HeldNode) : Type 0 where
+  pub before : node.kept.parent < number
+  pub folder : IsSome (parent_folder tree node.kept)
+
+-- what each tree is: the root, and below it nodes in directories of lower numbers; no two nodes of one directory with one name; each number
+-- below the next one; and no version above the count of changes
+pub record IsTree (tree : HeldTree) : Type 0 where
+  pub ordered : IsStrictlySortedBy nat_cmp (keys_of tree.nodes)
+  pub first : (node : HeldNode) × IsRoot tree node
+  pub parents : (number : ℕ) (node : HeldNode) → node_of tree number ≡ Some node → number ≢ root → HasParent tree number node
+  pub numbers : (number : ℕ) (node : HeldNode) → node_of tree number ≡ Some node → number < tree.next
+  pub versions : (number : ℕ) (node : HeldNode) → node_of tree number ≡ Some node → node.version ≤ tree.changes
+  pub names : (parent : ℕ) (name : List ℕ) (a b : ℕ) → IsNamed tree parent name a → IsNamed tree parent name b → a ≡ b

@@ -12,7 +12,7 @@ use Rattle.vault_path.specs.Parts.{is_part}
 use Rattle.tree_model.specs.Rows.{root}
 use Rattle.clear_tree.specs.Kept.{What, folder_in, IsBehind}
 use Rattle.clear_tree.specs.Built.{IsShowable}
-use Rattle.live_tree.specs.Held.{HeldNode, HeldTree, node_of, parent_folder, IsNamed}
+use Rattle.live_tree.specs.Held.{HeldNode, HeldTree, node_of, IsNamed, IsRoot, HasParent}
 
 -- of each directory the numbers of its nodes, by their names
 abbrev pub Names : Type 0
@@ -70,17 +70,6 @@ pub record IsNextName (names : Names) (parent : ℕ) (last : Option (List ℕ)) 
 pub record IsSound (name entry : List ℕ) (what : What) : Type 0 where
   pub showable : IsShowable name what
   pub part : folder_in what ≡ None → IsTrue (is_part entry)
-
--- the root is a directory that is its own parent
-pub record IsRoot (tree : HeldTree) (node : HeldNode) : Type 0 where
-  pub there : node_of tree root ≡ Some node
-  pub own : node.kept.parent ≡ root
-  pub folder : IsSome (folder_in node.kept.what)
-
--- a node below the root is in a directory of a lower number
-pub record HasParent (tree : HeldTree) (number : ℕ) (node : HeldNode) : Type 0 where
-  pub before : node.kept.parent < number
-  pub folder : IsSome (parent_folder tree node.kept)
 
 -- The index has just the names of the nodes.
 pub record IsHeld (names : Names) (tree : HeldTree) : Type 0 where

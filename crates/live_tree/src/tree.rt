@@ -7,9 +7,9 @@ ghost use Rattle.vault_path.specs.Parts.{is_part, is_path};
 ghost use Rattle.tree_model.specs.Names.{IsClearName};
 ghost use Rattle.tree_model.specs.Rows.{Content, root, is_dir};
 ghost use Rattle.clear_tree.specs.Places.{host_folder, host_entry, host_inner};
-ghost use Rattle.clear_tree.specs.Kept.{IsTree, kind_of, tree_rows};
+ghost use Rattle.clear_tree.specs.Kept.{IsTree as IsKeptTree, kind_of, tree_rows};
 ghost use Rattle.clear_tree.specs.Built.{kept_what, HasHostFolder};
-ghost use Rattle.live_tree.specs.Held.{HeldNode, node_of, path_of, size_of, live_rows, loaded, IsNamed, IsFree, IsNext, IsNoNext, IsChildless, IsDirectory};
+ghost use Rattle.live_tree.specs.Held.{HeldNode, node_of, path_of, size_of, live_rows, loaded, IsNamed, IsFree, IsNext, IsNoNext, IsChildless, IsDirectory, IsTree};
 ghost use Rattle.live_tree.specs.Changes.{edited, changed, appended, added, dropped, removed, renamed, renamed_node, touched, dated, new_node, count_limit, CanBeMade, CanChange, IsFile, RowsAreAdded, RowsAreRemoved, RowsAreRenamed, RowsAreTouched, RowsAreDated};
 
 use crate::changing::{Nodes, change_node, date_node, insert_node, rename_node, resize_node};
@@ -67,7 +67,8 @@ impl LiveTree {
 
     /// How many nodes there are, the root among them.
     pub fn len(&self) -> usize
-        ensures { result ≡ length self.now.nodes }
+        ensures count { result ≡ length self.now.nodes }
+        ensures tree { IsTree self.now }
     {
         self.nodes.len()
     }
@@ -224,7 +225,7 @@ impl LiveTree {
 
     // The root alone, as it was loaded.
     fn with_root(alloc: Global, tree: &Tree, unlocked: u32) -> Result<LiveTree, AllocError>
-        requires { IsTree tree.now }
+        requires { IsKeptTree tree.now }
         ensures { IfOk result (λ live. live ≡ loaded unlocked (take 1 tree.now.nodes) 1 tree.now.twice) }
     {
         let Some(root) = tree.node(0) else {
@@ -247,7 +248,7 @@ impl LiveTree {
 
     // Puts the node of a number of a loaded tree behind those before it.
     fn load(&mut self, tree: &Tree, number: u64, unlocked: u32) -> Result<(), AllocError>
-        requires tree { IsTree tree.now }
+        requires tree { IsKeptTree tree.now }
         requires loaded { self.old ≡ loaded unlocked (take number tree.now.nodes) number tree.now.twice }
         requires below { number ≢ root }
         requires there { number < length tree.now.nodes }
