@@ -3,11 +3,12 @@
 //! `data/journals.txt` has a line for each file `served.journal`: its bytes in hexadecimal digits (`-` for none), at which byte it is damaged
 //! (`-` where it opens), and whether there is a folder `d` once it was opened. `data/batches.txt` has a line for each batch of a run, its bytes.
 //! `data/states.txt` has a line for what the folder holds before the first and after each batch: of each path in turn `-` for nothing, `dir` for a
-//! folder, or the bytes of a file. It is printed how many rows a file has, or each row that differs, by its number from 1. The status is 1 if
+//! folder, or the bytes of a file. `data/images.txt` has a line for each image of a folder that wrote, put and made. It is printed how many rows a file has, or each row that differs, by its number from 1. The status is 1 if
 //! something differs or can't be read.
 #![tactic(auto)]
 
 mod damaged;
+mod images;
 mod row;
 mod runs;
 mod stops;
@@ -35,6 +36,7 @@ fn main(rt: HostRuntime) -> io::Result<ExitCode> {
     let journals = fs::read_to_string(&rt, "journals.txt")?;
     let batches = fs::read_to_string(&rt, "batches.txt")?;
     let states = fs::read_to_string(&rt, "states.txt")?;
+    let images = fs::read_to_string(&rt, "images.txt")?;
     let alloc = rt.alloc();
     let mut passed = print_outcome(
         &rt,
@@ -45,6 +47,11 @@ fn main(rt: HostRuntime) -> io::Result<ExitCode> {
         &rt,
         "folders in a journal's place",
         damaged::check_folders(alloc),
+    )?;
+    passed &= print_outcome(
+        &rt,
+        "images of a folder",
+        images::check_all(alloc, images.as_str()),
     )?;
     passed &= print_outcome(
         &rt,

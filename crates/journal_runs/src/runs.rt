@@ -52,8 +52,8 @@ pub(crate) fn commit_all(
     })
 }
 
-// Puts what stands at a path behind what is held: `-` for nothing, `dir` for a folder, or the first 16 bytes of a file.
-fn put_thing<D: Reads>(
+/// Puts what stands at a path behind what is held: `-` for nothing, `dir` for a folder, or the first 16 bytes of a file.
+pub(crate) fn put_thing<D: Reads>(
     alloc: Global,
     folder: &mut D,
     path: &VaultPath,

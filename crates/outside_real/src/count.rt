@@ -5,7 +5,7 @@ use outside::{Failed, FolderErr};
 use std::io;
 
 /// The count after one more fault. It stands still at its end.
-fn raised(faults: u64) -> u64
+pub(crate) fn raised(faults: u64) -> u64
     ensures later { faults ≤ result }
     ensures rose { Rose faults result }
 {

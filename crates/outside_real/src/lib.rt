@@ -18,6 +18,8 @@
 //! (`StreamLink::over`, `StdSource::over`, `StdSink::over`) everything that their traits say of contents is proved of the
 //! code that serves the standard streams; of those only std's own reader and writer are trusted.
 //!
+//! Clients over TCP or a Unix socket come to a `Socket`, which several `SocketListen` share, one for each worker.
+//!
 //! Where another process does, no file outside of the folder is cut or written by way of a link at the end of a path: what
 //! is opened is compared (device, inode, kind) with what was seen before a byte is read or written, a new file is made
 //! only where there is nothing, and no file is cut by opening. These stay open, as std has neither `openat` nor flags for
@@ -36,6 +38,7 @@ mod link;
 mod listen;
 mod opened;
 mod room;
+mod socket;
 mod stream;
 mod touched;
 mod transfer;
@@ -46,4 +49,5 @@ pub use entropy::OsEntropy;
 pub use folder::HostFolder;
 pub use link::{HostLink, StreamLink};
 pub use listen::HostListen;
+pub use socket::{Socket, SocketLink, SocketListen};
 pub use stream::{NullSink, StdSink, StdSource};

@@ -3,4 +3,3 @@ pub mod Taken
 pub mod Trees
 pub mod Changes
 pub mod Shapes
-pub mod Made

@@ -2,28 +2,16 @@
 //! refuse one and no place is taken, they can be done, again after a stop too, and leave the disk of the tree after it.
 //!
 //! ```
-//! let old = Place { folder, entry: node.entry(), long: node.is_long() };
-//! let new = Place { folder, entry: b"dGV4dA==.c9r", long: false };
-//! let deeds = tree_changes::rename_deeds(alloc, &old, &new, b"dGV4dA==.c9r", node.what())?;
-//! let batch = Batch::from_deeds(deeds);
+//! // From the tree of a disk: a new file's one deed at a short place puts its header.
+//! tree_changes::creates_file();
+//! tree_changes::removes_file();
 //! ```
 //!
-//! Its functions without arguments are laws: they do nothing, and their clauses hold.
+//! Its functions are laws: they do nothing, and their clauses hold.
 #![tactic(auto)]
-
-mod creation;
-mod known;
-mod place;
-mod removal;
-mod renaming;
 
 ghost use Rattle.tree_changes.specs.Changes.{CreatesDirectory, CreatesFile, DoesAgain, EntriesAreOfPlaces, RemovesDirectory, RemovesFile, RemovesLink, RenamesDirectory, RenamesFile, RenamesLink, StaysBeside};
 ghost use Rattle.tree_changes.specs.Shapes.{ClearRowsHaveTree, DirectoryFollows, EmptyVaultHasTree, FileFollows, RemovalFollows, RenameFollows, ShapesAreOfClearRows, StepMakesDirectory, StepMakesFile, StepRemoves, StepRenames};
-
-pub use creation::{create_dir_deeds, create_file_deeds};
-pub use place::Place;
-pub use removal::remove_deeds;
-pub use renaming::rename_deeds;
 
 /// A file is made, at its short or its long place.
 pub fn creates_file()

@@ -4,7 +4,7 @@ ghost use Rattle.deeds.specs.Plain.{plains};
 ghost use Rattle.clear_tree.specs.Built.{kept_what};
 ghost use Rattle.tree_changes.specs.Deeds as changes;
 ghost use Rattle.tree_changes.specs.Deeds.{rename_node_at, rename_file_at};
-ghost use Rattle.tree_changes.specs.Made.{IsHostPlace, place_at};
+ghost use Rattle.change_deeds.specs.Made.{IsHostPlace, place_at};
 
 use crate::known::{CONTENTS, DIR, NAME, SYMLINK};
 use crate::place::{Place, entry_of, inner_of};

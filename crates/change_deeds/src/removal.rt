@@ -5,7 +5,7 @@ ghost use Rattle.clear_tree.specs.Places.{host_folder};
 ghost use Rattle.clear_tree.specs.Built.{HasHostFolder, kept_what};
 ghost use Rattle.tree_changes.specs.Deeds as changes;
 ghost use Rattle.tree_changes.specs.Deeds.{remove_node_at, remove_dir_at};
-ghost use Rattle.tree_changes.specs.Made.{IsHostPlace, place_at};
+ghost use Rattle.change_deeds.specs.Made.{IsHostPlace, place_at};
 
 use crate::known::{CONTENTS, DIR, DIRID, NAME, SYMLINK};
 use crate::place::{Place, entry_of, folder_of, inner_of, joined};

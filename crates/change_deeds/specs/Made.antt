@@ -3,7 +3,7 @@ use Rattle.std.specs.Prelude.{IsTrue}
 use Rattle.vault_path.specs.Parts.{is_part, is_path}
 use Rattle.clear_tree.specs.Places.{host_folder}
 use Rattle.tree_changes.specs.Deeds.{Place as PlainPlace}
-use Rattle.tree_changes.specs.declared.place.Place.{Place}
+use Rattle.change_deeds.specs.declared.place.Place.{Place}
 
 abbrev pub place_at : Place → PlainPlace
 place_at place = record { folder = place.folder.now; entry = place.entry.now; long = place.long }

@@ -3,7 +3,7 @@ ghost use Rattle.vault_path.specs.Parts.{is_path};
 ghost use Rattle.deeds.specs.Plain.{plains};
 ghost use Rattle.clear_tree.specs.Places.{host_folder};
 ghost use Rattle.tree_changes.specs.Deeds as changes;
-ghost use Rattle.tree_changes.specs.Made.{IsHostPlace, place_at};
+ghost use Rattle.change_deeds.specs.Made.{IsHostPlace, place_at};
 
 use crate::known::{CONTENTS, DIR, NAME};
 use crate::place::{Place, entry_of, folder_of, inner_of, two_of};

@@ -2,7 +2,7 @@ ghost use Rattle.std.specs.Prelude.{◌≡◌, [], ◌∷◌, ◌++◌, IsTrue};
 ghost use Rattle.vault_path.specs.Parts.{is_part, is_path};
 ghost use Rattle.clear_tree.specs.Places.{host_folder, host_two};
 ghost use Rattle.tree_changes.specs.Deeds.{entry_path, inner_path};
-ghost use Rattle.tree_changes.specs.Made.{IsHostPlace, place_at};
+ghost use Rattle.change_deeds.specs.Made.{IsHostPlace, place_at};
 
 use vault_path::VaultPath;
 

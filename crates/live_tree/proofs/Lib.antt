@@ -1,0 +1,10 @@
+pub mod Places
+pub mod Entries
+pub mod Rows
+pub mod Finding
+pub mod Held
+pub mod After
+pub mod Dropped
+pub mod Steps
+pub mod Public
+pub mod Loading

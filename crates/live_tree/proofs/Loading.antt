@@ -1,0 +1,193 @@
+-- A tree as it was loaded, node by node.
+use Rattle.std.proofs.Common.{◌≡◌, ◌≢◌, ℕ, zero, suc, ◌+◌, ◌<◌, ◌≤◌, Bool, true, false, cond, List, [], ◌∷◌, ◌++◌, length, take, slice_get, Option, Some, None, Result, Ok, Err, OnOk, IsSome, refl, sym, ap, ap₂, ◌∙◌, subst, true≢false, arith}
+use Rattle.std.proofs.lemmas.Option.{slice_get_within}
+use Rattle.live_tree.proofs.Rows.{rows_loaded}
+use Rattle.std.specs.Ordering.{nat_cmp}
+use Rattle.std.specs.Option.{option_map, option_and_then}
+use Rattle.std.specs.Cmp.Lexicographic.{slice_cmp}
+use Rattle.std.specs.List.Sorted.{IsStrictlySortedBy}
+use Rattle.std.specs.Map.{lookup}
+use Rattle.std.specs.BTreeMap.{BTreeMap, is_at, get, insert_entry}
+use Rattle.tree_model.specs.Rows.{Content, root}
+use Rattle.clear_tree.specs.Kept.{KeptNode, KeptTree, tree_rows, folder_in, node_of as kept_node_of, IsTree, IsNamed as IsKeptNamed}
+use Rattle.live_tree.specs.Held.{HeldNode, HeldTree, live_rows, node_of, unchanged_node, numbered, loaded, IsFree, IsDirectory}
+use Rattle.live_tree.specs.Index.{Names, number_at, has_names, IsGrown, IsHeld}
+use Rattle.live_tree.specs.Changes.{appended}
+use Rattle.live_tree.proofs.Held.{at_true, at_false, number_from}
+
+Nodes : Type 0
+Nodes = List KeptNode
+
+-- ---- the first nodes
+
+record IsBefore (ns : List KeptNode) (n k : ℕ) (x : KeptNode) : Type 0 where
+  below : k < n
+  there : slice_get ns k ≡ Some x
+
+taken_at : (ns : List KeptNode) (n k : ℕ) (x : KeptNode) → slice_get (take n ns) k ≡ Some x → IsBefore ns n k x
+taken_at ns zero k x h = absurd cc
+taken_at [] (suc n) k x h = absurd cc
+taken_at (y ∷ ns) (suc n) zero x h = record { below = omega arith; there = h }
+taken_at (y ∷ ns) (suc n) (suc k) x h = let rest = taken_at ns n k x h in let low = rest.below in record { below = omega (arith, low); there = rest.there }
+
+at_taken : (ns : List KeptNode) (n k : ℕ) (x : KeptNode) → k < n → slice_get ns k ≡ Some x → slice_get (take n ns) k ≡ Some x
+at_taken ns zero k x low h = absurd (omega (arith, low))
+at_taken [] (suc n) k x low h = absurd cc
+at_taken (y ∷ ns) (suc n) zero x low h = h
+at_taken (y ∷ ns) (suc n) (suc k) x low h = at_taken ns n k x (omega (arith, low)) h
+
+take_more : (ns : List KeptNode) (n : ℕ) (x : KeptNode) → slice_get ns n ≡ Some x → take (suc n) ns ≡ take n ns ++ x ∷ []
+take_more [] n x h = absurd cc
+take_more (y ∷ ns) zero x h = let same : y ≡ x = cc in ap (λ (z : KeptNode). z ∷ []) same
+take_more (y ∷ ns) (suc n) x h = ap (λ (zs : List KeptNode). y ∷ zs) (take_more ns n x h)
+
+length_taken : (ns : List KeptNode) (n : ℕ) (x : KeptNode) → slice_get ns n ≡ Some x → length (take n ns) ≡ n
+length_taken [] n x h = absurd cc
+length_taken (y ∷ ns) zero x h = refl
+length_taken (y ∷ ns) (suc n) x h = ap suc (length_taken ns n x h)
+
+pub take_whole : (ns : List KeptNode) → take (length ns) ns ≡ ns
+take_whole [] = refl
+take_whole (y ∷ ns) = ap (λ (zs : List KeptNode). y ∷ zs) (take_whole ns)
+
+-- ---- numbered nodes
+
+numbered_append : (unlocked from n : ℕ) (xs : List KeptNode) (x : KeptNode) → n ≡ from + length xs
+    → numbered unlocked from (xs ++ x ∷ []) ≡ numbered unlocked from xs ++ (n, unchanged_node unlocked x) ∷ []
+numbered_append unlocked from n [] x e = let same : from ≡ n = omega (arith, e) in ap (λ (k : ℕ). (k, unchanged_node unlocked x) ∷ []) same
+numbered_append unlocked from n (y ∷ xs) x e =
+    ap (λ (zs : List (ℕ × HeldNode)). (from, unchanged_node unlocked y) ∷ zs) (numbered_append unlocked (suc from) n xs x (omega (arith, e)))
+
+numbered_at : (unlocked from k q : ℕ) (ns : List KeptNode) → q ≡ from + k → lookup (is_at (nat_cmp q)) (numbered unlocked from ns) ≡ option_map (unchanged_node unlocked) (slice_get ns k)
+numbered_at unlocked from k q [] e = refl
+numbered_at unlocked from zero q (y ∷ ns) e = rw (at_true q from (omega (arith, e))) refl
+numbered_at unlocked from (suc k) q (y ∷ ns) e =
+    rw (at_false q from (λ same. omega (arith, e, same))) (numbered_at unlocked (suc from) k q ns (omega (arith, e)))
+
+node_at : (unlocked : ℕ) (ns : List KeptNode) (next : ℕ) (twice : Bool) (q : ℕ) → node_of (loaded unlocked ns next twice) q ≡ option_map (unchanged_node unlocked) (slice_get ns q)
+node_at unlocked ns next twice q = numbered_at unlocked 0 q q ns (omega arith)
+
+record CameFrom (ns : List KeptNode) (unlocked q : ℕ) (n : HeldNode) : Type 0 where
+  kept : KeptNode
+  there : slice_get ns q ≡ Some kept
+  is : n ≡ unchanged_node unlocked kept
+
+came : (ns : List KeptNode) (unlocked q : ℕ) (n : HeldNode) (o : Option KeptNode) → slice_get ns q ≡ o → option_map (unchanged_node unlocked) o ≡ Some n → CameFrom ns unlocked q n
+came ns unlocked q n None e h = absurd cc
+came ns unlocked q n (Some x) e h = record { kept = x; there = e; is = cc }
+
+-- ---- the next node
+
+module _ (unlocked : ℕ) (tree : KeptTree) (is : IsTree tree) (number : ℕ) (x : KeptNode) (there : kept_node_of tree number ≡ Some x) where
+  before : HeldTree
+  before = loaded unlocked (take number tree.nodes) number tree.twice
+
+  directory_step : (o : Option KeptNode) → slice_get tree.nodes x.parent ≡ o → IsSome (option_and_then (λ (p : KeptNode). folder_in p.what) o) → x.parent < number
+      → IsDirectory (loaded unlocked (take number tree.nodes) number tree.twice) x.parent
+  directory_step None e folder low = absurd (true≢false (sym folder))
+  directory_step (Some p) e folder low = record {
+    node = unchanged_node unlocked p;
+    there = node_at unlocked (take number tree.nodes) number tree.twice x.parent ∙ ap (option_map (unchanged_node unlocked)) (at_taken tree.nodes number x.parent p low e);
+    folder = folder;
+  }
+
+  pub directory_for : number ≢ root → IsDirectory (loaded unlocked (take number tree.nodes) number tree.twice) x.parent
+  directory_for below = directory_step (slice_get tree.nodes x.parent) refl (is.folders number x there) (is.parents number x there below)
+
+  pub free_for : number ≢ root → IsFree (loaded unlocked (take number tree.nodes) number tree.twice) x.parent x.name
+  free_for below k named =
+      let from = came (take number tree.nodes) unlocked k named.node (slice_get (take number tree.nodes) k) refl
+      (sym (node_at unlocked (take number tree.nodes) number tree.twice k) ∙ named.child.there) in
+      let at = taken_at tree.nodes number k from.kept from.there in
+      let low = at.below in
+      let mine : IsKeptNamed tree x.parent x.name number = record { node = x; child = record { there = there; below = below; inside = refl }; named = refl } in
+      let other : IsKeptNamed tree x.parent x.name k = record {
+        node = from.kept;
+        child = record { there = at.there; below = named.child.below; inside = ap (λ (n : HeldNode). n.kept.parent) (sym from.is) ∙ named.child.inside };
+        named = ap (λ (n : HeldNode). n.kept.name) (sym from.is) ∙ named.named;
+      } in
+      let same = is.names x.parent x.name k number other mine in
+      absurd (omega (arith, low, same))
+
+  pub loaded_more : appended (loaded unlocked (take number tree.nodes) number tree.twice) (unchanged_node unlocked x) ≡ loaded unlocked (take (suc number) tree.nodes) (suc number) tree.twice
+  loaded_more =
+      let len : length (take number tree.nodes) ≡ number = length_taken tree.nodes number x there in
+      ap (λ (es : List (ℕ × HeldNode)). record { nodes = es; next = suc number; twice = tree.twice; changes = 0 })
+      (sym (ap (numbered unlocked 0) (take_more tree.nodes number x there) ∙ numbered_append unlocked 0 number (take number tree.nodes) x (omega (arith, len))))
+
+-- ---- the root
+
+pub empty_names : (names : Names) → names.entries ≡ [] → (parent : ℕ) (name : List ℕ) → number_at names parent name ≡ None
+empty_names names e parent name =
+    ap (λ (es : List (ℕ × BTreeMap (List ℕ) ℕ)). option_and_then (λ (i : BTreeMap (List ℕ) ℕ). get (slice_cmp nat_cmp) i name) (lookup (is_at (nat_cmp parent)) es)) e
+
+pub take_one : (ns : List KeptNode) (x : KeptNode) → slice_get ns 0 ≡ Some x → take 1 ns ≡ x ∷ []
+take_one [] x h = absurd cc
+take_one (y ∷ ns) x h = let same : y ≡ x = cc in ap (λ (z : KeptNode). z ∷ []) same
+
+alone : ℕ → KeptNode → Bool → HeldTree
+alone unlocked x twice = record { nodes = (0, unchanged_node unlocked x) ∷ []; next = 1; twice = twice; changes = 0 }
+
+record IsAlone (unlocked : ℕ) (x : KeptNode) (q : ℕ) (n : HeldNode) : Type 0 where
+  number : q ≡ 0
+  node_is : n ≡ unchanged_node unlocked x
+
+alone_at : (unlocked : ℕ) (x : KeptNode) (q : ℕ) (n : HeldNode) (b : Bool) → is_at (nat_cmp q) 0 ≡ b → cond b (Some (unchanged_node unlocked x)) None ≡ Some n → IsAlone unlocked x q n
+alone_at unlocked x q n true e h = record { number = number_from q 0 e; node_is = cc }
+alone_at unlocked x q n false e h = absurd cc
+
+sorted_one : (k : ℕ) → IsStrictlySortedBy nat_cmp (k ∷ [])
+unfolding IsStrictlySortedBy
+sorted_one k = (tt, tt)
+
+pub only_entry : (es nodes : List (ℕ × HeldNode)) (v w : HeldNode) → es ≡ [] → nodes ≡ insert_entry nat_cmp es 0 v → v ≡ w → nodes ≡ (0, w) ∷ []
+only_entry es nodes v w empty put same = put ∙ ap (λ (xs : List (ℕ × HeldNode)). insert_entry nat_cmp xs 0 v) empty ∙ ap (λ (x : HeldNode). (0, x) ∷ []) same
+
+abbrev pub with_one : List (ℕ × HeldNode) → Bool → HeldTree
+with_one nodes twice = record { nodes = nodes; next = 1; twice = twice; changes = 0 }
+
+pub root_is : (unlocked : ℕ) (tree : KeptTree) (x : KeptNode) (twice : Bool) → kept_node_of tree root ≡ Some x → twice ≡ tree.twice → (nodes : List (ℕ × HeldNode)) → nodes ≡ (0, unchanged_node unlocked x) ∷ []
+    → with_one nodes twice ≡ loaded unlocked (take 1 tree.nodes) 1 tree.twice
+root_is unlocked tree x twice there same nodes e =
+    ap₂ (λ (ns : List (ℕ × HeldNode)) (b : Bool). with_one ns b) (e ∙ ap (numbered unlocked 0) (sym (take_one tree.nodes x there))) same
+
+pub on_ok : {T E : Type 0} {A B : Type 0} (r : Result T E) → (A → B) → OnOk r A → OnOk r B
+on_ok (Ok x) f a = f a
+on_ok (Err e) f a = tt
+
+pub load_is : (unlocked : ℕ) (tree : KeptTree) (number : ℕ) (x : KeptNode) (self new : HeldTree) (node : HeldNode) → IsTree tree → kept_node_of tree number ≡ Some x
+    → self ≡ loaded unlocked (take number tree.nodes) number tree.twice → node ≡ unchanged_node unlocked x → new ≡ appended self node
+    → new ≡ loaded unlocked (take (suc number) tree.nodes) (suc number) tree.twice
+load_is unlocked tree number x self new node is there was made app =
+    app ∙ ap₂ (λ (t : HeldTree) (n : HeldNode). appended t n) was made ∙ loaded_more unlocked tree is number x there
+
+pub root_held : (empty names : Names) (unlocked : ℕ) (tree : KeptTree) (x : KeptNode) (twice : Bool) → IsTree tree → kept_node_of tree root ≡ Some x → empty.entries ≡ [] → IsGrown empty names → has_names names 0 ≡ true
+    → (nodes : List (ℕ × HeldNode)) → nodes ≡ (0, unchanged_node unlocked x) ∷ [] → IsHeld names (record { nodes = nodes; next = 1; twice = twice; changes = 0 })
+root_held empty names unlocked tree x twice is there none grown opened nodes e =
+    let same : is.first.0 ≡ x = (let own = is.first.1.there in cc (own, there)) in
+    let up : x.parent ≡ root = ap (λ (n : KeptNode). n.parent) (sym same) ∙ is.first.1.own in
+    rw e (record {
+      ordered = sorted_one 0;
+      first = (
+        unchanged_node unlocked x,
+        record { there = refl; own = up; folder = subst (λ (n : KeptNode). IsSome (folder_in n.what)) same is.first.1.folder },
+      );
+      parents = λ q n at below. absurd (below (alone_at unlocked x q n (is_at (nat_cmp q) 0) refl at).number);
+      numbers = λ q n at. let zero_is = (alone_at unlocked x q n (is_at (nat_cmp q) 0) refl at).number in omega (arith, zero_is);
+      versions = λ q n at. subst (λ (m : HeldNode). m.version ≤ 0) (sym (alone_at unlocked x q n (is_at (nat_cmp q) 0) refl at).node_is) (omega arith);
+      directories = λ q n at folder. ap (has_names names) (alone_at unlocked x q n (is_at (nat_cmp q) 0) refl at).number ∙ opened;
+      named = λ p n k at. let no = sym (grown.numbers p n ∙ empty_names empty none p n) ∙ at in absurd cc;
+      found = λ p n k named. absurd (named.child.below (alone_at unlocked x k named.node (is_at (nat_cmp k) 0) refl named.child.there).number);
+    })
+
+pub loaded_whole : (live : HeldTree) (unlocked : ℕ) (tree : KeptTree) (number count : ℕ) → IsTree tree → live ≡ loaded unlocked (take number tree.nodes) number tree.twice → count ≡ length tree.nodes
+    → count ≤ number → (1 ≤ count → number ≤ count) → live ≡ loaded unlocked tree.nodes (length tree.nodes) tree.twice
+loaded_whole live unlocked tree number count is e len low high =
+    let some : 0 < length tree.nodes = slice_get_within tree.nodes 0 is.first.0 is.first.1.there in
+    let up = high (omega (arith, len, some)) in
+    let all : number ≡ length tree.nodes = omega (arith, len, low, up) in
+    e ∙ ap (λ (k : ℕ). loaded unlocked (take k tree.nodes) k tree.twice) all
+    ∙ ap (λ (ns : List KeptNode). loaded unlocked ns (length tree.nodes) tree.twice) (take_whole tree.nodes)
+
+pub rows_whole : (live : HeldTree) (unlocked : ℕ) (tree : KeptTree) → live ≡ loaded unlocked tree.nodes (length tree.nodes) tree.twice → (contents : ℕ → Content) → live_rows contents live ≡ tree_rows contents unlocked tree
+rows_whole live unlocked tree e contents = ap (live_rows contents) e ∙ rows_loaded contents unlocked tree.nodes (length tree.nodes) tree.twice
