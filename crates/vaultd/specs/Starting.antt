@@ -4,7 +4,7 @@ use Rattle.vault_words.specs.Read.{HasPlaces}
 use Rattle.vault_causes.specs.declared.cause.Cause.TheVariants as causes
 use Rattle.vault_top.specs.Span.{Course, course, SourceView, SinkView, Views}
 use Rattle.vault_top.specs.Ending.{Ending, refused, HasRun}
-use Rattle.vault_top.specs.declared.program.Worker.{Worker}
+use Rattle.shared_sessions.specs.declared.workers.Worker.{Worker}
 use Rattle.vault_top.specs.declared.program.Ended.{Ended}
 use Rattle.vaultd.specs.declared.StartErr.{StartErr}
 use Rattle.vaultd.specs.declared.StartErr.TheVariants.{Words, Memory}

@@ -21,6 +21,8 @@ use std::fs::File;
 use std::io::{ErrorKind, Input};
 use std::process::ExitCode;
 use std::rt::{Clock, Files};
+use std::sync::Wait;
+use std::thread::Threads;
 use std::{env, io};
 use vault_top::{Worker, run};
 use vault_words::places;
@@ -84,12 +86,16 @@ impl Gate for OpenGate {
 }
 
 /// Makes the objects of the outside over the folder at a path, and runs the job that these words are.
-fn serve<'a, R: Clock + Files + Input + Print + AllocGlobal, O: Sink>(
+fn serve<'a, R: Clock + Files + Input + Print + Threads + Wait + Sync + AllocGlobal, O: Sink>(
     rt: &'a R,
     words: &[String],
     path: &str,
     out: &mut O,
 ) -> Result<u8, AllocError>
+where
+    R::Reader: Send,
+    R::File: Send,
+    R::Dir: Send,
     ensures { IfOk result (IsRunOf
         (views_of ⟦<HostFolder<&'a R> as Reads>⟧.log ⟦<HostFolder<&'a R> as Reads>⟧.faults ⟦<HostFolder<&'a R> as Reads>⟧.changes
         ⟦<HostListen<&'a R> as Listener>⟧.to_come ⟦<HostListen<&'a R> as Listener>⟧.given_back ⟦<HostListen<&'a R> as Listener>⟧.faults
@@ -125,10 +131,14 @@ fn behind_name(args: &[String]) -> &[String]
 }
 
 /// Runs the job that the words behind the program's name are. Where standard output is the client's, nothing is reported.
-fn start<'a, R: Clock + Files + Input + Print + AllocGlobal>(
+fn start<'a, R: Clock + Files + Input + Print + Threads + Wait + Sync + AllocGlobal>(
     rt: &'a R,
     args: &[String],
 ) -> Result<u8, AllocError>
+where
+    R::Reader: Send,
+    R::File: Send,
+    R::Dir: Send,
     ensures { IfOk result (IsStarted
         (views_of ⟦<HostFolder<&'a R> as Reads>⟧.log ⟦<HostFolder<&'a R> as Reads>⟧.faults ⟦<HostFolder<&'a R> as Reads>⟧.changes
         ⟦<HostListen<&'a R> as Listener>⟧.to_come ⟦<HostListen<&'a R> as Listener>⟧.given_back ⟦<HostListen<&'a R> as Listener>⟧.faults
