@@ -1,5 +1,5 @@
 -- The jobs that the program does, and the words that ask for them.
-use Rattle.std.specs.Prelude.{◌≡◌, ◌⊎◌, ℕ, List, Bool, String, codes, map, min, ⊤, if◌then◌else◌}
+use Rattle.std.specs.Prelude.{◌≡◌, ◌⊎◌, ℕ, List, [], Bool, String, map, min, ⊤, if◌then◌else◌}
 use Rattle.std.specs.String.{string_bytes}
 use Rattle.clap.specs.Words.{Text}
 use Rattle.vault_unlock.specs.declared.unlocking.SecretKind.{SecretKind}
@@ -9,9 +9,9 @@ use Rattle.vault_words.specs.Jobs.{Job, Serving, serve, make, demo, help, versio
 abbrev pub words_of : {A : Type 0} → List (String A) → List Text
 words_of words = map string_bytes words
 
--- the jobs that the program does so far: of `serve` that over standard input and output, and no `demo`
+-- the jobs that the program does so far: `serve` at any address but an empty one, and no `demo`
 abbrev pub IsOffered : Job → Type 0
-IsOffered (serve s) = s.address ≡ codes "-"
+IsOffered (serve s) = s.address ≡ [] → ⊥
 IsOffered (make dir) = ⊤
 IsOffered (demo d) = ⊥
 IsOffered help = ⊤

@@ -9,7 +9,7 @@ use std::alloc::Global;
 use vault_unlock::SecretKind;
 use vault_words::{Job, WordsErr, read_words};
 
-/// What is served: a vault that a secret of this kind unlocks, over standard input and output. There are so many sessions, 1 to 1,000,000,
+/// What is served: a vault that a secret of this kind unlocks, over the links of the workers' listeners. There are so many sessions, 1 to 1,000,000,
 /// of which so many are served at once, 1 to 64.
 #[derive(Clone, Copy, Debug, PartialEq, Eq)]
 pub(crate) struct Service {
@@ -56,15 +56,14 @@ fn task_of(job: Job<'_>) -> Option<Task>
             raw_key,
             ..
         } => {
-            if address == "-" {
-                Some(Task::Serve(Service {
-                    kind: kind_of(raw_key),
-                    sessions: sessions as u32,
-                    at_once: at_once as u32,
-                }))
-            } else {
-                None
+            if address.is_empty() {
+                return None;
             }
+            Some(Task::Serve(Service {
+                kind: kind_of(raw_key),
+                sessions: sessions as u32,
+                at_once: at_once as u32,
+            }))
         }
         Job::Make { .. } => Some(Task::Make),
         Job::Demo { .. } => None,

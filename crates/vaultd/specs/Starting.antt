@@ -1,5 +1,5 @@
 -- What the program makes of its words, and how it ends without a job.
-use Rattle.std.specs.Prelude.{◌≡◌, ◌⊎◌, ℕ, List, Option, codes}
+use Rattle.std.specs.Prelude.{◌≡◌, ◌⊎◌, ℕ, List, [], Option, codes}
 use Rattle.vault_words.specs.Read.{HasPlaces}
 use Rattle.vault_causes.specs.declared.cause.Cause.TheVariants as causes
 use Rattle.vault_top.specs.Span.{Course, course, SourceView, SinkView, Views}
@@ -23,15 +23,21 @@ pub record IsRunOf {D N C E O : Type 0} (views : Views D N C E) (base_of : D →
   pub run : HasRun views words secret second folder workers workers_after (course sink_of before after) ended
   pub status_is : status ≡ ended.status
 
--- The program was run with these words on the folder that they name. Its report went nowhere exactly where the address is `-`, standard output
--- being the client's then, and else to standard output.
-pub record IsStarted {D N C E Null Std : Type 0} (views : Views D N C E) (base_of : D → List ℕ) (null_of : Null → SinkView) (std_of : Std → SinkView) (words : List (List ℕ)) (status : ℕ) : Type 0 where
+-- the program was run with these words: with the address `-` over the standard streams, and its report went nowhere, standard output being the
+-- client's then; without an address over them too, and with another at a socket, and its report went to standard output
+abbrev pub IsRunAt : {D N C M L E Null Std : Type 0} → Views D N C E → Views D M L E → (D → List ℕ) → (Null → SinkView) → (Std → SinkView) → List (List ℕ) → List ℕ → List ℕ → ℕ → Type 0
+IsRunAt streams sockets base_of null_of std_of words dir address status =
+    ((address ≡ codes "-") × IsRunOf streams base_of null_of words dir status)
+    ⊎ ((address ≡ []) × IsRunOf streams base_of std_of words dir status)
+    ⊎ ((address ≡ codes "-" → ⊥) × (address ≡ [] → ⊥) × IsRunOf sockets base_of std_of words dir status)
+
+-- The program was run with these words on the folder and at the address that they name.
+pub record IsStarted {D N C M L E Null Std : Type 0} (streams : Views D N C E) (sockets : Views D M L E) (base_of : D → List ℕ) (null_of : Null → SinkView) (std_of : Std → SinkView) (words : List (List ℕ)) (status : ℕ) : Type 0 where
   pub dir : List ℕ
   pub address : List ℕ
   pub at_once : ℕ
   pub places : HasPlaces words dir address at_once
-  pub run : ((address ≡ codes "-") × IsRunOf views base_of null_of words dir status)
-      ⊎ ((address ≡ codes "-" → ⊥) × IsRunOf views base_of std_of words dir status)
+  pub run : IsRunAt streams sockets base_of null_of std_of words dir address status
 
 -- what a start that failed is, of the job's endings
 abbrev pub ending_of : StartErr → Ending

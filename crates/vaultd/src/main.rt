@@ -1,7 +1,7 @@
 //! Serves the clear tree of a Cryptomator vault over 9P2000, and makes such vaults. README.md has its words.
 #![tactic(auto)]
 
-ghost use Rattle.std.specs.Prelude.{◌≡◌, ◌↔◌, drop, IfOk};
+ghost use Rattle.std.specs.Prelude.{◌≡◌, ◌≤◌, ◌↔◌, drop, IfOk, vec_len};
 ghost use Rattle.std.specs.declared.io.ErrorKind.TheVariants.{InvalidData};
 ghost use Rattle.std.specs.IoError.{error_kind};
 ghost use Rattle.outside_real.specs.Behind.{base_of};
@@ -13,17 +13,19 @@ ghost use Rattle.vaultd.specs.Starting.{IsRunOf, IsStarted, ending_of};
 
 use outside::{Entropy, Gate, Link, Listener, Reads, Sink, Stage};
 use outside_real::{
-    HostClock, HostFolder, HostLink, HostListen, NullSink, OsEntropy, Output, StdSink, StdSource,
+    HostClock, HostFolder, HostLink, HostListen, NullSink, OsEntropy, Output, Socket, SocketLink,
+    SocketListen, StdSink, StdSource,
 };
 use std::alloc::AllocError;
 use std::env::{Env, FillError};
 use std::fs::File;
 use std::io::{ErrorKind, Input};
+use std::net::{Net, TcpListener, TcpStream};
 use std::process::ExitCode;
 use std::rt::{Clock, Files};
 use std::sync::Wait;
 use std::thread::Threads;
-use std::{env, io};
+use std::{env, fs, io};
 use vault_top::{Worker, run};
 use vault_words::places;
 
@@ -85,13 +87,31 @@ impl Gate for OpenGate {
     fn pass(&self, _stage: Stage) {}
 }
 
-/// Makes the objects of the outside over the folder at a path, and runs the job that these words are.
-fn serve<'a, R: Clock + Files + Input + Print + Threads + Wait + Sync + AllocGlobal, O: Sink>(
+// So many workers, each with a listener at a socket.
+fn workers_at<'a, 's, R: Files + AllocGlobal>(
     rt: &'a R,
-    words: &[String],
-    path: &str,
-    out: &mut O,
-) -> Result<u8, AllocError>
+    socket: &'s Socket,
+    count: u64,
+) -> Result<Vec<Worker<SocketListen<'s>, OsEntropy<&'a R>>>, AllocError>
+    requires { (1 ≤ count) × (count ≤ 64) }
+    ensures { IfOk result (λ workers. vec_len workers ≡ count) }
+{
+    let mut workers = Vec::new(rt.alloc());
+    for _ in 0..count {
+        workers.push(Worker {
+            listener: SocketListen::new(socket),
+            entropy: OsEntropy::new(rt),
+        })?;
+    }
+    Ok(workers)
+}
+
+/// Makes the objects of the outside over the folder at a path and the standard streams, and runs the job that these words are.
+fn serve_streams<
+    'a,
+    R: Clock + Files + Input + Print + Threads + Wait + Sync + AllocGlobal,
+    O: Sink,
+>(rt: &'a R, words: &[String], path: &str, out: &mut O) -> Result<u8, AllocError>
 where
     R::Reader: Send,
     R::File: Send,
@@ -123,6 +143,48 @@ where
     Ok(ended.status)
 }
 
+/// The same for clients at a socket, of whom so many are served at once.
+fn serve_socket<
+    'a,
+    's,
+    R: Clock + Files + Input + Print + Threads + Wait + Sync + AllocGlobal,
+    O: Sink,
+>(
+    rt: &'a R,
+    words: &[String],
+    path: &str,
+    socket: &'s Socket,
+    at_once: u64,
+    out: &mut O,
+) -> Result<u8, AllocError>
+where
+    R::Reader: Send,
+    R::File: Send,
+    R::Dir: Send,
+    requires { (1 ≤ at_once) × (at_once ≤ 64) }
+    ensures { IfOk result (IsRunOf
+        (views_of ⟦<HostFolder<&'a R> as Reads>⟧.log ⟦<HostFolder<&'a R> as Reads>⟧.faults ⟦<HostFolder<&'a R> as Reads>⟧.changes
+        ⟦<SocketListen<'s> as Listener>⟧.to_come ⟦<SocketListen<'s> as Listener>⟧.given_back ⟦<SocketListen<'s> as Listener>⟧.faults
+        ⟦<SocketLink as Link>⟧.left ⟦<SocketLink as Link>⟧.taken ⟦<SocketLink as Link>⟧.read_faults ⟦<SocketLink as Link>⟧.write_faults
+        ⟦<OsEntropy<&'a R> as Entropy>⟧.drawn ⟦<OsEntropy<&'a R> as Entropy>⟧.faults)
+        base_of (sink_view O.taken O.faults) (words_of words.now) path.now) }
+{
+    let folder = HostFolder::new(rt, rt.alloc(), path)?;
+    let mut workers = workers_at(rt, socket, at_once)?;
+    let ended = run(
+        rt,
+        rt.alloc(),
+        words,
+        folder,
+        &mut workers,
+        &mut StdSource::new(rt),
+        out,
+        &HostClock::new(rt),
+        &OpenGate,
+    );
+    Ok(ended.status)
+}
+
 // The words behind the first, which is the program's name.
 fn behind_name(args: &[String]) -> &[String]
     ensures { result.now ≡ drop 1 args.now }
@@ -130,11 +192,39 @@ fn behind_name(args: &[String]) -> &[String]
     &args[args.len().min(1)..]
 }
 
+// The socket at an address: `unix:` and a path where nothing is yet, or HOST:PORT.
+fn socket_at<R: Files + Net<Listener = TcpListener, Stream = TcpStream>>(
+    rt: &R,
+    address: &str,
+) -> Socket {
+    match address.strip_prefix("unix:") {
+        Some(path) => Socket::unix(rt, path),
+        None => Socket::tcp(rt, address),
+    }
+}
+
+// Removes the file of a Unix socket that was bound.
+fn remove_socket<R: Files>(rt: &R, address: &str, socket: &Socket) {
+    if let Some(path) = address.strip_prefix("unix:") {
+        if socket.is_bound() {
+            let _ = fs::remove_file(rt, path);
+        }
+    }
+}
+
 /// Runs the job that the words behind the program's name are. Where standard output is the client's, nothing is reported.
-fn start<'a, R: Clock + Files + Input + Print + Threads + Wait + Sync + AllocGlobal>(
-    rt: &'a R,
-    args: &[String],
-) -> Result<u8, AllocError>
+fn start<
+    'a,
+    R: Clock
+        + Files
+        + Input
+        + Print
+        + Threads
+        + Wait
+        + Sync
+        + AllocGlobal
+        + Net<Listener = TcpListener, Stream = TcpStream>,
+>(rt: &'a R, args: &[String]) -> Result<u8, AllocError>
 where
     R::Reader: Send,
     R::File: Send,
@@ -144,6 +234,10 @@ where
         ⟦<HostListen<&'a R> as Listener>⟧.to_come ⟦<HostListen<&'a R> as Listener>⟧.given_back ⟦<HostListen<&'a R> as Listener>⟧.faults
         ⟦<HostLink<&'a R> as Link>⟧.left ⟦<HostLink<&'a R> as Link>⟧.taken ⟦<HostLink<&'a R> as Link>⟧.read_faults ⟦<HostLink<&'a R> as Link>⟧.write_faults
         ⟦<OsEntropy<&'a R> as Entropy>⟧.drawn ⟦<OsEntropy<&'a R> as Entropy>⟧.faults)
+        (views_of ⟦<HostFolder<&'a R> as Reads>⟧.log ⟦<HostFolder<&'a R> as Reads>⟧.faults ⟦<HostFolder<&'a R> as Reads>⟧.changes
+        ⟦<SocketListen<'static> as Listener>⟧.to_come ⟦<SocketListen<'static> as Listener>⟧.given_back ⟦<SocketListen<'static> as Listener>⟧.faults
+        ⟦<SocketLink as Link>⟧.left ⟦<SocketLink as Link>⟧.taken ⟦<SocketLink as Link>⟧.read_faults ⟦<SocketLink as Link>⟧.write_faults
+        ⟦<OsEntropy<&'a R> as Entropy>⟧.drawn ⟦<OsEntropy<&'a R> as Entropy>⟧.faults)
         base_of (sink_view ⟦<NullSink as Sink>⟧.taken ⟦<NullSink as Sink>⟧.faults)
         (sink_view ⟦<StdSink<Output<&'a R>> as Sink>⟧.taken ⟦<StdSink<Output<&'a R>> as Sink>⟧.faults)
         (words_of (drop 1 args.now))) }
@@ -151,9 +245,22 @@ where
     let words = behind_name(args);
     let places = places(rt.alloc(), words)?;
     if places.address == "-" {
-        serve(rt, words, places.dir, &mut NullSink)
+        serve_streams(rt, words, places.dir, &mut NullSink)
+    } else if places.address == "" {
+        serve_streams(rt, words, places.dir, &mut StdSink::new(rt))
     } else {
-        serve(rt, words, places.dir, &mut StdSink::new(rt))
+        let socket = socket_at(rt, places.address);
+        let at_once = places.at_once.clamp(1, 64);
+        let status = serve_socket(
+            rt,
+            words,
+            places.dir,
+            &socket,
+            at_once,
+            &mut StdSink::new(rt),
+        );
+        remove_socket(rt, places.address, &socket);
+        status
     }
 }
 

@@ -1,5 +1,5 @@
 use Rattle.std.proofs.Common.{refl}
-use Rattle.vaultd.proofs.serve.Goals as goal
+use Rattle.vaultd.proofs.serve_socket.Goals as goal
 
 pub returns : goal.returns
 returns g c = record {
