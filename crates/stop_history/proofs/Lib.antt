@@ -1,0 +1,9 @@
+pub mod Histories
+pub mod Images
+pub mod Trees
+pub mod Safe
+pub mod Moves
+pub mod Stops
+pub mod Openings
+pub mod Stable
+pub mod States

@@ -1,0 +1,69 @@
+-- Disks that differ in the journal's two files are trees together.
+use Rattle.std.proofs.Common.{◌≡◌, ℕ, List, [], ◌∷◌, Option, Some, None, IsSome, sym, ap, subst, ◌∙◌, inl, inr}
+use Rattle.outside.specs.Disk.{Disk, Path, Node, folder, file, node_at, parent, IsFolder, IsTree}
+use Rattle.outside.specs.Images.{Log, now}
+use Rattle.outside.proofs.Paths.{by_path}
+use Rattle.deeds.specs.Deeds.{PlainDeed, DoesAll, Unnamed, in_order}
+use Rattle.deeds.specs.Repeatable.{IsRepeatable}
+use Rattle.deeds.proofs.Again.{elsewhere}
+use Rattle.deeds.proofs.Amid.{tree_run}
+use Rattle.deeds.proofs.Phases.{unnamed_ordered}
+use Rattle.chunk_journal.specs.Journal.{journal_file, new_file, IsClosed, IsAlike, IsQuiet, RecoversTo}
+use Rattle.stop_history.specs.Opening.{IsClearTree, IsSoundlyFound}
+
+-- a file or nothing is no folder
+file_no_folder : (o : Option Node) (bytes : List ℕ) → o ≡ Some (file bytes) → o ≡ Some folder → ⊥
+file_no_folder o bytes at is = let e : Some (file bytes) ≡ Some folder = sym at ∙ is in cc
+
+none_no_folder : (o : Option Node) → o ≡ None → o ≡ Some folder → ⊥
+none_no_folder o at is = let e : None ≡ Some folder = sym at ∙ is in cc
+
+pub closed_no_folder : (disk : Disk) → IsClosed disk → IsFolder disk journal_file → ⊥
+closed_no_folder disk (inl none) is = none_no_folder (node_at disk journal_file) none is
+closed_no_folder disk (inr (bytes, at, shut)) is = file_no_folder (node_at disk journal_file) bytes at is
+
+pub quiet_clear : (log : Log) → IsQuiet log → IsClearTree (now log)
+quiet_clear log quiet = record {
+  tree = quiet.steady.tree;
+  no_folder = λ has. elim has [ inl journal ↦ closed_no_folder (now log) quiet.closed journal | inr beside ↦ quiet.no_folder beside ];
+}
+
+-- what is alike to a tree without folders in the two places is a tree
+pub alike_tree : (a b : Disk) → IsClearTree a → IsAlike a b → IsTree b
+alike_tree a b clear alike = record {
+  top = alike [] (λ e. cc) (λ e. cc) ∙ clear.tree.top;
+  parents = λ q there. by_path q journal_file
+      (λ same. subst (λ (p : Path). IsFolder b (parent p)) (sym same) top)
+      (λ not_journal. by_path q new_file
+      (λ same. subst (λ (p : Path). IsFolder b (parent p)) (sym same) top)
+      (λ not_new. above q (subst (λ (o : Option Node). IsSome o) (alike q not_journal not_new) there)));
+}
+  where
+    top : IsFolder b []
+    top = alike [] (λ e. cc) (λ e. cc) ∙ clear.tree.top
+
+    above : (q : Path) → IsSome (node_at a q) → IsFolder b (parent q)
+    above q there =
+        let is : IsFolder a (parent q) = clear.tree.parents q there in
+        alike (parent q) (λ e. clear.no_folder (inl (subst (λ (p : Path). IsFolder a p) e is))) (λ e. clear.no_folder (inr (subst (λ (p : Path). IsFolder a p) e is))) ∙ is
+
+-- ---- deeds that can be done again
+
+stays_unnamed : (q : Path) (deeds : List PlainDeed) (old new : Disk) → DoesAll deeds old new → Unnamed q deeds → node_at new q ≡ node_at old q
+stays_unnamed q [] old new run un = ap (λ (d : Disk). node_at d q) run
+stays_unnamed q (deed ∷ deeds) old new run un = stays_unnamed q deeds run.0 new run.2 un.1 ∙ elsewhere deed old run.0 q run.1 un.0
+
+-- they leave such a tree
+pub clear_after : (deeds : List PlainDeed) (old new : Disk) → IsRepeatable deeds → IsClearTree old → DoesAll (in_order deeds) old new → IsClearTree new
+clear_after deeds old new repeatable clear run = record {
+  tree = tree_run (in_order deeds) old new clear.tree run;
+  no_folder = λ has. elim has [
+    | inl journal ↦ clear.no_folder (inl (sym (stays_unnamed journal_file (in_order deeds) old new run (unnamed_ordered journal_file deeds repeatable.beside_journal)) ∙ journal))
+    | inr beside ↦ clear.no_folder (inr (sym (stays_unnamed new_file (in_order deeds) old new run (unnamed_ordered new_file deeds repeatable.beside_new)) ∙ beside))
+  ];
+}
+
+-- and so does what a folder is found to recover to
+pub clear_recovered : (disk found : Disk) → IsSoundlyFound disk → RecoversTo disk found → IsClearTree found
+clear_recovered disk found sound (inl shut) = subst IsClearTree (sym shut.1) sound.clear
+clear_recovered disk found sound (inr (deeds, held, run)) = clear_after deeds disk found (sound.repeatable deeds held) sound.clear run

@@ -1,0 +1,104 @@
+//! How what a history stands for goes on, and what follows of each stop.
+
+ghost use Rattle.stop_history.specs.Crash.{IsBlind};
+ghost use Rattle.stop_history.specs.Laws.{BaseHolds, Begins, BeginsNow, Breaks, ClosesSafely, ClosesWhole, Commits, Continues, CrashMore, Idles, IdlesKept, LivesOn, MomentHolds, OpeningFails, RecoversToTrees, RunningSafe, RunsOn, Settles, SettlesBroken, StablesFollow, StateIsBroken, StateRecovers, StateRuns, StaysBroken, StaysStopped};
+
+use crate::shape::ShowsRows;
+
+/// An entry that changes no disk: a refusal, a look, a fault, or a write that stays pending.
+pub fn idles<S: ShowsRows>(shape: &S)
+    ensures { Idles (S.shows shape.now) }
+{}
+
+/// The same with nothing pending, as a sync.
+pub fn idles_kept<S: ShowsRows>(shape: &S)
+    ensures { IdlesKept (S.shows shape.now) }
+{}
+
+/// What is pending is committed, with no entry yet.
+pub fn settles<S: ShowsRows>(shape: &S)
+    ensures { IsBlind (S.shows shape.now) → Settles (S.shows shape.now) }
+{}
+
+/// That commit failed.
+pub fn settles_broken<S: ShowsRows>(shape: &S)
+    ensures { IsBlind (S.shows shape.now) → SettlesBroken (S.shows shape.now) }
+{}
+
+/// An entry's own deeds are committed, with nothing pending.
+pub fn commits<S: ShowsRows>(shape: &S)
+    ensures { IsBlind (S.shows shape.now) → Commits (S.shows shape.now) }
+{}
+
+/// That commit failed: a stop may leave the entry's change.
+pub fn breaks<S: ShowsRows>(shape: &S)
+    ensures { IsBlind (S.shows shape.now) → Breaks (S.shows shape.now) }
+{}
+
+/// An entry of a store that stopped.
+pub fn stays_broken<S: ShowsRows>(shape: &S)
+    ensures { StaysBroken (S.shows shape.now) }
+{}
+
+/// The present moment of a store that runs: its one image is what reads give.
+pub fn running_safe<S: ShowsRows>(shape: &S)
+    ensures { RunningSafe (S.shows shape.now) }
+{}
+
+/// An image's prefix is one of the history with an entry more.
+pub fn crash_more<S: ShowsRows>(shape: &S)
+    ensures { CrashMore (S.shows shape.now) }
+{}
+
+/// Calls that change nothing leave what the history stands for.
+pub fn lives_on<S: ShowsRows>(shape: &S)
+    ensures { LivesOn (S.shows shape.now) }
+{}
+
+/// Which of the two states it is, is told by the tally: broken where a commit failed.
+pub fn states_follow<S: ShowsRows>(shape: &S)
+    ensures runs { StateRuns (S.shows shape.now) }
+    ensures broken { StateIsBroken (S.shows shape.now) }
+    ensures runs_on { RunsOn (S.shows shape.now) }
+    ensures stays_stopped { StaysStopped (S.shows shape.now) }
+{}
+
+/// An opened folder begins a history of no entries. Where it wasn't opened, a stop recovers to what was found.
+pub fn begins<S: ShowsRows>(shape: &S)
+    ensures found { IsBlind (S.shows shape.now) → Begins (S.shows shape.now) }
+    ensures now { IsBlind (S.shows shape.now) → BeginsNow (S.shows shape.now) }
+    ensures failed { IsBlind (S.shows shape.now) → OpeningFails (S.shows shape.now) }
+{}
+
+/// A stop at any moment recovers to a prefix of the history that holds all that was synced.
+pub fn stops_recover<S: ShowsRows>(shape: &S)
+    ensures { StateRecovers (S.shows shape.now) }
+{}
+
+/// What is pending is committed at the end: then all entries are on the disk. Whether it failed or not, a stop recovers to a
+/// prefix.
+pub fn closes<S: ShowsRows>(shape: &S)
+    ensures whole { IsBlind (S.shows shape.now) → ClosesWhole (S.shows shape.now) }
+    ensures safe { IsBlind (S.shows shape.now) → ClosesSafely (S.shows shape.now) }
+{}
+
+/// What is stable is on the disk of a store that runs, and no entry's moment is past.
+pub fn tallies_hold<S: ShowsRows>(shape: &S)
+    ensures stable { BaseHolds (S.shows shape.now) }
+    ensures moment { MomentHolds }
+{}
+
+/// How many entries no stop undoes once one has ended: none fewer than before, and that one too where it is to be held.
+pub fn stables_follow()
+    ensures { StablesFollow }
+{}
+
+/// An entry more of a legal history.
+pub fn continues()
+    ensures { Continues }
+{}
+
+/// What a folder recovers to is a tree, where its batch can be done again.
+pub fn recovers_to_trees()
+    ensures { RecoversToTrees }
+{}
