@@ -1,0 +1,12 @@
+pub mod Lists
+pub mod Paths
+pub mod Trees
+pub mod Keeping
+pub mod Making
+pub mod Removing
+pub mod Renaming
+pub mod Numbers
+pub mod Files
+pub mod Loading
+pub mod Writing
+pub mod Rewriting

@@ -1,0 +1,5 @@
+pub mod Holds
+pub mod Laws
+pub mod Found
+pub mod Loading
+pub mod Writing

@@ -1,0 +1,77 @@
+//! The tree in memory follows the tree of a vault's disk: it holds that tree, and after each change it holds the tree after it.
+//!
+//! ```
+//! // From a tree that holds a disk's: a node that is made in both keeps it so.
+//! held_changes::making_holds();
+//! held_changes::removing_holds();
+//! ```
+//!
+//! Its functions are laws: they do nothing, and their clauses hold.
+#![tactic(auto)]
+
+ghost use Rattle.held_changes.specs.Found.{ContentsAreHeld, HeldRowsHaveShape, NodesHaveBytes, NodesHaveRows, PathsAreOfNodes, PlacesAreHeld, RowsAreOfNodes};
+ghost use Rattle.held_changes.specs.Laws.{ChildlessHaveNoChild, FreeNamesAreFree, MakingHolds, RemovingHolds, RenamingHolds};
+ghost use Rattle.held_changes.specs.Loading.{LoadingHolds};
+ghost use Rattle.held_changes.specs.Writing.{ContentsChange, DatingHolds, WritingHolds};
+
+/// A name is free in a directory's number just where no node of the tree has it there, and a number has no nodes in it just where
+/// its path has none below it.
+pub fn names_are_held()
+    ensures free { FreeNamesAreFree }
+    ensures childless { ChildlessHaveNoChild }
+{}
+
+/// A node is made in a directory.
+pub fn making_holds()
+    ensures { MakingHolds }
+{}
+
+/// A node without nodes in it is removed.
+pub fn removing_holds()
+    ensures { RemovingHolds }
+{}
+
+/// A node is given another name, with all that is in it.
+pub fn renaming_holds()
+    ensures { RenamingHolds }
+{}
+
+/// The rows of what is held have the shape of the tree; a number has a row just where it has a node, and leads to its path.
+pub fn held_rows_have_shape()
+    ensures shape { HeldRowsHaveShape }
+    ensures rows { NodesHaveRows }
+    ensures nodes { RowsAreOfNodes }
+{}
+
+/// Files and links have their host files, with their bytes and their sizes, and nothing else has one; so the contents that are
+/// right for the tree are those of the host files.
+pub fn held_paths()
+    ensures bytes { NodesHaveBytes }
+    ensures nodes { PathsAreOfNodes }
+    ensures contents { ContentsAreHeld }
+{}
+
+/// A node's place is the folder that is held of its parent, with the entry that is held of the node.
+pub fn places_are_held()
+    ensures { PlacesAreHeld }
+{}
+
+/// What is kept of a disk, as it is loaded, holds a tree of the disk.
+pub fn loading_holds()
+    ensures { LoadingHolds }
+{}
+
+/// A file is written.
+pub fn writing_holds()
+    ensures { WritingHolds }
+{}
+
+/// A node's mtime is set, which changes no node of the disk.
+pub fn dating_holds()
+    ensures { DatingHolds }
+{}
+
+/// Where the host file of a file has other bytes, the tree of the disk has them, and nothing else changes.
+pub fn contents_change()
+    ensures { ContentsChange }
+{}
