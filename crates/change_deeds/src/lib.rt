@@ -4,7 +4,7 @@
 //! let old = Place { folder, entry: node.entry(), long: node.is_long() };
 //! let new = Place { folder, entry: b"dGV4dA==.c9r", long: false };
 //! let deeds = rename_deeds(alloc, &old, &new, b"dGV4dA==.c9r", node.what())?;
-//! let batch = Batch::from_deeds(deeds);
+//! journal.commit(&deeds)?;
 //! ```
 //!
 //! What they lead to, on which disks, is said by the laws of `tree_changes`.

@@ -103,7 +103,7 @@ held_whole ds rest batch short =
     let long : length (held_bytes ds rest) ≡ 9 + (length (spelled ds) + length rest) = omega (arith, length-append (spelled ds) rest) in
     ⊎_elim (λ (few : length (held_bytes ds rest) < 9). omega (arith, few, long)) (λ (few : length (held_bytes ds rest) < 9 + said_len (held_bytes ds rest)). omega (arith, few, long, held_len ds rest batch)) short
 
-one_file : (o : Option Node) (a b : List ℕ) → o ≡ Some (file a) → o ≡ Some (file b) → a ≡ b
+pub one_file : (o : Option Node) (a b : List ℕ) → o ≡ Some (file a) → o ≡ Some (file b) → a ≡ b
 one_file o a b ea eb = let e : Some (file a) ≡ Some (file b) = sym ea ∙ eb in cc
 
 pub held_not_bad : (disk after : Disk) (ds : List PlainDeed) (at : ℕ) → HoldsBatch disk ds → DoesAll (in_order ds) disk after → IsBadBehindGate disk at → ⊥

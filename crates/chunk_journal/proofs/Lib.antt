@@ -5,3 +5,4 @@ pub mod Pieces
 pub mod Commits
 pub mod Damage
 pub mod Openings
+pub mod Found

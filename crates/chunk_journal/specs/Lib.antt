@@ -1,3 +1,4 @@
 pub mod Journal
 pub mod Stages
 pub mod Opening
+pub mod Commits

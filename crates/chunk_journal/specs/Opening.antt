@@ -78,11 +78,6 @@ IfDamaged Memory P = ⊤
 
 -- ---- what an opening owes
 
--- P of the batch that was found behind an open gate, and Q where none is open
-abbrev pub OfFound : Option (List PlainDeed) → Type 0 → (List PlainDeed → Type 0) → Type 0
-OfFound None Q P = Q
-OfFound (Some deeds) Q P = P deeds
-
 -- The sync that it begins with leaves nothing that a stop couldn't have left before. Nothing else is done where there is no
 -- batch to be done; and where its deeds can be repeated, each image at each moment since recovers to what the disk that was
 -- found recovers to.

@@ -3,6 +3,8 @@ ghost use Rattle.outside.specs.Calls.{HasCause, Told, Changes};
 ghost use Rattle.outside.specs.Disk.{Disk};
 ghost use Rattle.outside.specs.Images.{now};
 ghost use Rattle.deeds.specs.Deeds.{DoesAll, in_order};
+ghost use Rattle.deeds.specs.Grammar.{IsBatch};
+ghost use Rattle.deeds.specs.Plain.{plains};
 ghost use Rattle.chunk_journal.specs.Journal.{IsQuiet, IsRepeatable, AnyMoment, HasCommitted};
 ghost use Rattle.chunk_journal.specs.Opening.{IsDamagedAt, LeavesFolder, IfDamaged, StaysOpening, HasOpened};
 ghost use Rattle.chunk_journal.specs.declared.fault.JournalErr.TheVariants as journal_errs;
@@ -10,7 +12,7 @@ ghost use Rattle.chunk_journal.specs.declared.fault.JournalErr.TheVariants as jo
 use crate::fault::{Device, JournalErr};
 use crate::recovery::recover;
 use crate::running::commit;
-use deeds::Batch;
+use deeds::Deed;
 use outside::{Folder, FolderErr, Kind, Reads, Refused};
 use std::alloc::Global;
 use std::marker::Model;
@@ -71,15 +73,16 @@ impl<D: Folder> Journal<D> {
     /// Commits a batch, each of whose deeds can be done in the order of doing: it is done wholly or not at all, whenever a
     /// stop comes. It takes no memory. After `Device`, which says that the folder's count of faults rose in this call, the
     /// folder is to be opened again.
-    pub fn commit(&mut self, batch: &Batch) -> Result<(), Device>
+    pub fn commit(&mut self, deeds: &[Deed]) -> Result<(), Device>
         requires quiet { Told (D.log self.old) IsQuiet }
-        requires repeatable { IsRepeatable batch.now }
-        requires can { Told (D.log self.old) (λ log. (after : Disk) × DoesAll (in_order batch.now) (now log) after) }
-        ensures committed { OnOk result (Changes (D.log self.old) (D.log self.new) (HasCommitted batch.now)) }
-        ensures any_moment { Changes (D.log self.old) (D.log self.new) (AnyMoment batch.now) }
+        requires batch { IsBatch (plains deeds.now) }
+        requires repeatable { IsRepeatable (plains deeds.now) }
+        requires can { Told (D.log self.old) (λ log. (after : Disk) × DoesAll (in_order (plains deeds.now)) (now log) after) }
+        ensures committed { OnOk result (Changes (D.log self.old) (D.log self.new) (HasCommitted (plains deeds.now))) }
+        ensures any_moment { Changes (D.log self.old) (D.log self.new) (AnyMoment (plains deeds.now)) }
         ensures cause { HasCause (D.faults self.old) (D.faults self.new) (IsErr result) }
     {
-        commit(&mut self.folder, batch)
+        commit(&mut self.folder, deeds)
     }
 
     /// The folder.

@@ -3,7 +3,7 @@
 //! ```text
 //! let mut journal = Journal::open(alloc, folder)?; // does what a stop left behind an open gate
 //! let len = journal.read(&path, 0, &mut buffer)?;
-//! journal.commit(&batch)?; // all of it, or nothing
+//! journal.commit(&deeds)?; // all of them, or none
 //! let folder = journal.into_folder();
 //! ```
 //!
@@ -22,10 +22,13 @@ mod running;
 mod stage;
 mod steps;
 
-ghost use Rattle.std.specs.Prelude.{ℕ};
+ghost use Rattle.std.specs.Prelude.{◌≡◌, ℕ, List};
 ghost use Rattle.outside.specs.Disk.{Disk, IsFolder};
-ghost use Rattle.chunk_journal.specs.Journal.{new_file, RecoversTo};
-ghost use Rattle.chunk_journal.specs.Opening.{IsDamagedAt};
+ghost use Rattle.outside.specs.Images.{Log, Synced, adds, now, LeavesOnly};
+ghost use Rattle.deeds.specs.Deeds.{PlainDeed};
+ghost use Rattle.chunk_journal.specs.Journal.{new_file, HoldsBatch, RecoversTo, RecoversLike, IsAlike};
+ghost use Rattle.chunk_journal.specs.Opening.{IsDamagedAt, IsOpening, StaysOpening, HasOpened};
+ghost use Rattle.chunk_journal.specs.Commits.{IsReopenable, StaysFound};
 
 pub use fault::{Device, JournalErr};
 pub use journal::Journal;
@@ -34,4 +37,19 @@ pub use journal::Journal;
 /// opening leaves a damaged journal.
 pub fn recovering_is_undamaged()
     ensures { (image disk : Disk) (at : ℕ) → RecoversTo image disk → (IsFolder image new_file → ⊥) → IsDamagedAt image at → ⊥ }
+{}
+
+/// An image holds one batch alone, and recovers to one disk alone.
+pub fn recovering_is_unique()
+    ensures batch { (disk : Disk) (one other : List PlainDeed) → HoldsBatch disk one → HoldsBatch disk other → one ≡ other }
+    ensures disk { (image one other : Disk) → RecoversTo image one → RecoversTo image other → one ≡ other }
+{}
+
+/// Where the disk that an opening finds is reopenable, each image since its first sync recovers to what that disk recovers to,
+/// and the calls go on from there; where it ended well, what reads give is that.
+pub fn opening_stays_found()
+    ensures stays { (old new : Log) → StaysOpening old new → IsReopenable (now old) → StaysFound old new }
+    ensures later { (old new : Log) (found : Disk) → IsOpening old new → IsReopenable (now old) → RecoversTo (now old) found
+        → LeavesOnly (adds old Synced) new (RecoversLike found) }
+    ensures opened { (old new : Log) (found : Disk) → HasOpened old new → RecoversTo (now old) found → IsAlike found (now new) }
 {}

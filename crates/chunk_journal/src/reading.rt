@@ -1,13 +1,15 @@
-ghost use Rattle.std.specs.Prelude.{◌≡◌, ◌≤◌, ◌+◌, ◌<◌, ◌^◌, ◌-◌, ℕ, get_or, Some, IfOk, IfErr, IsErrOf, length};
+ghost use Rattle.std.specs.Prelude.{◌≡◌, ◌≤◌, ◌+◌, ◌<◌, ◌^◌, ◌-◌, ℕ, get_or, Some, MatchOption, ⊤, IfOk, IfErr, IsErrOf, length};
 ghost use Rattle.outside.specs.Calls.{HasCause, Told};
 ghost use Rattle.outside.specs.Disk.{IsFolder};
 ghost use Rattle.outside.specs.Images.{now};
+ghost use Rattle.deeds.specs.Grammar.{IsBatch};
+ghost use Rattle.deeds.specs.Plain.{plains};
 ghost use Rattle.chunk_journal.specs.Journal.{journal_file, new_file, HoldsBatch, IsClosed};
-ghost use Rattle.chunk_journal.specs.Opening.{said_len, HasFolder, HasLen, Says, OfLen, OfFound, IsCutAt, IsUnreadAt, IsBadBehindGate, IsDamagedAt, IfDamaged};
+ghost use Rattle.chunk_journal.specs.Opening.{said_len, HasFolder, HasLen, Says, OfLen, IsCutAt, IsUnreadAt, IsBadBehindGate, IsDamagedAt, IfDamaged};
 
 use crate::fault::JournalErr;
 use crate::steps::{GATE, OPEN};
-use deeds::{Batch, BatchErr, read_batch};
+use deeds::{BatchErr, Deed, read_batch};
 use outside::{Kind, Reads};
 use std::alloc::Global;
 use vault_path::VaultPath;
@@ -84,11 +86,12 @@ fn held_batch<D: Reads>(
     folder: &mut D,
     journal: &VaultPath,
     len: u64,
-) -> Result<Batch, JournalErr>
+) -> Result<Vec<Deed>, JournalErr>
     requires journal { journal.now ≡ journal_file }
     requires says { Told (D.log folder.old) (λ log. Says len (now log) × (HasFolder (now log) → ⊥)) }
     requires short { len + 9 < 2 ^ 64 }
-    ensures held { IfOk result (λ batch. Told (D.log folder.old) (λ log. HoldsBatch (now log) batch)) }
+    ensures held { IfOk result (λ deeds. Told (D.log folder.old) (λ log. HoldsBatch (now log) (plains deeds.items))) }
+    ensures batch { IfOk result (λ deeds. IsBatch (plains deeds.items)) }
     ensures damaged { IfErr result (λ error. IfDamaged error (λ at. Told (D.log folder.old) (λ log. IsBadBehindGate (now log) at))) }
     ensures log { D.log folder.new ≡ D.log folder.old }
     ensures cause { HasCause (D.faults folder.old) (D.faults folder.new) (IsErrOf result JournalErr.Device) }
@@ -99,7 +102,7 @@ fn held_batch<D: Reads>(
         return Err(JournalErr::JournalDamaged(BATCH + n as u64));
     }
     match read_batch(alloc, &bytes) {
-        Ok(batch) => Ok(batch),
+        Ok(deeds) => Ok(deeds),
         Err(BatchErr::Bad(at)) => Err(JournalErr::JournalDamaged(BATCH + at as u64)),
         Err(BatchErr::Memory) => Err(JournalErr::Memory),
     }
@@ -111,11 +114,12 @@ pub fn open_batch<D: Reads>(
     folder: &mut D,
     journal: &VaultPath,
     beside: &VaultPath,
-) -> Result<Option<Batch>, JournalErr>
+) -> Result<Option<Vec<Deed>>, JournalErr>
     requires journal { journal.now ≡ journal_file }
     requires beside { beside.now ≡ new_file }
     ensures found { IfOk result (λ found. Told (D.log folder.old)
-        (λ log. (HasFolder (now log) → ⊥) × OfFound found (IsClosed (now log)) (HoldsBatch (now log)))) }
+        (λ log. (HasFolder (now log) → ⊥) × MatchOption found (IsClosed (now log)) (λ deeds. HoldsBatch (now log) (plains deeds.items)))) }
+    ensures batch { IfOk result (λ found. MatchOption found ⊤ (λ deeds. IsBatch (plains deeds.items))) }
     ensures damaged { IfErr result (λ error. IfDamaged error (λ at. Told (D.log folder.old) (λ log. IsDamagedAt (now log) at))) }
     ensures log { D.log folder.new ≡ D.log folder.old }
     ensures cause { HasCause (D.faults folder.old) (D.faults folder.new) (IsErrOf result JournalErr.Device) }
@@ -126,6 +130,6 @@ pub fn open_batch<D: Reads>(
     let Some(said) = batch_len(folder, journal, len)? else {
         return Ok(None);
     };
-    let batch = held_batch(alloc, folder, journal, said)?;
-    Ok(Some(batch))
+    let deeds = held_batch(alloc, folder, journal, said)?;
+    Ok(Some(deeds))
 }

@@ -5,13 +5,14 @@ ghost use Rattle.outside.specs.Changes.{Write, IsPartOf};
 ghost use Rattle.outside.specs.Images.{now, adds, Synced, IsImage, IsSteady, LeavesOnly};
 ghost use Rattle.deeds.specs.Deeds.{DoesAll, StaysAmid, IsRefusedAt, in_order};
 ghost use Rattle.deeds.specs.Grammar.{IsBatch, spelled_deeds};
+ghost use Rattle.deeds.specs.Plain.{plains};
 ghost use Rattle.chunk_journal.specs.Journal.{journal_file, new_file, IsAlike, IsQuiet, IsRepeatable, IsFound, StaysRecovered};
 ghost use Rattle.chunk_journal.specs.Opening.{HasFolder, IsUnfitAt, IsDamagedAt, LeavesFolder, IfDamaged, IsOpening, StaysOpening, HasOpened};
 
 use crate::fault::{Device, JournalErr};
 use crate::reading::{BATCH, journal_len, open_batch};
 use crate::steps::{CLOSED, GATE, write_synced};
-use deeds::{Batch, DeedErr, do_batch, journal_path, new_path};
+use deeds::{Deed, DeedErr, do_batch, journal_path, len_before, new_path};
 use outside::Folder;
 use std::alloc::Global;
 use vault_path::VaultPath;
@@ -29,21 +30,21 @@ fn settle<D: Folder>(folder: &mut D) -> Result<(), Device>
 }
 
 /// Does the deeds of a batch, up to the first that the folder doesn't fit.
-fn redo_deeds<D: Folder>(folder: &mut D, batch: &Batch) -> Result<(), JournalErr>
+fn redo_deeds<D: Folder>(folder: &mut D, deeds: &[Deed]) -> Result<(), JournalErr>
+    requires batch { IsBatch (plains deeds.now) }
     requires steady { Told (D.log folder.old) IsSteady }
     ensures done { OnOk result (Changes (D.log folder.old) (D.log folder.new)
-        (λ old new. IsSteady new × DoesAll (in_order batch.now) (now old) (now new))) }
-    ensures amid { Changes (D.log folder.old) (D.log folder.new) (StaysAmid (in_order batch.now)) }
+        (λ old new. IsSteady new × DoesAll (in_order (plains deeds.now)) (now old) (now new))) }
+    ensures amid { Changes (D.log folder.old) (D.log folder.new) (StaysAmid (in_order (plains deeds.now))) }
     ensures damaged { IfErr result (λ error. IfDamaged error (λ at. Told (D.log folder.old) (λ log. (index : ℕ)
-        × IsRefusedAt batch.now index (now log) × (at ≡ 13 + length (spelled_deeds (take index batch.now)))))) }
+        × IsRefusedAt (plains deeds.now) index (now log) × (at ≡ 13 + length (spelled_deeds (take index (plains deeds.now))))))) }
     ensures cause { HasCause (D.faults folder.old) (D.faults folder.new) (IsErrOf result JournalErr.Device) }
-    ensures batch { IsBatch batch.now }
 {
-    match do_batch(folder, batch) {
+    match do_batch(folder, deeds) {
         Ok(()) => Ok(()),
         Err(DeedErr::Failed) => Err(JournalErr::Device),
         Err(DeedErr::Unfit(index)) => {
-            let before = batch.len_before(index);
+            let before = len_before(deeds, index);
             Err(JournalErr::JournalDamaged(BATCH + before as u64))
         }
     }
@@ -76,18 +77,19 @@ fn redo<D: Folder>(
     folder: &mut D,
     journal: &VaultPath,
     beside: &VaultPath,
-    batch: &Batch,
+    deeds: &[Deed],
 ) -> Result<(), JournalErr>
     requires journal { journal.now ≡ journal_file }
     requires beside { beside.now ≡ new_file }
-    requires found { Told (D.log folder.old) (IsFound batch.now) }
+    requires batch { IsBatch (plains deeds.now) }
+    requires found { Told (D.log folder.old) (IsFound (plains deeds.now)) }
     ensures redone { OnOk result (Changes (D.log folder.old) (D.log folder.new) (λ old new.
-        IsQuiet new × ((after : Disk) × DoesAll (in_order batch.now) (now old) after × IsAlike after (now new)))) }
-    ensures any_moment { Changes (D.log folder.old) (D.log folder.new) (λ old new. IsRepeatable batch.now → StaysRecovered batch.now old new) }
+        IsQuiet new × ((after : Disk) × DoesAll (in_order (plains deeds.now)) (now old) after × IsAlike after (now new)))) }
+    ensures any_moment { Changes (D.log folder.old) (D.log folder.new) (λ old new. IsRepeatable (plains deeds.now) → StaysRecovered (plains deeds.now) old new) }
     ensures damaged { IfErr result (λ error. IfDamaged error (λ at. Told (D.log folder.old) (λ log. IsUnfitAt (now log) at ⊎ LeavesFolder (now log) at))) }
     ensures cause { HasCause (D.faults folder.old) (D.faults folder.new) (IsErrOf result JournalErr.Device) }
 {
-    redo_deeds(folder, batch)?;
+    redo_deeds(folder, deeds)?;
     close(folder, journal, beside)?;
     Ok(())
 }
@@ -102,9 +104,9 @@ pub fn recover<D: Folder>(alloc: Global, folder: &mut D) -> Result<(), JournalEr
     settle(folder)?;
     let journal = journal_path();
     let beside = new_path();
-    let Some(batch) = open_batch(alloc, folder, &journal, &beside)? else {
+    let Some(deeds) = open_batch(alloc, folder, &journal, &beside)? else {
         return Ok(());
     };
-    redo(folder, &journal, &beside, &batch)?;
+    redo(folder, &journal, &beside, &deeds)?;
     Ok(())
 }

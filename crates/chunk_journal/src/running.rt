@@ -4,6 +4,7 @@ ghost use Rattle.outside.specs.Disk.{Disk, file, node_at};
 ghost use Rattle.outside.specs.Images.{now, IsSteady};
 ghost use Rattle.deeds.specs.Deeds.{DoesAll, StaysAmid, in_order};
 ghost use Rattle.deeds.specs.Grammar.{IsBatch};
+ghost use Rattle.deeds.specs.Plain.{plains};
 ghost use Rattle.chunk_journal.specs.Stages.{HasGate};
 ghost use Rattle.chunk_journal.specs.Journal.{journal_file, IsAlike, IsQuiet, IsReady, IsRepeatable, StaysShut, AnyMoment, HasCommitted};
 
@@ -11,21 +12,21 @@ use crate::fault::Device;
 use crate::first::make_first;
 use crate::stage::stage;
 use crate::steps::{CLOSED, GATE, OPEN, write_synced};
-use deeds::{Batch, do_batch, journal_path, new_path};
+use deeds::{Deed, do_batch, journal_path, new_path};
 use outside::{Folder, Kind};
 use vault_path::VaultPath;
 
 /// Does the deeds of a batch, each of which can be done.
-pub fn do_deeds<D: Folder>(folder: &mut D, batch: &Batch) -> Result<(), Device>
+pub fn do_deeds<D: Folder>(folder: &mut D, deeds: &[Deed]) -> Result<(), Device>
+    requires batch { IsBatch (plains deeds.now) }
     requires steady { Told (D.log folder.old) IsSteady }
-    requires can { Told (D.log folder.old) (λ log. (after : Disk) × DoesAll (in_order batch.now) (now log) after) }
+    requires can { Told (D.log folder.old) (λ log. (after : Disk) × DoesAll (in_order (plains deeds.now)) (now log) after) }
     ensures done { OnOk result (Changes (D.log folder.old) (D.log folder.new)
-        (λ old new. IsSteady new × DoesAll (in_order batch.now) (now old) (now new))) }
-    ensures amid { Changes (D.log folder.old) (D.log folder.new) (StaysAmid (in_order batch.now)) }
+        (λ old new. IsSteady new × DoesAll (in_order (plains deeds.now)) (now old) (now new))) }
+    ensures amid { Changes (D.log folder.old) (D.log folder.new) (StaysAmid (in_order (plains deeds.now))) }
     ensures cause { HasCause (D.faults folder.old) (D.faults folder.new) (IsErr result) }
-    ensures batch { IsBatch batch.now }
 {
-    match do_batch(folder, batch) {
+    match do_batch(folder, deeds) {
         Ok(()) => Ok(()),
         Err(_) => Err(Device),
     }
@@ -33,18 +34,23 @@ pub fn do_deeds<D: Folder>(folder: &mut D, batch: &Batch) -> Result<(), Device>
 
 /// Commits a batch to a journal that is there: the batch is put behind the closed gate, the gate is opened, the deeds are
 /// done, and the gate is closed.
-fn commit_ready<D: Folder>(folder: &mut D, journal: &VaultPath, batch: &Batch) -> Result<(), Device>
+fn commit_ready<D: Folder>(
+    folder: &mut D,
+    journal: &VaultPath,
+    deeds: &[Deed],
+) -> Result<(), Device>
     requires journal { journal.now ≡ journal_file }
     requires ready { Told (D.log folder.old) IsReady }
-    requires repeatable { IsRepeatable batch.now }
-    requires can { Told (D.log folder.old) (λ log. (after : Disk) × DoesAll (in_order batch.now) (now log) after) }
-    ensures committed { OnOk result (Changes (D.log folder.old) (D.log folder.new) (HasCommitted batch.now)) }
-    ensures any_moment { Changes (D.log folder.old) (D.log folder.new) (AnyMoment batch.now) }
+    requires batch { IsBatch (plains deeds.now) }
+    requires repeatable { IsRepeatable (plains deeds.now) }
+    requires can { Told (D.log folder.old) (λ log. (after : Disk) × DoesAll (in_order (plains deeds.now)) (now log) after) }
+    ensures committed { OnOk result (Changes (D.log folder.old) (D.log folder.new) (HasCommitted (plains deeds.now))) }
+    ensures any_moment { Changes (D.log folder.old) (D.log folder.new) (AnyMoment (plains deeds.now)) }
     ensures cause { HasCause (D.faults folder.old) (D.faults folder.new) (IsErr result) }
 {
-    stage(folder, journal, batch)?;
+    stage(folder, journal, deeds)?;
     write_synced(folder, journal, GATE, &[OPEN])?;
-    do_deeds(folder, batch)?;
+    do_deeds(folder, deeds)?;
     write_synced(folder, journal, GATE, &[CLOSED])?;
     Ok(())
 }
@@ -79,16 +85,17 @@ fn make_ready<D: Folder>(folder: &mut D, journal: &VaultPath) -> Result<(), Devi
 
 /// Commits a batch: it is done wholly or not at all, whenever a stop comes. It takes no memory. After `Device` the folder is
 /// to be opened again.
-pub fn commit<D: Folder>(folder: &mut D, batch: &Batch) -> Result<(), Device>
+pub fn commit<D: Folder>(folder: &mut D, deeds: &[Deed]) -> Result<(), Device>
     requires quiet { Told (D.log folder.old) IsQuiet }
-    requires repeatable { IsRepeatable batch.now }
-    requires can { Told (D.log folder.old) (λ log. (after : Disk) × DoesAll (in_order batch.now) (now log) after) }
-    ensures committed { OnOk result (Changes (D.log folder.old) (D.log folder.new) (HasCommitted batch.now)) }
-    ensures any_moment { Changes (D.log folder.old) (D.log folder.new) (AnyMoment batch.now) }
+    requires batch { IsBatch (plains deeds.now) }
+    requires repeatable { IsRepeatable (plains deeds.now) }
+    requires can { Told (D.log folder.old) (λ log. (after : Disk) × DoesAll (in_order (plains deeds.now)) (now log) after) }
+    ensures committed { OnOk result (Changes (D.log folder.old) (D.log folder.new) (HasCommitted (plains deeds.now))) }
+    ensures any_moment { Changes (D.log folder.old) (D.log folder.new) (AnyMoment (plains deeds.now)) }
     ensures cause { HasCause (D.faults folder.old) (D.faults folder.new) (IsErr result) }
 {
     let journal = journal_path();
     make_ready(folder, &journal)?;
-    commit_ready(folder, &journal, batch)?;
+    commit_ready(folder, &journal, deeds)?;
     Ok(())
 }

@@ -2,12 +2,13 @@ ghost use Rattle.std.specs.Prelude.{◌≡◌, OnOk, IsErr};
 ghost use Rattle.outside.specs.Calls.{HasCause, Told, Changes};
 ghost use Rattle.outside.specs.Images.{now};
 ghost use Rattle.deeds.specs.Grammar.{IsBatch};
+ghost use Rattle.deeds.specs.Plain.{plains};
 ghost use Rattle.chunk_journal.specs.Journal.{journal_file, IsReady};
 ghost use Rattle.chunk_journal.specs.Stages.{KeepsShut, HasWritten, HasStaged};
 
 use crate::fault::Device;
 use crate::steps::BEHIND_GATE;
-use deeds::{Batch, write_batch};
+use deeds::{Deed, spelled_len, write_batch};
 use outside::Folder;
 use vault_path::VaultPath;
 
@@ -15,19 +16,23 @@ use vault_path::VaultPath;
 const PIECE_LEN: usize = 16384;
 
 /// Writes the batch behind the closed gate, piece by piece.
-fn write_pieces<D: Folder>(folder: &mut D, journal: &VaultPath, batch: &Batch) -> Result<(), Device>
+fn write_pieces<D: Folder>(
+    folder: &mut D,
+    journal: &VaultPath,
+    deeds: &[Deed],
+) -> Result<(), Device>
     requires journal { journal.now ≡ journal_file }
+    requires batch { IsBatch (plains deeds.now) }
     requires ready { Told (D.log folder.old) IsReady }
-    ensures written { OnOk result (Changes (D.log folder.old) (D.log folder.new) (HasWritten batch.now)) }
+    ensures written { OnOk result (Changes (D.log folder.old) (D.log folder.new) (HasWritten (plains deeds.now))) }
     ensures any_moment { Changes (D.log folder.old) (D.log folder.new) KeepsShut }
     ensures cause { HasCause (D.faults folder.old) (D.faults folder.new) (IsErr result) }
-    ensures batch { IsBatch batch.now }
 {
     let mut piece = [0; PIECE_LEN];
-    let len = 8 + batch.byte_len();
+    let len = 8 + spelled_len(deeds);
     let mut at = 0;
     while at < len {
-        let n = write_batch(batch, at, &mut piece);
+        let n = write_batch(deeds, at, &mut piece);
         folder.write(journal, BEHIND_GATE + at as u64, &piece[..n])?;
         at += n;
     }
@@ -35,15 +40,15 @@ fn write_pieces<D: Folder>(folder: &mut D, journal: &VaultPath, batch: &Batch) -
 }
 
 /// Puts the batch behind the closed gate, and syncs.
-pub fn stage<D: Folder>(folder: &mut D, journal: &VaultPath, batch: &Batch) -> Result<(), Device>
+pub fn stage<D: Folder>(folder: &mut D, journal: &VaultPath, deeds: &[Deed]) -> Result<(), Device>
     requires journal { journal.now ≡ journal_file }
+    requires batch { IsBatch (plains deeds.now) }
     requires ready { Told (D.log folder.old) IsReady }
-    ensures staged { OnOk result (Changes (D.log folder.old) (D.log folder.new) (HasStaged batch.now)) }
+    ensures staged { OnOk result (Changes (D.log folder.old) (D.log folder.new) (HasStaged (plains deeds.now))) }
     ensures any_moment { Changes (D.log folder.old) (D.log folder.new) KeepsShut }
     ensures cause { HasCause (D.faults folder.old) (D.faults folder.new) (IsErr result) }
-    ensures batch { IsBatch batch.now }
 {
-    write_pieces(folder, journal, batch)?;
+    write_pieces(folder, journal, deeds)?;
     folder.sync()?;
     Ok(())
 }

@@ -12,3 +12,4 @@ pub mod BatchBytes
 pub mod Batches
 pub mod Rising
 pub mod Windows
+pub mod Lengths

@@ -14,78 +14,29 @@ use crate::window::Window;
 use crate::writing::{pass_deeds, spelled_len};
 use outside::Folder;
 use std::alloc::Global;
-use std::marker::Model;
 
-/// Deeds that the journal can hold: each in its grammar, their counts and lengths within their fields. Clauses see the list
-/// of the deeds.
-#[derive(Debug, Drop)]
-pub struct Batch {
-    deeds: Vec<Deed>,
-    len: usize,
-}
-
-impl Model for Batch {
-    ghost use Rattle.std.specs.Prelude.{◌≡◌, List, length};
-    ghost use Rattle.deeds.specs.Deeds.{PlainDeed};
-
-    ghost Value = { List PlainDeed };
-
-    ghost use Rattle.deeds.specs.Plain.{plains};
-    ghost use Rattle.deeds.specs.Grammar.{IsBatch, spelled};
-
-    ghost view = { λ b. plains b.deeds.items };
-
-    ghost invariant = { λ b. IsBatch (plains b.deeds.items) × (b.len ≡ length (spelled (plains b.deeds.items))) };
-}
-
-impl Batch {
-    /// The batch of these deeds. It takes no memory.
-    pub fn from_deeds(deeds: Vec<Deed>) -> Batch
-        requires { IsBatch (plains deeds.items) }
-        ensures { result ≡ plains deeds.items }
-    {
-        let len = spelled_len(&deeds);
-        Batch { deeds, len }
-    }
-
-    /// The deeds, in their order.
-    pub fn deeds(&self) -> &[Deed]
-        ensures deeds { plains result.now ≡ self.now }
-        ensures batch { IsBatch self.now }
-    {
-        &self.deeds
-    }
-
-    /// How many bytes spell the batch.
-    pub fn byte_len(&self) -> usize
-        ensures count { result ≡ length (spelled self.now) }
-        ensures batch { IsBatch self.now }
-    {
-        self.len
-    }
-
-    /// How many bytes of the batch come before the deed at an index, or behind the last one where there is none.
-    pub fn len_before(&self, index: usize) -> usize
-        ensures count { result ≡ 4 + length (spelled_deeds (take index self.now)) }
-        ensures within { result ≤ length (spelled self.now) }
-    {
-        let deeds = self.deeds();
-        spelled_len(&deeds[..index.min(deeds.len())])
-    }
+/// How many bytes of a batch come before the deed at an index, or behind the last one where there is none.
+pub fn len_before(deeds: &[Deed], index: usize) -> usize
+    requires { IsBatch (plains deeds.now) }
+    ensures count { result ≡ 4 + length (spelled_deeds (take index (plains deeds.now))) }
+    ensures within { result ≤ length (spelled (plains deeds.now)) }
+{
+    spelled_len(&deeds[..index.min(deeds.len())])
 }
 
 /// Fills `out` with the bytes that stand behind the journal's gate, from byte `from` of them on: the batch's length and the
 /// batch. Gives the number of bytes, as many as there are and `out` has room for. It takes no memory.
-pub fn write_batch(batch: &Batch, from: usize, out: &mut [u8]) -> usize
-    ensures count { result ≡ min (length out.old) (length (behind_gate batch.now) - from) }
-    ensures bytes { take result out.new ≡ take (length out.old) (drop from (behind_gate batch.now)) }
+pub fn write_batch(deeds: &[Deed], from: usize, out: &mut [u8]) -> usize
+    requires { IsBatch (plains deeds.now) }
+    ensures count { result ≡ min (length out.old) (length (behind_gate (plains deeds.now)) - from) }
+    ensures bytes { take result out.new ≡ take (length out.old) (drop from (behind_gate (plains deeds.now))) }
 {
     let mut window = Window {
         skip: from,
         used: 0,
     };
-    window.pass(out, &(batch.byte_len() as u64).to_be_bytes());
-    pass_deeds(&mut window, out, batch.deeds());
+    window.pass(out, &(spelled_len(deeds) as u64).to_be_bytes());
+    pass_deeds(&mut window, out, deeds);
     window.used
 }
 
@@ -110,9 +61,9 @@ fn deeds_of(alloc: Global, count: u32, bytes: &[u8]) -> Result<(Vec<Deed>, &[u8]
     Ok((deeds, rest))
 }
 
-/// The batch that the bytes are, all of them. `Bad` names the first place outside of the grammar.
-pub fn read_batch(alloc: Global, bytes: &[u8]) -> Result<Batch, BatchErr>
-    ensures found { IfOk result (λ batch. IsBatch batch × (bytes.now ≡ spelled batch)) }
+/// The deeds of the batch that the bytes are, all of them. `Bad` names the first place outside of the grammar.
+pub fn read_batch(alloc: Global, bytes: &[u8]) -> Result<Vec<Deed>, BatchErr>
+    ensures found { IfOk result (λ deeds. IsBatch (plains deeds.items) × (bytes.now ≡ spelled (plains deeds.items))) }
     ensures bad { IfErr result (λ error. IfBad error (IsBadAt bytes.now)) }
 {
     if bytes.len() > usize::MAX - 10 {
@@ -127,21 +78,20 @@ pub fn read_batch(alloc: Global, bytes: &[u8]) -> Result<Batch, BatchErr>
     if !rest.is_empty() {
         return Err(BatchErr::Bad(bytes.len() - rest.len()));
     }
-    Ok(Batch::from_deeds(deeds))
+    Ok(deeds)
 }
 
 /// Does a batch phase by phase, up to the first deed that isn't done. A sync ends each phase.
-pub fn do_batch<F: Folder>(folder: &mut F, batch: &Batch) -> Result<(), DeedErr>
-    requires { Told (F.log folder.old) IsSteady }
+pub fn do_batch<F: Folder>(folder: &mut F, deeds: &[Deed]) -> Result<(), DeedErr>
+    requires batch { IsBatch (plains deeds.now) }
+    requires steady { Told (F.log folder.old) IsSteady }
     ensures done { OnOk result (Changes (F.log folder.old) (F.log folder.new)
-        (λ old new. IsSteady new × DoesAll (in_order batch.now) (now old) (now new))) }
-    ensures amid { Changes (F.log folder.old) (F.log folder.new) (StaysAmid (in_order batch.now)) }
+        (λ old new. IsSteady new × DoesAll (in_order (plains deeds.now)) (now old) (now new))) }
+    ensures amid { Changes (F.log folder.old) (F.log folder.new) (StaysAmid (in_order (plains deeds.now))) }
     ensures unfit { IfErr result (λ error. IfUnfit error (λ index.
-        IsRefusal (F.log folder.old) (F.faults folder.old) (F.faults folder.new) (IsRefusedAt batch.now index))) }
+        IsRefusal (F.log folder.old) (F.faults folder.old) (F.faults folder.new) (IsRefusedAt (plains deeds.now) index))) }
     ensures cause { HasCause (F.faults folder.old) (F.faults folder.new) (IsErrOf result DeedErr.Failed) }
-    ensures batch { IsBatch batch.now }
 {
-    let deeds = batch.deeds();
     do_phase(folder, deeds, Phase::Make)?;
     do_phase(folder, deeds, Phase::Move)?;
     do_phase(folder, deeds, Phase::Remove)?;

@@ -1,13 +1,13 @@
 //! Deeds: changes of a folder that are done in a batch, their bytes, and what a stop leaves of them.
 //!
 //! ```text
-//! let batch = Batch::from_deeds(deeds);
-//! let len = write_batch(&batch, 0, &mut piece);
+//! let len = write_batch(&deeds, 0, &mut piece);
 //! let again = read_batch(alloc, bytes)?;
 //! do_batch(&mut folder, &again)?;
 //! ```
 //!
-//! A batch is done in three phases, each ended by a sync: make (`MakeDir`, `Put`, `Reshape`), move (`Rename`), remove
+//! A batch is a list of deeds that the journal can hold: each in its grammar, their counts and lengths within their fields.
+//! It is done in three phases, each ended by a sync: make (`MakeDir`, `Put`, `Reshape`), move (`Rename`), remove
 //! (`Remove`, `RemoveDir`). Deeds that name no path twice can be done again on whatever a stop left of them, and leave the
 //! same disk.
 //!
@@ -39,12 +39,13 @@ ghost use Rattle.std.specs.Prelude.{List, ℕ, [], ◌∷◌};
 ghost use Rattle.outside.specs.Disk.{Disk, Path, IsTree, IsFolder};
 ghost use Rattle.deeds.specs.Deeds.{PlainDeed, DoesAll, AreApart, IsAmid, IsSameDisk, IsOneOf, IsAlikeBut, Unnamed, IsPartOfDeed};
 
-pub use batch::{Batch, do_batch, read_batch, write_batch};
+pub use batch::{do_batch, len_before, read_batch, write_batch};
 pub use deed::{Deed, do_deed, do_phase};
 pub use fault::BatchErr;
 pub use phase::{DeedErr, Phase};
 pub use repeatable::{is_repeatable, journal_path, new_path};
 pub use writes::{Range, do_reshape};
+pub use writing::spelled_len;
 
 /// Deeds that name no path twice, done again on any disk amid their application, leave the same disk.
 pub fn doing_again()

@@ -3,7 +3,6 @@ ghost use Rattle.deeds.specs.Deeds.{names, NotIn, NoneIn, Unnamed, ApartFrom, Ar
 ghost use Rattle.deeds.specs.Plain.{plain, plains};
 ghost use Rattle.deeds.specs.Repeatable.{journal_file, new_file, IsRepeatable};
 
-use crate::batch::Batch;
 use crate::deed::Deed;
 use vault_path::VaultPath;
 
@@ -27,12 +26,11 @@ pub fn new_path() -> VaultPath
     }
 }
 
-/// Whether no path is named by two of a batch's deeds, and none of the journal's two files by any: it can then be done again
-/// on whatever a stop left of it.
-pub fn is_repeatable(batch: &Batch) -> bool
-    ensures { IsTrue result ↔ IsRepeatable batch.now }
+/// Whether no path is named by two of the deeds, and none of the journal's two files by any: they can then be done again on
+/// whatever a stop left of them.
+pub fn is_repeatable(deeds: &[Deed]) -> bool
+    ensures { IsTrue result ↔ IsRepeatable (plains deeds.now) }
 {
-    let deeds = batch.deeds();
     all_apart(deeds) && is_unnamed(&journal_path(), deeds) && is_unnamed(&new_path(), deeds)
 }
 

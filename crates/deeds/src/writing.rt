@@ -134,11 +134,12 @@ pub fn pass_deeds(window: &mut Window, out: &mut [u8], deeds: &[Deed])
     }
 }
 
-/// How many bytes spell the deeds: a window that begins behind all of them passes them by.
+/// How many bytes spell a batch.
 pub fn spelled_len(deeds: &[Deed]) -> usize
     requires { IsBatch (plains deeds.now) }
     ensures { result ≡ length (spelled (plains deeds.now)) }
 {
+    // a window that begins behind all of them passes them by
     let mut window = Window {
         skip: usize::MAX,
         used: 0,

@@ -7,8 +7,12 @@
 //! ```
 #![tactic(auto)]
 
+ghost use Rattle.std.specs.Prelude.{IfOk};
+ghost use Rattle.deeds.specs.Grammar.{IsBatch};
+ghost use Rattle.deeds.specs.Plain.{plains};
+
 use chunk_journal::{Device, Journal, JournalErr};
-use deeds::{Batch, BatchErr, is_repeatable, read_batch};
+use deeds::{BatchErr, Deed, is_repeatable, read_batch};
 use outside::{FolderErr, Kind, Reads};
 use outside_real::HostFolder;
 use std::alloc::{AllocError, Global};
@@ -63,7 +67,9 @@ fn bytes_of(number: u64) -> [u8; PUT_LEN] {
 }
 
 /// The batch of a number.
-fn batch_of(alloc: Global, number: u64) -> Result<Batch, CrashErr> {
+fn batch_of(alloc: Global, number: u64) -> Result<Vec<Deed>, CrashErr>
+    ensures { IfOk result (λ deeds. IsBatch (plains deeds.items)) }
+{
     let bytes = bytes_of(number);
     let mut text = Vec::new(alloc);
     text.extend_from_slice(&HEAD)?;
@@ -76,8 +82,8 @@ fn batch_of(alloc: Global, number: u64) -> Result<Batch, CrashErr> {
         &MOVES[1]
     };
     text.extend_from_slice(moves)?;
-    let batch = read_batch(alloc, &text)?;
-    Ok(batch)
+    let deeds = read_batch(alloc, &text)?;
+    Ok(deeds)
 }
 
 /// The number that a file has, or 0 where it isn't there.
@@ -124,12 +130,14 @@ fn opened<'a>(
 /// Commits a batch that names no path twice.
 fn commit<'a>(
     journal: &mut Journal<HostFolder<&'a HostRuntime>>,
-    batch: &Batch,
-) -> Result<(), CrashErr> {
-    if !is_repeatable(batch) {
+    deeds: &[Deed],
+) -> Result<(), CrashErr>
+    requires { IsBatch (plains deeds.now) }
+{
+    if !is_repeatable(deeds) {
         return Err(CrashErr::Path);
     }
-    journal.commit(batch)?;
+    journal.commit(deeds)?;
     Ok(())
 }
 

@@ -1,9 +1,12 @@
 // A run that commits batches, and what its folder then holds.
 
+ghost use Rattle.deeds.specs.Grammar.{IsBatch};
+ghost use Rattle.deeds.specs.Plain.{plains};
+
 use crate::row::{RowErr, at};
 use crate::untelling::Untelling;
 use chunk_journal::Journal;
-use deeds::{Batch, is_repeatable, read_batch};
+use deeds::{Deed, is_repeatable, read_batch};
 use outside::{Kind, Reads};
 use outside_mem::MemFolder;
 use std::alloc::Global;
@@ -17,11 +20,13 @@ pub(crate) struct Run {
 }
 
 // Commits a batch: whether it was acknowledged.
-fn commits(journal: &mut Journal<Untelling<MemFolder>>, batch: &Batch) -> Result<bool, RowErr> {
-    if !is_repeatable(batch) {
+fn commits(journal: &mut Journal<Untelling<MemFolder>>, deeds: &[Deed]) -> Result<bool, RowErr>
+    requires { IsBatch (plains deeds.now) }
+{
+    if !is_repeatable(deeds) {
         return Err(RowErr::Unrepeatable);
     }
-    Ok(journal.commit(batch).is_ok())
+    Ok(journal.commit(deeds).is_ok())
 }
 
 /// Opens the journal of a folder and commits the batches, up to the first that isn't acknowledged.

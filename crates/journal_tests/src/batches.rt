@@ -22,9 +22,9 @@ const FIVE_DEEDS: [u8; 66] = [
 fn batches_that_are_whole_are_written_as_they_were_read(rt: HostRuntime) -> Result<(), Fail> {
     let rows: [&[u8]; 3] = [&[0, 0, 0, 0], &MAKES_D, &FIVE_DEEDS];
     for bytes in rows {
-        let batch = read_batch(rt.alloc(), bytes).ok().ok_or("a batch")?;
+        let deeds = read_batch(rt.alloc(), bytes).ok().ok_or("a batch")?;
         let mut out = [0; 100];
-        let n = write_batch(&batch, LENGTH_LEN, &mut out);
+        let n = write_batch(&deeds, LENGTH_LEN, &mut out);
         assert!(rt; &out[..n] == bytes, "{bytes:?}");
     }
     Ok(())

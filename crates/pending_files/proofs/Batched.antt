@@ -1,17 +1,16 @@
 -- What waits is a batch that can be done again.
 use Rattle.std.proofs.Common.{◌≡◌, ◌≢◌, ℕ, ◌+◌, ◌*◌, ◌≤◌, ◌<◌, ◌^◌, List, [], ◌∷◌, ◌++◌, length, Bool, true, refl, ap, ◌∙◌, arith, length-append}
-use Rattle.std.specs.Prelude.{◌&&◌, nat_le, not}
-use Rattle.std.specs.Str.{bytes_eq}
+use Rattle.std.specs.Prelude.{◌&&◌, nat_le}
 use Rattle.std.specs.Int.{w32, w64, to_be_bytes}
-use Rattle.std.specs.List.{AllByRecursion, list_all}
-use Rattle.std.proofs.lemmas.Bool.{le-leb, leb-true}
-use Rattle.vault_path.specs.Parts.{is_part_byte, is_part, is_path}
+use Rattle.std.specs.List.{AllByRecursion}
+use Rattle.std.proofs.lemmas.Bool.{le-leb}
 use Rattle.outside.specs.Disk.{Path}
 use Rattle.deeds.specs.Reshape.{Ranges}
 use Rattle.deeds.specs.Deeds.{PlainDeed, MakesDir, Puts, Renames, Removes, RemovesDir, Reshapes, NotIn, Unnamed, names}
-use Rattle.deeds.specs.Grammar.{spelled_all, spelled_deed, spelled_deeds, spelled_path, spelled_part, spelled_range, IsDeed, IsBatch, FitsRange, rise_within}
+use Rattle.deeds.specs.Grammar.{spelled_all, spelled_deed, spelled_deeds, spelled_path, spelled_range, IsDeed, IsBatch, FitsRange, rise_within}
 use Rattle.deeds.specs.Repeatable.{IsRepeatable}
-use Rattle.deeds.proofs.Fields.{both_true, wide32, wide64}
+use Rattle.deeds.proofs.Fields.{wide32, wide64}
+use Rattle.deeds.proofs.Lengths.{path_long}
 use Rattle.pending_files.specs.Pending.{AreChunks, IsWaiting, ArePending, chunk_count, its_ranges}
 
 -- ---- the grammar
@@ -50,25 +49,6 @@ each_deed [] each few = tt
 each_deed (x ∷ xs) each few = (is_deed x each.0 (omega (arith, few)), each_deed xs each.1 (omega (arith, few)))
 
 -- ---- its length
-
-part_short : (part : List ℕ) → is_part part ≡ true → length part ≤ 255
-part_short part good =
-    let one = both_true (nat_le 1 (length part) && nat_le (length part) 255 && list_all is_part_byte part && not (bytes_eq part (46 ∷ []))) (not (bytes_eq part (46 ∷ 46 ∷ []))) good in
-    let two = both_true (nat_le 1 (length part) && nat_le (length part) 255 && list_all is_part_byte part) (not (bytes_eq part (46 ∷ []))) one.0 in
-    let three = both_true (nat_le 1 (length part) && nat_le (length part) 255) (list_all is_part_byte part) two.0 in
-    let four = both_true (nat_le 1 (length part)) (nat_le (length part) 255) three.0 in
-    leb-true (length part) 255 four.1
-
-parts_long : (parts : Path) → list_all is_part parts ≡ true → length (spelled_all spelled_part parts) ≤ 256 * length parts
-parts_long [] good = omega arith
-parts_long (part ∷ parts) good =
-    let both = both_true (is_part part) (list_all is_part parts) good in
-    omega (arith, part_short part both.0, parts_long parts both.1, length-append (spelled_part part) (spelled_all spelled_part parts))
-
-path_long : (path : Path) → is_path path ≡ true → length (spelled_path path) ≤ 1537
-path_long path good =
-    let both = both_true (nat_le (length path) 6) (list_all is_part path) good in
-    omega (arith, leb-true (length path) 6 both.0, parts_long path both.1)
 
 ranges_long : (from len : ℕ) (rs : Ranges) → AreChunks from len rs → length (spelled_all spelled_range rs) ≤ 32808 * length rs
 ranges_long from len [] are = omega arith

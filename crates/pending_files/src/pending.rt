@@ -13,7 +13,7 @@ ghost use Rattle.pending_files.specs.Pending.{IsPlace, HasRoom, ArePending, put_
 use crate::places::file_in;
 use crate::reading::read_reshaped;
 use crate::room::{MOST, add, cut_ranges, forget, new_buffers, new_lists, put_range, take_ranges};
-use deeds::{Batch, Deed, Range};
+use deeds::{Deed, Range};
 use outside::{FolderErr, Reads};
 use std::alloc::{AllocError, Global};
 use std::marker::Model;
@@ -154,12 +154,5 @@ impl Pending {
         ensures order { in_order self.now ≡ self.now }
     {
         &self.deeds
-    }
-
-    /// The batch that commits what waits, with the room that it has. It takes no memory.
-    pub fn into_batch(self) -> Batch
-        ensures { result ≡ self }
-    {
-        Batch::from_deeds(self.deeds)
     }
 }

@@ -1,5 +1,6 @@
 use Rattle.std.proofs.Common.{◌≡◌, ℕ, ◌+◌, ◌++◌, take, drop, length, ap, ◌∙◌, arith}
 use Rattle.outside.specs.Images.{now}
+use Rattle.deeds.specs.Plain.{plains}
 use Rattle.outside.proofs.Told.{told_both}
 use Rattle.deeds.proofs.Doing.{told_disk}
 use Rattle.chunk_journal.specs.Journal.{HoldsBatch}
@@ -21,9 +22,9 @@ returns-in-Ok-clause-held g c =
     let vec : c.in_ok-bytes.bytes.len ≡ len = c.in_ok-bytes.ensures.len in
     let long : length out ≡ len = c.read.auto.out ∙ c.deref_mut.ensures.len ∙ vec in
     let full : n ≡ len = omega (arith, c.len.ensures, c.if-n-len.false, c.in_ok-n.ensures.count, c.deref_mut.ensures.len, vec) in
-    told_both log (λ l. Says len (now l) × (HasFolder (now l) → ⊥)) (λ l. HasReadBehind p out room n (now l)) (λ l. HoldsBatch (now l) c.in-Ok.batch) c.requires.says
+    told_both log (λ l. Says len (now l) × (HasFolder (now l) → ⊥)) (λ l. HasReadBehind p out room n (now l)) (λ l. HoldsBatch (now l) (plains c.in-Ok.deeds.items)) c.requires.says
     (told_disk log (HasReadBehind p out room n) c.in_ok-n.ensures.bytes)
-    (λ l s r. holds (now l) len text c.in-Ok.batch s.0 found.0 found.1 (filled (now l) p out rest text room n len s.0 c.requires.journal r (c.deref.ensures.value ∙ ap (λ (k : ℕ). take k (out ++ rest)) vec) long full) (c.deref.ensures.len ∙ vec))
+    (λ l s r. holds (now l) len text (plains c.in-Ok.deeds.items) s.0 found.0 found.1 (filled (now l) p out rest text room n len s.0 c.requires.journal r (c.deref.ensures.value ∙ ap (λ (k : ℕ). take k (out ++ rest)) vec) long full) (c.deref.ensures.len ∙ vec))
 
 pub overflow_add-result-in-Err-Bad : goal.overflow_add-result-in-Err-Bad
 overflow_add-result-in-Err-Bad g c =

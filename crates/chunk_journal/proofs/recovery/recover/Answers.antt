@@ -1,35 +1,40 @@
 use Rattle.std.proofs.Common.{◌⊎◌, List, Option, None, refl, sym, subst}
+use Rattle.std.specs.Prelude.{MatchOption}
+use Rattle.std.specs.declared.vec.Vec.{Vec}
+use Rattle.std.specs.declared.alloc.Global.{Global}
 use Rattle.std.proofs.lemmas.Result.{err_from_is_err_and}
 use Rattle.outside.specs.Calls.{Told, Changes}
 use Rattle.outside.specs.Images.{Log, now}
 use Rattle.outside.proofs.Told.{changed_by, through}
 use Rattle.deeds.specs.Deeds.{PlainDeed}
+use Rattle.deeds.specs.Plain.{plains}
+use Rattle.deeds.specs.declared.deed.Deed.{Deed}
 use Rattle.chunk_journal.specs.Journal.{HoldsBatch, IsRepeatable, IsClosed, StaysRecovered}
-use Rattle.chunk_journal.specs.Opening.{HasFolder, OfFound, IsUnfitAt, IsDamagedAt, LeavesFolder, StaysOpening, HasOpened}
+use Rattle.chunk_journal.specs.Opening.{HasFolder, IsUnfitAt, IsDamagedAt, LeavesFolder, StaysOpening, HasOpened}
 use Rattle.chunk_journal.proofs.Pieces.{with_new}
 use Rattle.chunk_journal.proofs.Openings.{damaged_by, told_earlier, told_settled, unopened, Finds, HasSettled, HasRedone, reopened_by, opened_by, opened_closed, redone_damage}
 use Rattle.chunk_journal.proofs.recovery.recover.Goals as goal
 
 -- what stands behind the gate, if anything
-abbrev Looks : Option (List PlainDeed) → Log → Type 0
-Looks found log = (HasFolder (now log) → ⊥) × OfFound found (IsClosed (now log)) (HoldsBatch (now log))
+abbrev Looks : Option (Vec Deed Global) → Log → Type 0
+Looks found log = (HasFolder (now log) → ⊥) × MatchOption found (IsClosed (now log)) (λ deeds. HoldsBatch (now log) (plains deeds.items))
 
 abbrev Stays : List PlainDeed → Log → Log → Type 0
 Stays bs old new = IsRepeatable bs → StaysRecovered bs old new
 
-pub returns-in_err-batch-clause-any_moment : goal.returns-in_err-batch-clause-any_moment
-returns-in_err-batch-clause-any_moment g c =
+pub returns-in_err-deeds-clause-any_moment : goal.returns-in_err-deeds-clause-any_moment
+returns-in_err-deeds-clause-any_moment g c =
     let l0 = g.D.Reads.log c.args.folder.now in
     let l1 = g.D.Reads.log c.settle.new.folder in
     let s = told_settled l0 l1 c.in_ok-settle.ensures.synced c.in_ok-settle.ensures.steady c.in_ok-settle.ensures.any_moment in
-    subst (λ (o : Option Log). Changes l0 o StaysOpening) (sym c.in_err-batch.ensures.log) (changed_by l0 l1 HasSettled StaysOpening (λ x y p. unopened x y y p refl) s)
+    subst (λ (o : Option Log). Changes l0 o StaysOpening) (sym c.in_err-deeds.ensures.log) (changed_by l0 l1 HasSettled StaysOpening (λ x y p. unopened x y y p refl) s)
 
 pub returns-in_default-clause-opened : goal.returns-in_default-clause-opened
 returns-in_default-clause-opened g c =
     let l0 = g.D.Reads.log c.args.folder.now in
     let l1 = g.D.Reads.log c.settle.new.folder in
     let s = told_settled l0 l1 c.in_ok-settle.ensures.synced c.in_ok-settle.ensures.steady c.in_ok-settle.ensures.any_moment in
-    let found : Told l1 (Looks None) = subst (λ (o : Option (List PlainDeed)). Told l1 (Looks o)) c.in_default.is c.in_ok-batch.ensures.found in
+    let found : Told l1 (Looks None) = subst (λ (o : Option (Vec Deed Global)). Told l1 (Looks o)) c.in_default.is c.in_ok-deeds.ensures.found in
     subst (λ (o : Option Log). Changes l0 o HasOpened) (sym c.open_batch.ensures.log)
     (changed_by l0 l1 (λ x y. HasSettled x y × Looks None y) HasOpened (λ x y p. opened_closed x y y p.0 p.1.1 p.1.0 refl) (with_new l0 l1 HasSettled (Looks None) s found))
 
@@ -42,23 +47,24 @@ returns-in_default-clause-any_moment g c =
 
 pub returns-in_err-redo-clause-any_moment : goal.returns-in_err-redo-clause-any_moment
 returns-in_err-redo-clause-any_moment g c =
-    let bs = c.in-Some.batch in
+    let bs = plains c.in-Some.deeds.items in
     let l0 = g.D.Reads.log c.args.folder.now in
     let l1 = g.D.Reads.log c.settle.new.folder in
     let l3 = g.D.Reads.log c.redo.new.folder in
     let s = told_settled l0 l1 c.in_ok-settle.ensures.synced c.in_ok-settle.ensures.steady c.in_ok-settle.ensures.any_moment in
-    let found : Told l1 (Finds bs) = subst (λ (o : Option (List PlainDeed)). Told l1 (Looks o)) c.in-Some.is c.in_ok-batch.ensures.found in
+    let found : Told l1 (Finds bs) = subst (λ (o : Option (Vec Deed Global)). Told l1 (Looks o)) c.in-Some.is c.in_ok-deeds.ensures.found in
     through l0 l1 l3 (λ x y. HasSettled x y × Finds bs y) (Stays bs) StaysOpening (reopened_by bs) (with_new l0 l1 HasSettled (Finds bs) s found)
-    (subst (λ (o : Option Log). Changes o l3 (Stays bs)) c.open_batch.ensures.log c.in_err-redo.ensures.any_moment)
+    (subst (λ (o : Option Log). Changes o l3 (Stays bs)) c.open_batch.ensures.log
+    (subst (λ (ds : List Deed). Changes (g.D.Reads.log c.open_batch.new.folder) l3 (Stays (plains ds))) c.deref.ensures.value c.in_err-redo.ensures.any_moment))
 
 pub returns-in_err-redo-clause-damaged : goal.returns-in_err-redo-clause-damaged
 returns-in_err-redo-clause-damaged g c =
-    let bs = c.in-Some.batch in
+    let bs = plains c.in-Some.deeds.items in
     let l0 = g.D.Reads.log c.args.folder.now in
     let l1 = g.D.Reads.log c.settle.new.folder in
     let l2 = g.D.Reads.log c.open_batch.new.folder in
     let s = told_settled l0 l1 c.in_ok-settle.ensures.synced c.in_ok-settle.ensures.steady c.in_ok-settle.ensures.any_moment in
-    let found : Told l1 (Finds bs) = subst (λ (o : Option (List PlainDeed)). Told l1 (Looks o)) c.in-Some.is c.in_ok-batch.ensures.found in
+    let found : Told l1 (Finds bs) = subst (λ (o : Option (Vec Deed Global)). Told l1 (Looks o)) c.in-Some.is c.in_ok-deeds.ensures.found in
     let q = err_from_is_err_and c.from_residual-in_err-redo.result c.from_residual-in_err-redo.ensures.1 in
     rw (q.1, q.2) (damaged_by c.in_err-redo.field-0.0 (λ at. Told l2 (λ l. IsUnfitAt (now l) at ⊎ LeavesFolder (now l) at)) (λ at. Told l0 (λ l. IsDamagedAt (now l) at ⊎ LeavesFolder (now l) at))
     (λ at t. told_earlier l0 l1 (λ x y. HasSettled x y × Finds bs y) (λ l. IsUnfitAt (now l) at ⊎ LeavesFolder (now l) at) (λ l. IsDamagedAt (now l) at ⊎ LeavesFolder (now l) at) (λ x y p h. redone_damage bs at x y p.0 p.1 h)
@@ -67,22 +73,24 @@ returns-in_err-redo-clause-damaged g c =
 
 pub returns-clause-opened : goal.returns-clause-opened
 returns-clause-opened g c =
-    let bs = c.in-Some.batch in
+    let bs = plains c.in-Some.deeds.items in
     let l0 = g.D.Reads.log c.args.folder.now in
     let l1 = g.D.Reads.log c.settle.new.folder in
     let l3 = g.D.Reads.log c.redo.new.folder in
     let s = told_settled l0 l1 c.in_ok-settle.ensures.synced c.in_ok-settle.ensures.steady c.in_ok-settle.ensures.any_moment in
-    let found : Told l1 (Finds bs) = subst (λ (o : Option (List PlainDeed)). Told l1 (Looks o)) c.in-Some.is c.in_ok-batch.ensures.found in
+    let found : Told l1 (Finds bs) = subst (λ (o : Option (Vec Deed Global)). Told l1 (Looks o)) c.in-Some.is c.in_ok-deeds.ensures.found in
     through l0 l1 l3 (λ x y. HasSettled x y × Finds bs y) (HasRedone bs) HasOpened (opened_by bs) (with_new l0 l1 HasSettled (Finds bs) s found)
-    (subst (λ (o : Option Log). Changes o l3 (HasRedone bs)) c.open_batch.ensures.log c.in_ok-redo.ensures.redone)
+    (subst (λ (o : Option Log). Changes o l3 (HasRedone bs)) c.open_batch.ensures.log
+    (subst (λ (ds : List Deed). Changes (g.D.Reads.log c.open_batch.new.folder) l3 (HasRedone (plains ds))) c.deref.ensures.value c.in_ok-redo.ensures.redone))
 
 pub returns-clause-any_moment : goal.returns-clause-any_moment
 returns-clause-any_moment g c =
-    let bs = c.in-Some.batch in
+    let bs = plains c.in-Some.deeds.items in
     let l0 = g.D.Reads.log c.args.folder.now in
     let l1 = g.D.Reads.log c.settle.new.folder in
     let l3 = g.D.Reads.log c.redo.new.folder in
     let s = told_settled l0 l1 c.in_ok-settle.ensures.synced c.in_ok-settle.ensures.steady c.in_ok-settle.ensures.any_moment in
-    let found : Told l1 (Finds bs) = subst (λ (o : Option (List PlainDeed)). Told l1 (Looks o)) c.in-Some.is c.in_ok-batch.ensures.found in
+    let found : Told l1 (Finds bs) = subst (λ (o : Option (Vec Deed Global)). Told l1 (Looks o)) c.in-Some.is c.in_ok-deeds.ensures.found in
     through l0 l1 l3 (λ x y. HasSettled x y × Finds bs y) (Stays bs) StaysOpening (reopened_by bs) (with_new l0 l1 HasSettled (Finds bs) s found)
-    (subst (λ (o : Option Log). Changes o l3 (Stays bs)) c.open_batch.ensures.log c.in_ok-redo.ensures.any_moment)
+    (subst (λ (o : Option Log). Changes o l3 (Stays bs)) c.open_batch.ensures.log
+    (subst (λ (ds : List Deed). Changes (g.D.Reads.log c.open_batch.new.folder) l3 (Stays (plains ds))) c.deref.ensures.value c.in_ok-redo.ensures.any_moment))

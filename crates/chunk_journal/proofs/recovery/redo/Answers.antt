@@ -4,6 +4,7 @@ use Rattle.outside.specs.Calls.{Told}
 use Rattle.outside.specs.Images.{Log, now, IsSteady}
 use Rattle.outside.proofs.Told.{changed_from, told_through, through}
 use Rattle.deeds.specs.Deeds.{PlainDeed, DoesAll, StaysAmid, in_order}
+use Rattle.deeds.specs.Plain.{plains}
 use Rattle.chunk_journal.specs.Journal.{journal_file, IsFound, IsRepeatable, StaysRecovered}
 use Rattle.chunk_journal.specs.Opening.{HasFolder, IsUnfitAt, LeavesFolder}
 use Rattle.chunk_journal.proofs.Gate.{both, LeavesParts, found_leaves, redone, shut_leaves}
@@ -19,16 +20,16 @@ Stays bs old new = IsRepeatable bs → StaysRecovered bs old new
 
 pub returns-in_err-redo_deeds-clause-any_moment : goal.returns-in_err-redo_deeds-clause-any_moment
 returns-in_err-redo_deeds-clause-any_moment g c =
-    let bs = c.args.batch.now in
-    let k = c.redo_deeds.ensures.batch in
+    let bs = plains c.args.deeds.now in
+    let k = c.requires.batch in
     let l0 = g.D.Reads.log c.args.folder.now in
     let l1 = g.D.Reads.log c.redo_deeds.new.folder in
     changed_from l0 l1 (IsFound bs) (StaysAmid (in_order bs)) (Stays bs) (λ x y f s repeatable. found_leaves bs k repeatable x y f s) c.requires.found c.in_err-redo_deeds.ensures.amid
 
 pub returns-in_err-close-clause-any_moment : goal.returns-in_err-close-clause-any_moment
 returns-in_err-close-clause-any_moment g c =
-    let bs = c.args.batch.now in
-    let k = c.redo_deeds.ensures.batch in
+    let bs = plains c.args.deeds.now in
+    let k = c.requires.batch in
     let l0 = g.D.Reads.log c.args.folder.now in
     let l1 = g.D.Reads.log c.redo_deeds.new.folder in
     let l2 = g.D.Reads.log c.close.new.folder in
@@ -38,7 +39,7 @@ returns-in_err-close-clause-any_moment g c =
 
 pub returns-in_err-close-clause-damaged : goal.returns-in_err-close-clause-damaged
 returns-in_err-close-clause-damaged g c =
-    let bs = c.args.batch.now in
+    let bs = plains c.args.deeds.now in
     let l0 = g.D.Reads.log c.args.folder.now in
     let l1 = g.D.Reads.log c.redo_deeds.new.folder in
     let q = err_from_is_err_and c.from_residual-in_err-close.result c.from_residual-in_err-close.ensures.1 in
@@ -48,7 +49,7 @@ returns-in_err-close-clause-damaged g c =
 
 pub returns-clause-redone : goal.returns-clause-redone
 returns-clause-redone g c =
-    let bs = c.args.batch.now in
+    let bs = plains c.args.deeds.now in
     let l0 = g.D.Reads.log c.args.folder.now in
     let l1 = g.D.Reads.log c.redo_deeds.new.folder in
     let l2 = g.D.Reads.log c.close.new.folder in
@@ -56,8 +57,8 @@ returns-clause-redone g c =
 
 pub returns-clause-any_moment : goal.returns-clause-any_moment
 returns-clause-any_moment g c =
-    let bs = c.args.batch.now in
-    let k = c.redo_deeds.ensures.batch in
+    let bs = plains c.args.deeds.now in
+    let k = c.requires.batch in
     let l0 = g.D.Reads.log c.args.folder.now in
     let l1 = g.D.Reads.log c.redo_deeds.new.folder in
     let l2 = g.D.Reads.log c.close.new.folder in

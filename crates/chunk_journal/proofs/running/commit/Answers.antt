@@ -3,6 +3,7 @@ use Rattle.outside.specs.Disk.{Disk}
 use Rattle.outside.specs.Images.{Log, now}
 use Rattle.outside.proofs.Told.{told_new, told_through, changed_by}
 use Rattle.deeds.specs.Deeds.{DoesAll, in_order}
+use Rattle.deeds.specs.Plain.{plains}
 use Rattle.chunk_journal.specs.Journal.{IsQuiet, IsReady, IsAlike, StaysShut, AnyMoment, HasCommitted}
 use Rattle.chunk_journal.proofs.Faults.{cause_then}
 use Rattle.chunk_journal.proofs.Gate.{both, with_old}
@@ -17,7 +18,7 @@ commit_ready-requires-clause-ready g c = told_new (g.D.Reads.log c.args.folder.n
 
 pub commit_ready-requires-clause-can : goal.commit_ready-requires-clause-can
 commit_ready-requires-clause-can g c =
-    let bs = c.args.batch.now in
+    let bs = plains c.args.deeds.now in
     let l0 = g.D.Reads.log c.args.folder.now in
     let l1 = g.D.Reads.log c.make_ready.new.folder in
     told_new l0 l1 (λ x y. (Ready x y × IsQuiet x) × ((after : Disk) × DoesAll (in_order bs) (now x) after)) (λ log. (after : Disk) × DoesAll (in_order bs) (now log) after)
@@ -26,11 +27,11 @@ commit_ready-requires-clause-can g c =
 
 pub returns-in_err-make_ready-clause-any_moment : goal.returns-in_err-make_ready-clause-any_moment
 returns-in_err-make_ready-clause-any_moment g c =
-    changed_by (g.D.Reads.log c.args.folder.now) (g.D.Reads.log c.make_ready.new.folder) StaysShut (AnyMoment c.args.batch.now) (made_leaves c.args.batch.now c.requires.repeatable) c.in_err-make_ready.ensures.any_moment
+    changed_by (g.D.Reads.log c.args.folder.now) (g.D.Reads.log c.make_ready.new.folder) StaysShut (AnyMoment (plains c.args.deeds.now)) (made_leaves (plains c.args.deeds.now) c.requires.repeatable) c.in_err-make_ready.ensures.any_moment
 
 pub returns-in_err-commit_ready-clause-any_moment : goal.returns-in_err-commit_ready-clause-any_moment
 returns-in_err-commit_ready-clause-any_moment g c =
-    let bs = c.args.batch.now in
+    let bs = plains c.args.deeds.now in
     let l0 = g.D.Reads.log c.args.folder.now in
     let l1 = g.D.Reads.log c.make_ready.new.folder in
     let l2 = g.D.Reads.log c.commit_ready.new.folder in
@@ -39,7 +40,7 @@ returns-in_err-commit_ready-clause-any_moment g c =
 
 pub returns-clause-any_moment : goal.returns-clause-any_moment
 returns-clause-any_moment g c =
-    let bs = c.args.batch.now in
+    let bs = plains c.args.deeds.now in
     let l0 = g.D.Reads.log c.args.folder.now in
     let l1 = g.D.Reads.log c.make_ready.new.folder in
     let l2 = g.D.Reads.log c.commit_ready.new.folder in
@@ -48,7 +49,7 @@ returns-clause-any_moment g c =
 
 pub returns-clause-committed : goal.returns-clause-committed
 returns-clause-committed g c =
-    let bs = c.args.batch.now in
+    let bs = plains c.args.deeds.now in
     let l0 = g.D.Reads.log c.args.folder.now in
     let l1 = g.D.Reads.log c.make_ready.new.folder in
     let l2 = g.D.Reads.log c.commit_ready.new.folder in

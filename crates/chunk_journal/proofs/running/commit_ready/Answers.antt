@@ -5,6 +5,7 @@ use Rattle.outside.specs.Changes.{Write, CanDo}
 use Rattle.outside.specs.Images.{now, IsSteady, HasKept}
 use Rattle.outside.proofs.Told.{told_new}
 use Rattle.deeds.specs.Deeds.{DoesAll, in_order}
+use Rattle.deeds.specs.Plain.{plains}
 use Rattle.chunk_journal.specs.Journal.{journal_file}
 use Rattle.chunk_journal.specs.Stages.{HasStaged}
 use Rattle.chunk_journal.proofs.Faults.{cause_then}
@@ -13,20 +14,20 @@ use Rattle.chunk_journal.proofs.running.commit_ready.Goals as goal
 
 pub write_synced-requires-clause-steady : goal.write_synced-requires-clause-steady
 write_synced-requires-clause-steady g c =
-    let bs = c.args.batch.now in
+    let bs = plains c.args.deeds.now in
     let r = c.requires in
     let p = c.args.journal.now in
-    let k = c.stage.ensures.batch in
+    let k = r.batch in
     let l0 = g.D.Reads.log c.args.folder.now in
     let l1 = g.D.Reads.log c.stage.new.folder in
     told_new l0 l1 (HasStaged bs) IsSteady (λ x y s. s.0) c.in_ok-stage.ensures.staged
 
 pub write_synced-requires-clause-can : goal.write_synced-requires-clause-can
 write_synced-requires-clause-can g c =
-    let bs = c.args.batch.now in
+    let bs = plains c.args.deeds.now in
     let r = c.requires in
     let p = c.args.journal.now in
-    let k = c.stage.ensures.batch in
+    let k = r.batch in
     let l0 = g.D.Reads.log c.args.folder.now in
     let l1 = g.D.Reads.log c.stage.new.folder in
     let s1 = told_staged bs k r.repeatable p r.journal l0 l1 r.ready c.in_ok-stage.ensures.any_moment c.in_ok-stage.ensures.staged in
@@ -34,10 +35,10 @@ write_synced-requires-clause-can g c =
 
 pub do_deeds-requires-clause-steady : goal.do_deeds-requires-clause-steady
 do_deeds-requires-clause-steady g c =
-    let bs = c.args.batch.now in
+    let bs = plains c.args.deeds.now in
     let r = c.requires in
     let p = c.args.journal.now in
-    let k = c.stage.ensures.batch in
+    let k = r.batch in
     let l0 = g.D.Reads.log c.args.folder.now in
     let l1 = g.D.Reads.log c.stage.new.folder in
     let s1 = told_staged bs k r.repeatable p r.journal l0 l1 r.ready c.in_ok-stage.ensures.any_moment c.in_ok-stage.ensures.staged in
@@ -46,10 +47,10 @@ do_deeds-requires-clause-steady g c =
 
 pub do_deeds-requires-clause-can : goal.do_deeds-requires-clause-can
 do_deeds-requires-clause-can g c =
-    let bs = c.args.batch.now in
+    let bs = plains c.args.deeds.now in
     let r = c.requires in
     let p = c.args.journal.now in
-    let k = c.stage.ensures.batch in
+    let k = r.batch in
     let l0 = g.D.Reads.log c.args.folder.now in
     let l1 = g.D.Reads.log c.stage.new.folder in
     let s1 = told_staged bs k r.repeatable p r.journal l0 l1 r.ready c.in_ok-stage.ensures.any_moment c.in_ok-stage.ensures.staged in
@@ -59,10 +60,10 @@ do_deeds-requires-clause-can g c =
 
 pub write_synced-requires-2-clause-steady : goal.write_synced-requires-2-clause-steady
 write_synced-requires-2-clause-steady g c =
-    let bs = c.args.batch.now in
+    let bs = plains c.args.deeds.now in
     let r = c.requires in
     let p = c.args.journal.now in
-    let k = c.stage.ensures.batch in
+    let k = r.batch in
     let l0 = g.D.Reads.log c.args.folder.now in
     let l1 = g.D.Reads.log c.stage.new.folder in
     let s1 = told_staged bs k r.repeatable p r.journal l0 l1 r.ready c.in_ok-stage.ensures.any_moment c.in_ok-stage.ensures.staged in
@@ -73,10 +74,10 @@ write_synced-requires-2-clause-steady g c =
 
 pub write_synced-requires-2-clause-can : goal.write_synced-requires-2-clause-can
 write_synced-requires-2-clause-can g c =
-    let bs = c.args.batch.now in
+    let bs = plains c.args.deeds.now in
     let r = c.requires in
     let p = c.args.journal.now in
-    let k = c.stage.ensures.batch in
+    let k = r.batch in
     let l0 = g.D.Reads.log c.args.folder.now in
     let l1 = g.D.Reads.log c.stage.new.folder in
     let s1 = told_staged bs k r.repeatable p r.journal l0 l1 r.ready c.in_ok-stage.ensures.any_moment c.in_ok-stage.ensures.staged in
@@ -88,20 +89,20 @@ write_synced-requires-2-clause-can g c =
 
 pub returns-in_err-stage-clause-any_moment : goal.returns-in_err-stage-clause-any_moment
 returns-in_err-stage-clause-any_moment g c =
-    let bs = c.args.batch.now in
+    let bs = plains c.args.deeds.now in
     let r = c.requires in
     let p = c.args.journal.now in
-    let k = c.stage.ensures.batch in
+    let k = r.batch in
     let l0 = g.D.Reads.log c.args.folder.now in
     let l1 = g.D.Reads.log c.stage.new.folder in
     told_staged_leaves bs k r.repeatable p r.journal l0 l1 r.ready c.in_err-stage.ensures.any_moment
 
 pub returns-in_err-write_synced-clause-any_moment : goal.returns-in_err-write_synced-clause-any_moment
 returns-in_err-write_synced-clause-any_moment g c =
-    let bs = c.args.batch.now in
+    let bs = plains c.args.deeds.now in
     let r = c.requires in
     let p = c.args.journal.now in
-    let k = c.stage.ensures.batch in
+    let k = r.batch in
     let l0 = g.D.Reads.log c.args.folder.now in
     let l1 = g.D.Reads.log c.stage.new.folder in
     let s1 = told_staged bs k r.repeatable p r.journal l0 l1 r.ready c.in_ok-stage.ensures.any_moment c.in_ok-stage.ensures.staged in
@@ -110,10 +111,10 @@ returns-in_err-write_synced-clause-any_moment g c =
 
 pub returns-in_err-do_deeds-clause-any_moment : goal.returns-in_err-do_deeds-clause-any_moment
 returns-in_err-do_deeds-clause-any_moment g c =
-    let bs = c.args.batch.now in
+    let bs = plains c.args.deeds.now in
     let r = c.requires in
     let p = c.args.journal.now in
-    let k = c.stage.ensures.batch in
+    let k = r.batch in
     let l0 = g.D.Reads.log c.args.folder.now in
     let l1 = g.D.Reads.log c.stage.new.folder in
     let s1 = told_staged bs k r.repeatable p r.journal l0 l1 r.ready c.in_ok-stage.ensures.any_moment c.in_ok-stage.ensures.staged in
@@ -124,10 +125,10 @@ returns-in_err-do_deeds-clause-any_moment g c =
 
 pub returns-in_err-write_synced-2-clause-any_moment : goal.returns-in_err-write_synced-2-clause-any_moment
 returns-in_err-write_synced-2-clause-any_moment g c =
-    let bs = c.args.batch.now in
+    let bs = plains c.args.deeds.now in
     let r = c.requires in
     let p = c.args.journal.now in
-    let k = c.stage.ensures.batch in
+    let k = r.batch in
     let l0 = g.D.Reads.log c.args.folder.now in
     let l1 = g.D.Reads.log c.stage.new.folder in
     let s1 = told_staged bs k r.repeatable p r.journal l0 l1 r.ready c.in_ok-stage.ensures.any_moment c.in_ok-stage.ensures.staged in
@@ -140,10 +141,10 @@ returns-in_err-write_synced-2-clause-any_moment g c =
 
 pub returns-clause-any_moment : goal.returns-clause-any_moment
 returns-clause-any_moment g c =
-    let bs = c.args.batch.now in
+    let bs = plains c.args.deeds.now in
     let r = c.requires in
     let p = c.args.journal.now in
-    let k = c.stage.ensures.batch in
+    let k = r.batch in
     let l0 = g.D.Reads.log c.args.folder.now in
     let l1 = g.D.Reads.log c.stage.new.folder in
     let s1 = told_staged bs k r.repeatable p r.journal l0 l1 r.ready c.in_ok-stage.ensures.any_moment c.in_ok-stage.ensures.staged in
@@ -156,10 +157,10 @@ returns-clause-any_moment g c =
 
 pub returns-clause-committed : goal.returns-clause-committed
 returns-clause-committed g c =
-    let bs = c.args.batch.now in
+    let bs = plains c.args.deeds.now in
     let r = c.requires in
     let p = c.args.journal.now in
-    let k = c.stage.ensures.batch in
+    let k = r.batch in
     let l0 = g.D.Reads.log c.args.folder.now in
     let l1 = g.D.Reads.log c.stage.new.folder in
     let s1 = told_staged bs k r.repeatable p r.journal l0 l1 r.ready c.in_ok-stage.ensures.any_moment c.in_ok-stage.ensures.staged in

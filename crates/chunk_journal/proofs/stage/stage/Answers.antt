@@ -2,6 +2,7 @@ use Rattle.std.proofs.Common.{◌≡◌}
 use Rattle.outside.specs.Images.{Synced, now, adds, IsSound}
 use Rattle.outside.proofs.Told.{through}
 use Rattle.deeds.specs.Grammar.{behind_gate}
+use Rattle.deeds.specs.Plain.{plains}
 use Rattle.chunk_journal.specs.Stages.{KeepsShut, HasWritten, HasStaged}
 use Rattle.chunk_journal.proofs.Gate.{both}
 use Rattle.chunk_journal.proofs.Pieces.{staged_synced, keeps_synced, front_shut, with_new}
@@ -9,7 +10,7 @@ use Rattle.chunk_journal.proofs.stage.stage.Goals as goal
 
 pub returns-clause-staged : goal.returns-clause-staged
 returns-clause-staged g c =
-    let bs = c.args.batch.now in
+    let bs = plains c.args.deeds.now in
     let l0 = g.D.Reads.log c.args.folder.now in
     let l1 = g.D.Reads.log c.write_pieces.new.folder in
     let l2 = g.D.Reads.log c.sync.new.self in
@@ -18,7 +19,7 @@ returns-clause-staged g c =
 
 pub returns-clause-any_moment : goal.returns-clause-any_moment
 returns-clause-any_moment g c =
-    let bs = c.args.batch.now in
+    let bs = plains c.args.deeds.now in
     let l0 = g.D.Reads.log c.args.folder.now in
     let l1 = g.D.Reads.log c.write_pieces.new.folder in
     let l2 = g.D.Reads.log c.sync.new.self in

@@ -8,6 +8,7 @@ use Rattle.outside.specs.Disk.{Path}
 use Rattle.outside.specs.Images.{Log, now, HasDone, HasBroken}
 use Rattle.outside.proofs.Told.{through, told_new, told_same, changed_by}
 use Rattle.deeds.specs.Grammar.{behind_gate}
+use Rattle.deeds.specs.Plain.{plains}
 use Rattle.chunk_journal.specs.Journal.{journal_file, IsReady}
 use Rattle.chunk_journal.specs.Stages.{KeepsShut, HasFront}
 use Rattle.chunk_journal.proofs.Faults.{err_cause, cause_then}
@@ -32,12 +33,12 @@ Front bs at old new = HasFront (take at bs) (now old) (now new)
 pub loop-at-init : goal.loop-at-init
 loop-at-init g c =
     let a = g.D.Reads.log c.args.folder.now in
-    let bs = behind_gate c.args.batch.now in
+    let bs = behind_gate (plains c.args.deeds.now) in
     record {
       front = told_same a a IsReady (Front bs 0) refl (λ l ready. front_begun l ready) c.requires.ready;
       keeps = told_same a a IsReady KeepsShut refl (λ l ready. pieces_begun l ready) c.requires.ready;
       within = omega arith;
-      long = omega (arith, c.byte_len-len.ensures.count);
+      long = omega (arith, c.spelled_len-len.ensures);
       later = omega arith;
     }
 
@@ -56,7 +57,7 @@ returns-in_err-write-clause-cause g c =
     let a = g.D.Reads.log c.args.folder.now in
     let b = g.D.Reads.log c.loop-at.folder in
     let at = c.loop-at.at in
-    let bs = behind_gate c.args.batch.now in
+    let bs = behind_gate (plains c.args.deeds.now) in
     let piece = take c.write_batch-n.result c.write_batch-n.new.out in
     let fb = g.D.Reads.faults c.loop-at.folder in
     let fd = g.D.Reads.faults c.write.new.self in
@@ -74,7 +75,7 @@ loop-at-preserved g c =
     let d = g.D.Reads.log c.write.new.self in
     let at = c.loop-at.at in
     let n = c.write_batch-n.result in
-    let bs = behind_gate c.args.batch.now in
+    let bs = behind_gate (plains c.args.deeds.now) in
     let room = length c.loop-at.piece in
     let piece = take n c.write_batch-n.new.out in
     let bytes = take room (drop at bs) in
@@ -93,7 +94,7 @@ loop-at-preserved g c =
 
 pub returns-clause-written : goal.returns-clause-written
 returns-clause-written g c =
-    let bs = behind_gate c.args.batch.now in
+    let bs = behind_gate (plains c.args.deeds.now) in
     let at = c.loop-at.at in
     let all : take at bs ≡ bs = take_all at bs (omega (arith, c.loop-at-test.false, c.loop-at.invariant.long)) in
     changed_by (g.D.Reads.log c.args.folder.now) (g.D.Reads.log c.loop-at.folder) (Front bs at) _ (λ old new has. subst (λ (l : List ℕ). HasFront l (now old) (now new)) all has) c.loop-at.invariant.front

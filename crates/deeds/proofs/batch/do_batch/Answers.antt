@@ -1,10 +1,9 @@
-use Rattle.std.proofs.Common.{◌≡◌, ◌++◌, List, refl, sym, subst, arith}
+use Rattle.std.proofs.Common.{◌≡◌, ◌++◌, List, refl, arith}
 use Rattle.std.proofs.lemmas.Result.{err_from_is_err_and}
-use Rattle.outside.specs.Calls.{Changes}
 use Rattle.outside.specs.Images.{Log, now, IsSteady}
 use Rattle.outside.proofs.Told.{through, changed_by, told_new, unchanged}
 use Rattle.deeds.specs.declared.phase.Phase.TheVariants as phases
-use Rattle.deeds.specs.Deeds.{PlainDeed, DoesAll, StaysAmid, of_phase, in_order, IfUnfit, IsRefusal, IsRefusedAt, AreWithin}
+use Rattle.deeds.specs.Deeds.{PlainDeed, DoesAll, StaysAmid, of_phase}
 use Rattle.deeds.specs.Plain.{plains}
 use Rattle.deeds.proofs.Doing.{does_then, stays_then, stays_front}
 use Rattle.deeds.proofs.Phases.{cause_then}
@@ -18,23 +17,23 @@ done_then : (xs ys : List PlainDeed) (a b c : Log) → Done xs a b → Done ys b
 done_then xs ys a b c first second = (second.0, does_then xs ys (now a) (now b) (now c) first.1 second.1)
 
 pub do_phase-requires-clause-within : goal.do_phase-requires-clause-within
-do_phase-requires-clause-within g c = subst AreWithin (sym c.deeds-deeds.ensures.deeds) (within_batch c.args.batch.now c.deeds-deeds.ensures.batch.each)
+do_phase-requires-clause-within g c = within_batch (plains c.args.deeds.now) c.requires.batch.each
 
 pub do_phase-requires-2-clause-within : goal.do_phase-requires-2-clause-within
-do_phase-requires-2-clause-within g c = subst AreWithin (sym c.deeds-deeds.ensures.deeds) (within_batch c.args.batch.now c.deeds-deeds.ensures.batch.each)
+do_phase-requires-2-clause-within g c = within_batch (plains c.args.deeds.now) c.requires.batch.each
 
 pub do_phase-requires-3-clause-within : goal.do_phase-requires-3-clause-within
-do_phase-requires-3-clause-within g c = subst AreWithin (sym c.deeds-deeds.ensures.deeds) (within_batch c.args.batch.now c.deeds-deeds.ensures.batch.each)
+do_phase-requires-3-clause-within g c = within_batch (plains c.args.deeds.now) c.requires.batch.each
 
 pub do_phase-requires-2-clause-steady : goal.do_phase-requires-2-clause-steady
-do_phase-requires-2-clause-steady g c = told_new (g.F.Reads.log c.args.folder.now) (g.F.Reads.log c.do_phase.new.folder) (Done (of_phase phases.Make (plains c.deeds-deeds.result.now))) IsSteady (λ old new done. done.0) c.in_ok-do_phase.ensures.done
+do_phase-requires-2-clause-steady g c = told_new (g.F.Reads.log c.args.folder.now) (g.F.Reads.log c.do_phase.new.folder) (Done (of_phase phases.Make (plains c.args.deeds.now))) IsSteady (λ old new done. done.0) c.in_ok-do_phase.ensures.done
 
 pub do_phase-requires-3-clause-steady : goal.do_phase-requires-3-clause-steady
-do_phase-requires-3-clause-steady g c = told_new (g.F.Reads.log c.do_phase.new.folder) (g.F.Reads.log c.do_phase-2.new.folder) (Done (of_phase phases.Move (plains c.deeds-deeds.result.now))) IsSteady (λ old new done. done.0) c.in_ok-do_phase-2.ensures.done
+do_phase-requires-3-clause-steady g c = told_new (g.F.Reads.log c.do_phase.new.folder) (g.F.Reads.log c.do_phase-2.new.folder) (Done (of_phase phases.Move (plains c.args.deeds.now))) IsSteady (λ old new done. done.0) c.in_ok-do_phase-2.ensures.done
 
 pub returns-clause-done : goal.returns-clause-done
 returns-clause-done g c =
-    let ds = plains c.deeds-deeds.result.now in
+    let ds = plains c.args.deeds.now in
     let a = of_phase phases.Make ds in
     let b = of_phase phases.Move ds in
     let d = of_phase phases.Remove ds in
@@ -46,12 +45,11 @@ returns-clause-done g c =
     let f2 = g.F.Reads.faults c.do_phase-2.new.folder in
     let l3 = g.F.Reads.log c.do_phase-3.new.folder in
     let f3 = g.F.Reads.faults c.do_phase-3.new.folder in
-    subst (λ (l : List PlainDeed). Changes l0 l3 (Done (in_order l))) c.deeds-deeds.ensures.deeds
-    (through l0 l2 l3 (Done (a ++ b)) (Done d) (Done (a ++ b ++ d)) (done_then (a ++ b) d) (through l0 l1 l2 (Done a) (Done b) (Done (a ++ b)) (done_then a b) c.in_ok-do_phase.ensures.done c.in_ok-do_phase-2.ensures.done) c.in_ok-do_phase-3.ensures.done)
+    through l0 l2 l3 (Done (a ++ b)) (Done d) (Done (a ++ b ++ d)) (done_then (a ++ b) d) (through l0 l1 l2 (Done a) (Done b) (Done (a ++ b)) (done_then a b) c.in_ok-do_phase.ensures.done c.in_ok-do_phase-2.ensures.done) c.in_ok-do_phase-3.ensures.done
 
 pub returns-clause-amid : goal.returns-clause-amid
 returns-clause-amid g c =
-    let ds = plains c.deeds-deeds.result.now in
+    let ds = plains c.args.deeds.now in
     let a = of_phase phases.Make ds in
     let b = of_phase phases.Move ds in
     let d = of_phase phases.Remove ds in
@@ -63,12 +61,11 @@ returns-clause-amid g c =
     let f2 = g.F.Reads.faults c.do_phase-2.new.folder in
     let l3 = g.F.Reads.log c.do_phase-3.new.folder in
     let f3 = g.F.Reads.faults c.do_phase-3.new.folder in
-    subst (λ (l : List PlainDeed). Changes l0 l3 (StaysAmid (in_order l))) c.deeds-deeds.ensures.deeds
-    (through l0 l2 l3 (StaysAmid (a ++ b)) (StaysAmid d) (StaysAmid (a ++ b ++ d)) (stays_then (a ++ b) d) (through l0 l1 l2 (StaysAmid a) (StaysAmid b) (StaysAmid (a ++ b)) (stays_then a b) c.in_ok-do_phase.ensures.amid c.in_ok-do_phase-2.ensures.amid) c.in_ok-do_phase-3.ensures.amid)
+    through l0 l2 l3 (StaysAmid (a ++ b)) (StaysAmid d) (StaysAmid (a ++ b ++ d)) (stays_then (a ++ b) d) (through l0 l1 l2 (StaysAmid a) (StaysAmid b) (StaysAmid (a ++ b)) (stays_then a b) c.in_ok-do_phase.ensures.amid c.in_ok-do_phase-2.ensures.amid) c.in_ok-do_phase-3.ensures.amid
 
 pub returns-in_err-do_phase-clause-amid : goal.returns-in_err-do_phase-clause-amid
 returns-in_err-do_phase-clause-amid g c =
-    let ds = plains c.deeds-deeds.result.now in
+    let ds = plains c.args.deeds.now in
     let a = of_phase phases.Make ds in
     let b = of_phase phases.Move ds in
     let d = of_phase phases.Remove ds in
@@ -76,12 +73,11 @@ returns-in_err-do_phase-clause-amid g c =
     let f0 = g.F.Reads.faults c.args.folder.now in
     let l1 = g.F.Reads.log c.do_phase.new.folder in
     let f1 = g.F.Reads.faults c.do_phase.new.folder in
-    subst (λ (l : List PlainDeed). Changes l0 l1 (StaysAmid (in_order l))) c.deeds-deeds.ensures.deeds
-    (changed_by l0 l1 (StaysAmid (a ++ b)) (StaysAmid (a ++ b ++ d)) (stays_front (a ++ b) d) (changed_by l0 l1 (StaysAmid a) (StaysAmid (a ++ b)) (stays_front a b) c.in_err-do_phase.ensures.amid))
+    changed_by l0 l1 (StaysAmid (a ++ b)) (StaysAmid (a ++ b ++ d)) (stays_front (a ++ b) d) (changed_by l0 l1 (StaysAmid a) (StaysAmid (a ++ b)) (stays_front a b) c.in_err-do_phase.ensures.amid)
 
 pub returns-in_err-do_phase-2-clause-amid : goal.returns-in_err-do_phase-2-clause-amid
 returns-in_err-do_phase-2-clause-amid g c =
-    let ds = plains c.deeds-deeds.result.now in
+    let ds = plains c.args.deeds.now in
     let a = of_phase phases.Make ds in
     let b = of_phase phases.Move ds in
     let d = of_phase phases.Remove ds in
@@ -91,12 +87,11 @@ returns-in_err-do_phase-2-clause-amid g c =
     let f1 = g.F.Reads.faults c.do_phase.new.folder in
     let l2 = g.F.Reads.log c.do_phase-2.new.folder in
     let f2 = g.F.Reads.faults c.do_phase-2.new.folder in
-    subst (λ (l : List PlainDeed). Changes l0 l2 (StaysAmid (in_order l))) c.deeds-deeds.ensures.deeds
-    (changed_by l0 l2 (StaysAmid (a ++ b)) (StaysAmid (a ++ b ++ d)) (stays_front (a ++ b) d) (through l0 l1 l2 (StaysAmid a) (StaysAmid b) (StaysAmid (a ++ b)) (stays_then a b) c.in_ok-do_phase.ensures.amid c.in_err-do_phase-2.ensures.amid))
+    changed_by l0 l2 (StaysAmid (a ++ b)) (StaysAmid (a ++ b ++ d)) (stays_front (a ++ b) d) (through l0 l1 l2 (StaysAmid a) (StaysAmid b) (StaysAmid (a ++ b)) (stays_then a b) c.in_ok-do_phase.ensures.amid c.in_err-do_phase-2.ensures.amid)
 
 pub returns-in_err-do_phase-3-clause-amid : goal.returns-in_err-do_phase-3-clause-amid
 returns-in_err-do_phase-3-clause-amid g c =
-    let ds = plains c.deeds-deeds.result.now in
+    let ds = plains c.args.deeds.now in
     let a = of_phase phases.Make ds in
     let b = of_phase phases.Move ds in
     let d = of_phase phases.Remove ds in
@@ -108,12 +103,11 @@ returns-in_err-do_phase-3-clause-amid g c =
     let f2 = g.F.Reads.faults c.do_phase-2.new.folder in
     let l3 = g.F.Reads.log c.do_phase-3.new.folder in
     let f3 = g.F.Reads.faults c.do_phase-3.new.folder in
-    subst (λ (l : List PlainDeed). Changes l0 l3 (StaysAmid (in_order l))) c.deeds-deeds.ensures.deeds
-    (through l0 l2 l3 (StaysAmid (a ++ b)) (StaysAmid d) (StaysAmid (a ++ b ++ d)) (stays_then (a ++ b) d) (through l0 l1 l2 (StaysAmid a) (StaysAmid b) (StaysAmid (a ++ b)) (stays_then a b) c.in_ok-do_phase.ensures.amid c.in_ok-do_phase-2.ensures.amid) c.in_err-do_phase-3.ensures.amid)
+    through l0 l2 l3 (StaysAmid (a ++ b)) (StaysAmid d) (StaysAmid (a ++ b ++ d)) (stays_then (a ++ b) d) (through l0 l1 l2 (StaysAmid a) (StaysAmid b) (StaysAmid (a ++ b)) (stays_then a b) c.in_ok-do_phase.ensures.amid c.in_ok-do_phase-2.ensures.amid) c.in_err-do_phase-3.ensures.amid
 
 pub returns-in_err-do_phase-clause-unfit : goal.returns-in_err-do_phase-clause-unfit
 returns-in_err-do_phase-clause-unfit g c =
-    let ds = plains c.deeds-deeds.result.now in
+    let ds = plains c.args.deeds.now in
     let a = of_phase phases.Make ds in
     let b = of_phase phases.Move ds in
     let d = of_phase phases.Remove ds in
@@ -122,12 +116,11 @@ returns-in_err-do_phase-clause-unfit g c =
     let l1 = g.F.Reads.log c.do_phase.new.folder in
     let f1 = g.F.Reads.faults c.do_phase.new.folder in
     let q = err_from_is_err_and c.from_residual.result c.from_residual.ensures.1 in
-    rw (q.1, q.2) (subst (λ (l : List PlainDeed). IfUnfit c.in_err-do_phase.field-0.0 (λ index. IsRefusal l0 f0 f1 (IsRefusedAt l index))) c.deeds-deeds.ensures.deeds
-    (refused_in phases.Make ds l0 l0 f0 f0 f1 c.in_err-do_phase.field-0.0 (unchanged l0 l0 (λ old new. now new ≡ now old) refl (λ l. refl)) (omega arith) c.in_err-do_phase.ensures.unfit))
+    rw (q.1, q.2) (refused_in phases.Make ds l0 l0 f0 f0 f1 c.in_err-do_phase.field-0.0 (unchanged l0 l0 (λ old new. now new ≡ now old) refl (λ l. refl)) (omega arith) c.in_err-do_phase.ensures.unfit)
 
 pub returns-in_err-do_phase-2-clause-unfit : goal.returns-in_err-do_phase-2-clause-unfit
 returns-in_err-do_phase-2-clause-unfit g c =
-    let ds = plains c.deeds-deeds.result.now in
+    let ds = plains c.args.deeds.now in
     let a = of_phase phases.Make ds in
     let b = of_phase phases.Move ds in
     let d = of_phase phases.Remove ds in
@@ -138,12 +131,11 @@ returns-in_err-do_phase-2-clause-unfit g c =
     let l2 = g.F.Reads.log c.do_phase-2.new.folder in
     let f2 = g.F.Reads.faults c.do_phase-2.new.folder in
     let q = err_from_is_err_and c.from_residual-in_err-do_phase-2.result c.from_residual-in_err-do_phase-2.ensures.1 in
-    rw (q.1, q.2) (subst (λ (l : List PlainDeed). IfUnfit c.in_err-do_phase-2.field-0.0 (λ index. IsRefusal l0 f0 f2 (IsRefusedAt l index))) c.deeds-deeds.ensures.deeds
-    (refused_in phases.Move ds l0 l1 f0 f1 f2 c.in_err-do_phase-2.field-0.0 (changed_by l0 l1 (Done a) (λ old new. DoesAll a (now old) (now new)) (λ x y k. k.1) c.in_ok-do_phase.ensures.done) (c.in_ok-do_phase.ensures.cause.later) c.in_err-do_phase-2.ensures.unfit))
+    rw (q.1, q.2) (refused_in phases.Move ds l0 l1 f0 f1 f2 c.in_err-do_phase-2.field-0.0 (changed_by l0 l1 (Done a) (λ old new. DoesAll a (now old) (now new)) (λ x y k. k.1) c.in_ok-do_phase.ensures.done) (c.in_ok-do_phase.ensures.cause.later) c.in_err-do_phase-2.ensures.unfit)
 
 pub returns-in_err-do_phase-2-clause-cause : goal.returns-in_err-do_phase-2-clause-cause
 returns-in_err-do_phase-2-clause-cause g c =
-    let ds = plains c.deeds-deeds.result.now in
+    let ds = plains c.args.deeds.now in
     let a = of_phase phases.Make ds in
     let b = of_phase phases.Move ds in
     let d = of_phase phases.Remove ds in
@@ -158,7 +150,7 @@ returns-in_err-do_phase-2-clause-cause g c =
 
 pub returns-in_err-do_phase-3-clause-unfit : goal.returns-in_err-do_phase-3-clause-unfit
 returns-in_err-do_phase-3-clause-unfit g c =
-    let ds = plains c.deeds-deeds.result.now in
+    let ds = plains c.args.deeds.now in
     let a = of_phase phases.Make ds in
     let b = of_phase phases.Move ds in
     let d = of_phase phases.Remove ds in
@@ -171,12 +163,11 @@ returns-in_err-do_phase-3-clause-unfit g c =
     let l3 = g.F.Reads.log c.do_phase-3.new.folder in
     let f3 = g.F.Reads.faults c.do_phase-3.new.folder in
     let q = err_from_is_err_and c.from_residual-in_err-do_phase-3.result c.from_residual-in_err-do_phase-3.ensures.1 in
-    rw (q.1, q.2) (subst (λ (l : List PlainDeed). IfUnfit c.in_err-do_phase-3.field-0.0 (λ index. IsRefusal l0 f0 f3 (IsRefusedAt l index))) c.deeds-deeds.ensures.deeds
-    (refused_in phases.Remove ds l0 l2 f0 f2 f3 c.in_err-do_phase-3.field-0.0 (changed_by l0 l2 (Done (a ++ b)) (λ old new. DoesAll (a ++ b) (now old) (now new)) (λ x y k. k.1) (through l0 l1 l2 (Done a) (Done b) (Done (a ++ b)) (done_then a b) c.in_ok-do_phase.ensures.done c.in_ok-do_phase-2.ensures.done)) (omega (arith, c.in_ok-do_phase.ensures.cause.later, c.in_ok-do_phase-2.ensures.cause.later)) c.in_err-do_phase-3.ensures.unfit))
+    rw (q.1, q.2) (refused_in phases.Remove ds l0 l2 f0 f2 f3 c.in_err-do_phase-3.field-0.0 (changed_by l0 l2 (Done (a ++ b)) (λ old new. DoesAll (a ++ b) (now old) (now new)) (λ x y k. k.1) (through l0 l1 l2 (Done a) (Done b) (Done (a ++ b)) (done_then a b) c.in_ok-do_phase.ensures.done c.in_ok-do_phase-2.ensures.done)) (omega (arith, c.in_ok-do_phase.ensures.cause.later, c.in_ok-do_phase-2.ensures.cause.later)) c.in_err-do_phase-3.ensures.unfit)
 
 pub returns-in_err-do_phase-3-clause-cause : goal.returns-in_err-do_phase-3-clause-cause
 returns-in_err-do_phase-3-clause-cause g c =
-    let ds = plains c.deeds-deeds.result.now in
+    let ds = plains c.args.deeds.now in
     let a = of_phase phases.Make ds in
     let b = of_phase phases.Move ds in
     let d = of_phase phases.Remove ds in

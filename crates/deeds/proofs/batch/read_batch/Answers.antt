@@ -1,8 +1,6 @@
-use Rattle.std.proofs.Common.{◌≡◌, List, ℕ, zero, suc, ◌<◌, eqb, false, length, sym, subst, arith}
+use Rattle.std.proofs.Common.{◌≡◌, ℕ, zero, suc, ◌<◌, eqb, false, length, sym, arith}
 use Rattle.std.proofs.lemmas.Bool.{eqb-true}
-use Rattle.deeds.specs.Deeds.{PlainDeed}
 use Rattle.deeds.specs.Plain.{plains}
-use Rattle.deeds.specs.Grammar.{IsBatch, spelled}
 use Rattle.deeds.proofs.BatchBytes.{short_bad, left_bad, whole_read}
 use Rattle.deeds.proofs.batch.read_batch.Goals as goal
 
@@ -20,15 +18,8 @@ returns-then-not-is_empty-clause-bad c =
     let left : 0 < length rest = absurd_or_more (length rest) (c.if-not-is_empty.ensures) in
     left_bad c.args.bytes.now c.in-Ok.found.0 c.in-Ok.found.1.now rest (plains c.in_ok-deeds.deeds.items) c.in-Ok.ensures f.0 f.1 f.2 left
 
-pub from_deeds-requires : goal.from_deeds-requires
-from_deeds-requires c =
-    let f = c.in_ok-deeds.ensures.found in
-    let rest = c.in_ok-deeds.rest.now in
-    (whole_read c.args.bytes.now c.in-Ok.found.0 c.in-Ok.found.1.now rest (plains c.in_ok-deeds.deeds.items) (λ i. omega (arith, c.type_inv.bytes i)) c.in-Ok.ensures f.0 f.1 f.2 (eqb-true _ _ (sym c.if-not-is_empty.ensures)) (omega arith)).0
-
 pub returns-clause-found : goal.returns-clause-found
 returns-clause-found c =
     let f = c.in_ok-deeds.ensures.found in
     let rest = c.in_ok-deeds.rest.now in
-    subst (λ (ds : List PlainDeed). IsBatch ds × (c.args.bytes.now ≡ spelled ds)) (sym c.from_deeds.ensures)
-    (whole_read c.args.bytes.now c.in-Ok.found.0 c.in-Ok.found.1.now rest (plains c.in_ok-deeds.deeds.items) (λ i. omega (arith, c.type_inv.bytes i)) c.in-Ok.ensures f.0 f.1 f.2 (eqb-true _ _ (sym c.if-not-is_empty.ensures)) (omega arith))
+    whole_read c.args.bytes.now c.in-Ok.found.0 c.in-Ok.found.1.now rest (plains c.in_ok-deeds.deeds.items) (λ i. omega (arith, c.type_inv.bytes i)) c.in-Ok.ensures f.0 f.1 f.2 (eqb-true _ _ (sym c.if-not-is_empty.ensures)) (omega arith)
