@@ -14,6 +14,10 @@ pub(crate) enum RowErr {
     Rows(u64),
     #[error("line {0}: {1}")]
     Unread(u64, FieldErr),
+    #[error("a list in pieces of {0} bytes doesn't give each name once and in order")]
+    Pieces(u32),
+    #[error("a list in pieces: {0}")]
+    Unlisted(FieldErr),
 }
 
 /// Why a line can't be read or its step isn't made.
