@@ -109,6 +109,14 @@ fn check_each_call<R: Threads + Wait + Sync>(
     Ok(count)
 }
 
+// How many calls a run's folder has had, where it was handed back.
+fn call_count(ran: &Ran) -> u64 {
+    match &ran.folder {
+        Some(folder) => folder.call_count(),
+        None => 0,
+    }
+}
+
 // The folder that a row begins with.
 fn first_folder(
     alloc: Global,
@@ -147,10 +155,11 @@ pub(crate) fn check_row<R: Threads + Wait + Sync>(
         *call = call.saturating_add(calls);
     }
     let ran = run_row(rt, alloc, row, folder.failing_at(failing), usize::MAX)?;
+    let end = call_count(&ran);
     let folder = check_run(alloc, parts, row, changes, ran)?;
     counts.runs = counts.runs.saturating_add(1);
     if row.each_call {
-        let count = check_each_call(rt, alloc, parts, row, calls, folder.call_count())?;
+        let count = check_each_call(rt, alloc, parts, row, calls, end)?;
         counts.faulty = counts.faulty.saturating_add(count);
     }
     Ok(folder)

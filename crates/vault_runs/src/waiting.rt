@@ -38,7 +38,7 @@ pub(crate) fn check_waiting<R: Threads + Wait + Sync>(
         rt,
         alloc,
         &words,
-        folder_of(alloc, parts, "root")?,
+        folder_of(alloc, parts, "zero-root")?,
         &mut workers,
         &mut MemSource::new(alloc, keys),
         &mut report,
