@@ -1,0 +1,146 @@
+// What folders hold, by named parts.
+
+use crate::row::{RowErr, number, path, push_bytes};
+use outside::{Folder, Kind, Reads};
+use outside_mem::MemFolder;
+use std::alloc::Global;
+use vault_path::VaultPath;
+
+/// What a part puts at a path.
+#[derive(Clone, Copy)]
+enum Thing<'a> {
+    Dir,
+    Text(&'a str),
+    Bytes(&'a str),
+    Zeros(u64),
+}
+
+// Most zeros that a part puts.
+const MOST_ZEROS: u64 = 1 << 20;
+
+/// An entry of a part, with its path as the table has it.
+#[derive(Clone, Copy)]
+struct Entry<'a> {
+    path: &'a str,
+    thing: Thing<'a>,
+}
+
+// The line's entry, where the line is of the part of this name.
+fn entry_of<'a>(line: &'a str, part: &str) -> Result<Option<Entry<'a>>, RowErr> {
+    let mut fields = line.splitn(4, ' ');
+    if fields.next() != Some(part) {
+        return Ok(None);
+    }
+    let kind = fields.next().ok_or(RowErr::Line)?;
+    let path = fields.next().ok_or(RowErr::Line)?;
+    let what = fields.next().unwrap_or("");
+    let thing = match kind {
+        "dir" => Thing::Dir,
+        "text" => Thing::Text(what),
+        "bytes" => Thing::Bytes(what),
+        "zeros" => Thing::Zeros(number(what)?.min(MOST_ZEROS)),
+        _ => return Err(RowErr::Line),
+    };
+    Ok(Some(Entry { path, thing }))
+}
+
+// The bytes of a file; None for a folder.
+fn bytes_of(alloc: Global, thing: &Thing<'_>) -> Result<Option<Vec<u8>>, RowErr> {
+    let mut bytes = Vec::new(alloc);
+    match thing {
+        Thing::Dir => return Ok(None),
+        Thing::Text(text) => bytes.extend_from_slice(text.as_bytes())?,
+        Thing::Bytes(digits) => push_bytes(alloc, &mut bytes, digits)?,
+        Thing::Zeros(count) => {
+            for _ in 0..*count {
+                bytes.push(0)?;
+            }
+        }
+    }
+    Ok(Some(bytes))
+}
+
+/// A folder of these parts, whose names have a space between each two; `-` is an empty folder.
+pub(crate) fn folder_of(alloc: Global, table: &str, parts: &str) -> Result<MemFolder, RowErr> {
+    let mut folder = MemFolder::new(alloc)?;
+    if parts == "-" {
+        return Ok(folder);
+    }
+    for part in parts.split(' ') {
+        for line in table.lines() {
+            if let Some(entry) = entry_of(line, part)? {
+                match bytes_of(alloc, &entry.thing)? {
+                    None => folder.make_dir(&path(entry.path)?)?,
+                    Some(bytes) => folder.put(&path(entry.path)?, &bytes)?,
+                }
+            }
+        }
+    }
+    folder.sync()?;
+    Ok(folder)
+}
+
+// How many entries a folder has, with those of the folders in it.
+fn count_entries(alloc: Global, folder: &mut MemFolder) -> Result<u64, RowErr> {
+    let mut count = 0u64;
+    let mut waiting = Vec::new(alloc);
+    waiting.push(VaultPath::root())?;
+    for _ in 0..u32::MAX {
+        let Some(at) = waiting.pop() else {
+            break;
+        };
+        for name in folder.list(alloc, &at)? {
+            count = count.saturating_add(1);
+            let inner = at.join(name.as_bytes()).map_err(|_| RowErr::Path)?;
+            if folder.kind(&inner)? == Some(Kind::Dir) {
+                waiting.push(inner)?;
+            }
+        }
+    }
+    Ok(count)
+}
+
+// Whether a folder has a file of these bytes at a path.
+fn has_file(
+    alloc: Global,
+    folder: &mut MemFolder,
+    at: &VaultPath,
+    bytes: &[u8],
+) -> Result<bool, RowErr> {
+    if folder.kind(at)? != Some(Kind::File(bytes.len() as u64)) {
+        return Ok(false);
+    }
+    let mut found = vec![in alloc; 0u8; bytes.len()]?;
+    folder.read(at, 0, &mut found)?;
+    Ok(found.as_slice() == bytes)
+}
+
+// Whether a folder has an entry.
+fn has_entry(alloc: Global, folder: &mut MemFolder, entry: &Entry<'_>) -> Result<bool, RowErr> {
+    let at = path(entry.path)?;
+    match bytes_of(alloc, &entry.thing)? {
+        None => Ok(folder.kind(&at)? == Some(Kind::Dir)),
+        Some(bytes) => has_file(alloc, folder, &at, &bytes),
+    }
+}
+
+/// Whether a folder has the entries of these parts, and no other.
+pub(crate) fn holds(
+    alloc: Global,
+    table: &str,
+    parts: &str,
+    folder: &mut MemFolder,
+) -> Result<bool, RowErr> {
+    let mut count = 0u64;
+    for part in parts.split(' ') {
+        for line in table.lines() {
+            if let Some(entry) = entry_of(line, part)? {
+                count = count.saturating_add(1);
+                if !has_entry(alloc, folder, &entry)? {
+                    return Ok(false);
+                }
+            }
+        }
+    }
+    Ok(count_entries(alloc, folder)? == count)
+}

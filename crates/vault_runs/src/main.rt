@@ -1,0 +1,79 @@
+//! Runs of the whole program over memory: its folder, clients, random source, secret and report.
+//!
+//! `data/parts.txt` has a line for each entry of a part of a folder: the part's name, `dir`, `text`, `bytes` or `zeros`, the path, and the text,
+//! the bytes in hexadecimal digits or their number. `data/runs.txt` has a block for each run. It begins with `run` and what it shows; then come
+//! the folder's parts (`-` for none, `=` for the folder that the run before has left), the words, the secret's lines, the workers with their
+//! clients' messages (`>` to the program, `<` to the client), which calls fail, and at the end the status, the report's lines and what the folder
+//! then holds, where it is changed. `left` is how many bytes of the secret aren't taken. With `each-call` a run is repeated with each call of the
+//! folder failing, before it does anything and after a part of it. Every other run is repeated with one byte at a time.
+//!
+//! It is printed how many runs there were, and each that differs. The status is 1 if something differs or can't be read.
+#![tactic(auto)]
+
+mod checking;
+mod folders;
+mod plan;
+mod replies;
+mod row;
+mod running;
+mod waiting;
+
+use checking::{Counts, check_row};
+use plan::read_rows;
+use std::alloc::Global;
+use std::process::ExitCode;
+use std::sync::Wait;
+use std::thread::Threads;
+use std::{fs, io};
+use waiting::check_waiting;
+
+// Runs all rows, and prints those that differ. Gives whether none does.
+fn check_all<R: Print + Threads + Wait + Sync>(
+    rt: &R,
+    alloc: Global,
+    parts: &str,
+    runs: &str,
+) -> io::Result<bool> {
+    let rows = match read_rows(alloc, runs) {
+        Ok(rows) => rows,
+        Err(error) => {
+            println!(rt; "runs: {error}")?;
+            return Ok(false);
+        }
+    };
+    let mut passed = true;
+    let mut left = None;
+    let mut counts = Counts { runs: 0, faulty: 0 };
+    for row in &rows {
+        left = match check_row(rt, alloc, parts, row, left.take(), &mut counts) {
+            Ok(folder) => Some(folder),
+            Err(error) => {
+                println!(rt; "{}: {error}", row.name)?;
+                passed = false;
+                None
+            }
+        };
+    }
+    println!(rt; "runs {}", counts.runs)?;
+    println!(rt; "runs with a call that fails {}", counts.faulty)?;
+    Ok(passed)
+}
+
+fn main(rt: HostRuntime) -> io::Result<ExitCode> {
+    let parts = fs::read_to_string(&rt, "parts.txt")?;
+    let runs = fs::read_to_string(&rt, "runs.txt")?;
+    let alloc = rt.alloc();
+    let mut passed = check_all(&rt, alloc, parts.as_str(), runs.as_str())?;
+    match check_waiting(&rt, alloc, parts.as_str()) {
+        Ok(()) => println!(rt; "clients that wait for one another 2")?,
+        Err(error) => {
+            println!(rt; "clients that wait for one another: {error}")?;
+            passed = false;
+        }
+    }
+    Ok(if passed {
+        ExitCode::SUCCESS
+    } else {
+        ExitCode::FAILURE
+    })
+}
