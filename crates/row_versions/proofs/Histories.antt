@@ -1,0 +1,116 @@
+-- Legal histories don't see versions beyond 2^32.
+use Rattle.std.proofs.Common.{◌≡◌, Bool, true, false, cond, not, ◌&&◌, [], ◌∷◌, Option, Some, None, IsNone, MatchOption, is_some, refl, sym, ap, ap₂, ◌∙◌, subst, inl, inr}
+use Rattle.std.specs.Option.{option_map, option_map_or, option_and_then}
+use Rattle.tree_model.specs.declared.refusal.Refusal.{Refusal}
+use Rattle.tree_model.specs.declared.refusal.Refusal.TheVariants as refusals
+use Rattle.tree_model.specs.Rows.{Row, Rows, row_of}
+use Rattle.tree_model.specs.Asked.{PlainRequest, look, walk, open_node, create, read, list, write, remove, stat_of, change, sync}
+use Rattle.tree_model.specs.Step.{Answer, refuses, node_of, new_name, step, early_refusal}
+use Rattle.tree_history.specs.NotBuilt.{not_built, withheld}
+use Rattle.tree_history.specs.History.{Made, answer_of, places, is_refusal, answer_in, IsTreeAnswer, rows_then, next, tally_at}
+use Rattle.row_versions.specs.Versions.{wrapped_row, wrapped, WithheldAreSame, PlacesAreSame, AnsweredInBoth, RowsThenAreSame, RowsAfterAreSame, AllAnsweredInBoth, LegalInBoth}
+use Rattle.row_versions.proofs.Pieces.{row_seen}
+use Rattle.row_versions.proofs.Steps.{steps_are_same, early_refusals_are_same}
+
+built_at : (request : PlainRequest) (row : Row) → not_built (wrapped_row row) request ≡ not_built row request
+built_at (look n) row = refl
+built_at (walk n names) row = refl
+built_at (open_node n mode) row = refl
+built_at (create n name is_dir mode) row = refl
+built_at (read n at most) row = refl
+built_at (list n after most) row = refl
+built_at (write n at bytes) row = refl
+built_at (remove n) row = refl
+built_at (stat_of n) row = refl
+built_at (change n c) row = refl
+built_at (sync n) row = refl
+
+withheld_at : (request : PlainRequest) (o : Option Row)
+    → option_and_then (λ (row : Row). not_built row request) (option_map wrapped_row o) ≡ option_and_then (λ (row : Row). not_built row request) o
+withheld_at request None = refl
+withheld_at request (Some row) = built_at request row
+
+withheld_wrapped : (rows : Rows) (request : PlainRequest) → withheld (wrapped rows) request ≡ withheld rows request
+withheld_wrapped rows request =
+    ap (λ (o : Option Row). option_and_then (λ (row : Row). not_built row request) o) (row_seen rows (node_of request)) ∙ withheld_at request (row_of rows (node_of request))
+
+pub withheld_are_same : WithheldAreSame
+withheld_are_same a b request same = sym (withheld_wrapped a request) ∙ ap (λ (rows : Rows). withheld rows request) same ∙ withheld_wrapped b request
+
+places_at : (f : Row → Bool) → ((row : Row) → f (wrapped_row row) ≡ f row) → (o : Option Row) → option_map_or f (option_map wrapped_row o) false ≡ option_map_or f o false
+places_at f alike None = refl
+places_at f alike (Some row) = alike row
+
+places_wrapped : (rows : Rows) (request : PlainRequest) → places (wrapped rows) request ≡ places rows request
+places_wrapped rows (look n) = refl
+places_wrapped rows (walk n names) = refl
+places_wrapped rows (open_node n mode) = refl
+places_wrapped rows (create n name is_dir mode) = refl
+places_wrapped rows (read n at most) = refl
+places_wrapped rows (list n after most) = refl
+places_wrapped rows (write n at bytes) = refl
+places_wrapped rows (remove n) = refl
+places_wrapped rows (stat_of n) = refl
+places_wrapped rows (change n c) =
+    ap (λ (o : Option Row). option_map_or (λ (row : Row). is_some (new_name row c)) o false) (row_seen rows n)
+    ∙ places_at (λ (row : Row). is_some (new_name row c)) (λ row. refl) (row_of rows n)
+places_wrapped rows (sync n) = refl
+
+pub places_are_same : PlacesAreSame
+places_are_same a b request same = sym (places_wrapped a request) ∙ ap (λ (rows : Rows). places rows request) same ∙ places_wrapped b request
+
+-- ---- one entry
+
+answer_same : (a b : Rows) (made : Made) → wrapped a ≡ wrapped b → answer_in a made ≡ answer_in b made
+answer_same a b made same =
+    ap₂ (λ (placing : Bool) (said : Answer). cond (placing && not (is_refusal said.reply)) (option_map_or (λ path. refuses (refusals.PlaceTaken path)) made.taken said) said)
+    (places_are_same a b made.asked.request same) (steps_are_same a b made.asked.request made.asked.second same).answer
+
+none_early : (a b : Rows) (made : Made) → wrapped a ≡ wrapped b → IsNone (early_refusal a made.asked.request) → IsNone (early_refusal b made.asked.request)
+none_early a b made same none = subst (λ (o : Option Refusal). IsNone o) (early_refusals_are_same a b made.asked.request same) none
+
+tree_answer : (a b : Rows) (made : Made) → wrapped a ≡ wrapped b → IsTreeAnswer a made → IsTreeAnswer b made
+tree_answer a b made same (inl is) = inl (is ∙ answer_same a b made same)
+tree_answer a b made same (inr (inl is)) = inr (inl (is.0, none_early a b made same is.1))
+tree_answer a b made same (inr (inr (inl is))) = inr (inr (inl (is.0, none_early a b made same is.1)))
+tree_answer a b made same (inr (inr (inr is))) =
+    inr (inr (inr (is.0, λ removed. is.1 ((steps_are_same a b made.asked.request made.asked.second same).answer ∙ removed))))
+
+answered_by : (a b : Rows) (made : Made) (o : Option Refusal) → wrapped a ≡ wrapped b → MatchOption o (IsTreeAnswer a made) (λ refusal. answer_of made ≡ refuses refusal)
+    → MatchOption o (IsTreeAnswer b made) (λ refusal. answer_of made ≡ refuses refusal)
+answered_by a b made None same is = tree_answer a b made same is
+answered_by a b made (Some refusal) same is = is
+
+pub answered_in_both : AnsweredInBoth
+answered_in_both a b made same is =
+    subst (λ (o : Option Refusal). MatchOption o (IsTreeAnswer b made) (λ refusal. answer_of made ≡ refuses refusal)) (withheld_are_same a b made.asked.request same)
+    (answered_by a b made (withheld a made.asked.request) same is)
+
+then_by : (refuses : Bool) (a b a' b' : Rows) → wrapped a ≡ wrapped b → wrapped a' ≡ wrapped b' → wrapped (cond refuses a a') ≡ wrapped (cond refuses b b')
+then_by true a b a' b' same same' = same
+then_by false a b a' b' same same' = same'
+
+pub rows_then_are_same : RowsThenAreSame
+rows_then_are_same a b made same =
+    then_by (is_refusal made.asked.reply) a b (step a made.asked.request made.asked.second).rows (step b made.asked.request made.asked.second).rows same
+    (steps_are_same a b made.asked.request made.asked.second same).rows
+
+-- ---- whole histories
+
+pub rows_after_are_same : RowsAfterAreSame
+rows_after_are_same a b [] same = same
+rows_after_are_same a b (entry ∷ entries) same =
+    rows_after_are_same (rows_then a entry.made) (rows_then b entry.made) entries (rows_then_are_same a b entry.made same)
+
+pub all_answered_in_both : AllAnsweredInBoth
+all_answered_in_both a b tally [] same are = tt
+all_answered_in_both a b tally (entry ∷ entries) same are = (
+  λ running. answered_in_both a b entry.made same (are.0 running),
+  all_answered_in_both (rows_then a entry.made) (rows_then b entry.made) (next tally entry) entries (rows_then_are_same a b entry.made same) are.1,
+)
+
+pub legal_in_both : LegalInBoth
+legal_in_both a b origin entries same legal = record {
+  caused = legal.caused;
+  answered = all_answered_in_both a b (tally_at origin) entries same legal.answered;
+}
