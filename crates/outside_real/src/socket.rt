@@ -6,12 +6,17 @@ use crate::transfer::{read_some, write_some};
 use outside::{Failed, Link, Listener};
 use std::fs::{Files, Permissions};
 use std::net::{Net, TcpListener, TcpStream};
-use std::os::unix::fs::PermissionsExt;
+use std::os::unix::fs::{FileTypeExt, PermissionsExt};
 use std::os::unix::net::{UnixListener, UnixStream};
+use std::rt::Clock;
+use std::time::Duration;
 use std::{fs, io, thread};
 
-/// How often a listener asks for the next client, where the host can't give one, as where it has no descriptor left.
-const ACCEPT_TRIES: u32 = 1000;
+/// How often a listener asks for the next client, where the host can't give one, as where it has no descriptor left: for a minute.
+const ACCEPT_TRIES: u32 = 1200;
+
+/// Milliseconds between two of these.
+const ACCEPT_PAUSE: u64 = 50;
 
 #[derive(Drop)]
 enum Wire {
@@ -40,8 +45,25 @@ fn accept(door: &Door) -> io::Result<Wire> {
     }
 }
 
+// Whether a path is a socket's file that nobody listens at. A server that was stopped leaves its own.
+fn is_left_behind<R: Files + Net>(rt: &R, path: &str) -> bool {
+    let Ok(found) = fs::symlink_metadata(rt, path) else {
+        return false;
+    };
+    if !found.file_type().is_socket() {
+        return false;
+    }
+    match UnixStream::connect(rt, path) {
+        Ok(_) => false,
+        Err(error) => error.kind() == io::ErrorKind::ConnectionRefused,
+    }
+}
+
 // Binds a new file at a path, and leaves it to its owner alone.
 fn bind_owned<R: Files + Net>(rt: &R, path: &str) -> io::Result<UnixListener> {
+    if is_left_behind(rt, path) {
+        fs::remove_file(rt, path)?;
+    }
     let listener = UnixListener::bind(rt, path)?;
     if let Err(error) = fs::set_permissions(rt, path, Permissions::from_mode(0o600)) {
         let _ = fs::remove_file(rt, path);
@@ -70,8 +92,8 @@ impl Socket {
         }
     }
 
-    /// A Unix socket at a path where nothing is yet: a new file, whose mode is 0600 as soon as it is bound. It stays there: who made it removes
-    /// it at the end.
+    /// A Unix socket at a path where nothing is yet, or a socket's file that nobody listens at: a new file, whose mode is 0600 as soon as it is
+    /// bound. It stays there: who made it removes it at the end. Where somebody listens, he is asked for one connection, which is closed at once.
     pub fn unix<R: Files + Net>(rt: &R, path: &str) -> Socket {
         match bind_owned(rt, path) {
             Ok(listener) => Socket {
@@ -140,22 +162,28 @@ impl Link for SocketLink {
 }
 
 /// Gives the clients that come to a socket, one after another, and closes each that is given back. It fails where the socket couldn't be
-/// bound, or where the host refused a client so often that it gives up.
+/// bound, or where the host has refused a client for a minute.
 #[derive(Drop)]
-pub struct SocketListen<'a> {
+pub struct SocketListen<'a, R> {
+    rt: R,
     socket: &'a Socket,
     faults: u64,
 }
 
-impl<'a> SocketListen<'a> {
-    pub fn new(socket: &'a Socket) -> SocketListen<'a>
-        ensures { ⟦<SocketListen<'a> as Listener>⟧.faults result ≡ 0 }
+impl<'a, R: Clock> SocketListen<'a, R> {
+    /// A listener at a socket, which pauses by the runtime's clock.
+    pub fn new(rt: R, socket: &'a Socket) -> SocketListen<'a, R>
+        ensures { ⟦<SocketListen<'a, R> as Listener>⟧.faults result ≡ 0 }
     {
-        SocketListen { socket, faults: 0 }
+        SocketListen {
+            rt,
+            socket,
+            faults: 0,
+        }
     }
 }
 
-impl<'a> Listener for SocketListen<'a> {
+impl<'a, R: Clock> Listener for SocketListen<'a, R> {
     type Conn = SocketLink;
 
     ghost to_come = { λ _. None };
@@ -170,7 +198,7 @@ impl<'a> Listener for SocketListen<'a> {
                 if let Ok(wire) = accept(door) {
                     return Ok(Some(SocketLink::over(wire)));
                 }
-                thread::yield_now();
+                thread::sleep(&self.rt, Duration::from_millis(ACCEPT_PAUSE));
             }
         }
         self.faults = raised(self.faults);

@@ -13,10 +13,11 @@ use outside::{Link, Listener};
 use outside_real::{Socket, SocketListen};
 use std::io::{Read, Write};
 use std::net::{Net, TcpListener, TcpStream};
+use std::rt::Clock;
 use std::thread::{Threads, join};
 
 // How many bytes the first client sends.
-fn answer(mut listen: SocketListen<'_>) -> usize {
+fn answer<R: Clock + Drop>(mut listen: SocketListen<'_, R>) -> usize {
     let Ok(Some(mut link)) = listen.next() else {
         return 0;
     };
@@ -40,11 +41,11 @@ fn greet<R: Net<Listener = TcpListener, Stream = TcpStream>>(rt: &R, port: u16) 
 }
 
 /// A client greets, and is answered: how many bytes came each way.
-pub fn meet<R: Net<Listener = TcpListener, Stream = TcpStream> + Threads + Sync>(
+pub fn meet<R: Clock + Net<Listener = TcpListener, Stream = TcpStream> + Threads + Sync>(
     rt: &R,
     socket: &Socket,
     port: u16,
 ) -> (usize, usize) {
-    let listen = SocketListen::new(socket);
+    let listen = SocketListen::new(rt, socket);
     join(rt, move || answer(listen), move || greet(rt, port))
 }

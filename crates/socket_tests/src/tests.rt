@@ -13,6 +13,6 @@ fn a_client_greets_and_is_answered(rt: HostRuntime) {
 #[test]
 fn a_socket_that_could_not_be_bound_fails(rt: HostRuntime) {
     let socket = Socket::tcp(&rt, "no port");
-    let mut listen = SocketListen::new(&socket);
+    let mut listen = SocketListen::new(&rt, &socket);
     assert!(rt; listen.next().is_err());
 }

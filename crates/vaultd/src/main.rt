@@ -88,18 +88,18 @@ impl Gate for OpenGate {
 }
 
 // So many workers, each with a listener at a socket.
-fn workers_at<'a, 's, R: Files + AllocGlobal>(
+fn workers_at<'a, 's, R: Clock + Files + AllocGlobal>(
     rt: &'a R,
     socket: &'s Socket,
     count: u64,
-) -> Result<Vec<Worker<SocketListen<'s>, OsEntropy<&'a R>>>, AllocError>
+) -> Result<Vec<Worker<SocketListen<'s, &'a R>, OsEntropy<&'a R>>>, AllocError>
     requires { (1 ≤ count) × (count ≤ 64) }
     ensures { IfOk result (λ workers. vec_len workers ≡ count) }
 {
     let mut workers = Vec::new(rt.alloc());
     for _ in 0..count {
         workers.push(Worker {
-            listener: SocketListen::new(socket),
+            listener: SocketListen::new(rt, socket),
             entropy: OsEntropy::new(rt),
         })?;
     }
@@ -164,7 +164,7 @@ where
     requires { (1 ≤ at_once) × (at_once ≤ 64) }
     ensures { IfOk result (IsRunOf
         (views_of ⟦<HostFolder<&'a R> as Reads>⟧.log ⟦<HostFolder<&'a R> as Reads>⟧.faults ⟦<HostFolder<&'a R> as Reads>⟧.changes
-        ⟦<SocketListen<'s> as Listener>⟧.to_come ⟦<SocketListen<'s> as Listener>⟧.given_back ⟦<SocketListen<'s> as Listener>⟧.faults
+        ⟦<SocketListen<'s, &'a R> as Listener>⟧.to_come ⟦<SocketListen<'s, &'a R> as Listener>⟧.given_back ⟦<SocketListen<'s, &'a R> as Listener>⟧.faults
         ⟦<SocketLink as Link>⟧.left ⟦<SocketLink as Link>⟧.taken ⟦<SocketLink as Link>⟧.read_faults ⟦<SocketLink as Link>⟧.write_faults
         ⟦<OsEntropy<&'a R> as Entropy>⟧.drawn ⟦<OsEntropy<&'a R> as Entropy>⟧.faults)
         base_of (sink_view O.taken O.faults) (words_of words.now) path.now) }
@@ -235,7 +235,7 @@ where
         ⟦<HostLink<&'a R> as Link>⟧.left ⟦<HostLink<&'a R> as Link>⟧.taken ⟦<HostLink<&'a R> as Link>⟧.read_faults ⟦<HostLink<&'a R> as Link>⟧.write_faults
         ⟦<OsEntropy<&'a R> as Entropy>⟧.drawn ⟦<OsEntropy<&'a R> as Entropy>⟧.faults)
         (views_of ⟦<HostFolder<&'a R> as Reads>⟧.log ⟦<HostFolder<&'a R> as Reads>⟧.faults ⟦<HostFolder<&'a R> as Reads>⟧.changes
-        ⟦<SocketListen<'static> as Listener>⟧.to_come ⟦<SocketListen<'static> as Listener>⟧.given_back ⟦<SocketListen<'static> as Listener>⟧.faults
+        ⟦<SocketListen<'static, &'a R> as Listener>⟧.to_come ⟦<SocketListen<'static, &'a R> as Listener>⟧.given_back ⟦<SocketListen<'static, &'a R> as Listener>⟧.faults
         ⟦<SocketLink as Link>⟧.left ⟦<SocketLink as Link>⟧.taken ⟦<SocketLink as Link>⟧.read_faults ⟦<SocketLink as Link>⟧.write_faults
         ⟦<OsEntropy<&'a R> as Entropy>⟧.drawn ⟦<OsEntropy<&'a R> as Entropy>⟧.faults)
         base_of (sink_view ⟦<NullSink as Sink>⟧.taken ⟦<NullSink as Sink>⟧.faults)
