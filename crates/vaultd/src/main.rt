@@ -192,7 +192,7 @@ fn behind_name(args: &[String]) -> &[String]
     &args[args.len().min(1)..]
 }
 
-// The socket at an address: `unix:` and a path where nothing is yet, or HOST:PORT.
+// The socket at an address: `unix:` and a path where nothing is, or a socket that nobody listens at, or HOST:PORT.
 fn socket_at<R: Files + Net<Listener = TcpListener, Stream = TcpStream>>(
     rt: &R,
     address: &str,
