@@ -88,13 +88,13 @@ opening old mid new settled untouched stays =
       stays = subst (λ (l : Log). (deeds : List PlainDeed) → IsRepeatable deeds → IsFound deeds l → StaysRecovered deeds l new) e stays;
     }
 
-pub unopened : (old mid new : Log) → HasSettled old mid → new ≡ mid → StaysOpening old new
-unopened old mid new settled same = inr (opening old mid new settled (λ none. same) (λ deeds repeatable found. subst (StaysRecovered deeds mid) (sym same) (found_stays deeds mid found)))
+pub unopened : (old mid new : Log) → HasSettled old mid → new ≡ mid → IsOpening old new
+unopened old mid new settled same = opening old mid new settled (λ none. same) (λ deeds repeatable found. subst (StaysRecovered deeds mid) (sym same) (found_stays deeds mid found))
 
-pub reopened : (bs : List PlainDeed) (old mid new : Log) → HasSettled old mid → IsFound bs mid → (IsRepeatable bs → StaysRecovered bs mid new) → StaysOpening old new
-reopened bs old mid new settled found stays = inr (opening old mid new settled (λ none. absurd (none bs found)) (λ deeds repeatable other.
+pub reopened : (bs : List PlainDeed) (old mid new : Log) → HasSettled old mid → IsFound bs mid → (IsRepeatable bs → StaysRecovered bs mid new) → IsOpening old new
+reopened bs old mid new settled found stays = opening old mid new settled (λ none. absurd (none bs found)) (λ deeds repeatable other.
     let same : bs ≡ deeds = one_held (now mid) bs deeds found.open_gate other.open_gate in
-    subst (λ (ds : List PlainDeed). StaysRecovered ds mid new) same (stays (subst IsRepeatable (sym same) repeatable))))
+    subst (λ (ds : List PlainDeed). StaysRecovered ds mid new) same (stays (subst IsRepeatable (sym same) repeatable)))
 
 now_settled : (old mid : Log) → HasSettled old mid → now mid ≡ now old
 now_settled old mid settled = ap now settled.is
@@ -156,7 +156,7 @@ pub redone_damage : (bs : List PlainDeed) (at : ℕ) (old mid : Log) → HasSett
 redone_damage bs at old mid settled finds (inl unfit) = inl (damaged_first at old mid settled (inr (unfit_bad bs at (now mid) finds.1 finds.0 unfit)))
 redone_damage bs at old mid settled finds (inr leaves) = inr (subst (λ (d : Disk). LeavesFolder d at) (now_settled old mid settled) leaves)
 
-pub reopened_by : (bs : List PlainDeed) (old mid new : Log) → HasSettled old mid × Finds bs mid → (IsRepeatable bs → StaysRecovered bs mid new) → StaysOpening old new
+pub reopened_by : (bs : List PlainDeed) (old mid new : Log) → HasSettled old mid × Finds bs mid → (IsRepeatable bs → StaysRecovered bs mid new) → IsOpening old new
 reopened_by bs old mid new p stays = reopened bs old mid new p.0 (found_mid bs mid p.0.steady p.1.1 p.1.0) stays
 
 pub opened_by : (bs : List PlainDeed) (old mid new : Log) → HasSettled old mid × Finds bs mid → HasRedone bs mid new → HasOpened old new

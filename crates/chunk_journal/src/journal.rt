@@ -6,7 +6,7 @@ ghost use Rattle.deeds.specs.Deeds.{DoesAll, in_order};
 ghost use Rattle.deeds.specs.Grammar.{IsBatch};
 ghost use Rattle.deeds.specs.Plain.{plains};
 ghost use Rattle.chunk_journal.specs.Journal.{IsQuiet, IsRepeatable, AnyMoment, HasCommitted};
-ghost use Rattle.chunk_journal.specs.Opening.{IsDamagedAt, LeavesFolder, IfDamaged, StaysOpening, HasOpened};
+ghost use Rattle.chunk_journal.specs.Opening.{IsDamagedAt, LeavesFolder, IfDamaged, IsOpening, StaysOpening, HasOpened};
 ghost use Rattle.chunk_journal.specs.declared.fault.JournalErr.TheVariants as journal_errs;
 
 use crate::fault::{Device, JournalErr};
@@ -56,7 +56,7 @@ impl<D: Folder> Journal<D> {
     /// refusal hands the folder back.
     pub fn open(alloc: Global, mut folder: D) -> Result<Journal<D>, Refused<D, JournalErr>>
         ensures opened { IfOk result (λ journal. Changes (D.log folder) (D.log journal) HasOpened) }
-        ensures any_moment { IfOk result (λ journal. Changes (D.log folder) (D.log journal) StaysOpening) }
+        ensures any_moment { IfOk result (λ journal. Changes (D.log folder) (D.log journal) IsOpening) }
         ensures refused { IfErr result (λ refused. Changes (D.log folder) (D.log refused.folder) StaysOpening) }
         ensures damaged { IfErr result (λ refused. IfDamaged refused.cause
             (λ at. Told (D.log folder) (λ log. IsDamagedAt (now log) at ⊎ LeavesFolder (now log) at))) }

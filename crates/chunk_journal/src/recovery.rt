@@ -97,6 +97,7 @@ fn redo<D: Folder>(
 /// Recovers a folder: what stands behind an open gate is done, and the gate is closed.
 pub fn recover<D: Folder>(alloc: Global, folder: &mut D) -> Result<(), JournalErr>
     ensures opened { OnOk result (Changes (D.log folder.old) (D.log folder.new) HasOpened) }
+    ensures opening { OnOk result (Changes (D.log folder.old) (D.log folder.new) IsOpening) }
     ensures any_moment { Changes (D.log folder.old) (D.log folder.new) StaysOpening }
     ensures damaged { IfErr result (λ error. IfDamaged error (λ at. Told (D.log folder.old) (λ log. IsDamagedAt (now log) at ⊎ LeavesFolder (now log) at))) }
     ensures cause { HasCause (D.faults folder.old) (D.faults folder.new) (IsErrOf result JournalErr.Device) }

@@ -1,4 +1,4 @@
-use Rattle.std.proofs.Common.{◌⊎◌, List, Option, None, refl, sym, subst}
+use Rattle.std.proofs.Common.{◌⊎◌, List, Option, None, refl, sym, subst, inr}
 use Rattle.std.specs.Prelude.{MatchOption}
 use Rattle.std.specs.declared.vec.Vec.{Vec}
 use Rattle.std.specs.declared.alloc.Global.{Global}
@@ -10,7 +10,7 @@ use Rattle.deeds.specs.Deeds.{PlainDeed}
 use Rattle.deeds.specs.Plain.{plains}
 use Rattle.deeds.specs.declared.deed.Deed.{Deed}
 use Rattle.chunk_journal.specs.Journal.{HoldsBatch, IsRepeatable, IsClosed, StaysRecovered}
-use Rattle.chunk_journal.specs.Opening.{HasFolder, IsUnfitAt, IsDamagedAt, LeavesFolder, StaysOpening, HasOpened}
+use Rattle.chunk_journal.specs.Opening.{HasFolder, IsUnfitAt, IsDamagedAt, LeavesFolder, IsOpening, StaysOpening, HasOpened}
 use Rattle.chunk_journal.proofs.Pieces.{with_new}
 use Rattle.chunk_journal.proofs.Openings.{damaged_by, told_earlier, told_settled, unopened, Finds, HasSettled, HasRedone, reopened_by, opened_by, opened_closed, redone_damage}
 use Rattle.chunk_journal.proofs.recovery.recover.Goals as goal
@@ -27,7 +27,7 @@ returns-in_err-deeds-clause-any_moment g c =
     let l0 = g.D.Reads.log c.args.folder.now in
     let l1 = g.D.Reads.log c.settle.new.folder in
     let s = told_settled l0 l1 c.in_ok-settle.ensures.synced c.in_ok-settle.ensures.steady c.in_ok-settle.ensures.any_moment in
-    subst (λ (o : Option Log). Changes l0 o StaysOpening) (sym c.in_err-deeds.ensures.log) (changed_by l0 l1 HasSettled StaysOpening (λ x y p. unopened x y y p refl) s)
+    subst (λ (o : Option Log). Changes l0 o StaysOpening) (sym c.in_err-deeds.ensures.log) (changed_by l0 l1 HasSettled StaysOpening (λ x y p. inr (unopened x y y p refl)) s)
 
 pub returns-in_default-clause-opened : goal.returns-in_default-clause-opened
 returns-in_default-clause-opened g c =
@@ -38,12 +38,19 @@ returns-in_default-clause-opened g c =
     subst (λ (o : Option Log). Changes l0 o HasOpened) (sym c.open_batch.ensures.log)
     (changed_by l0 l1 (λ x y. HasSettled x y × Looks None y) HasOpened (λ x y p. opened_closed x y y p.0 p.1.1 p.1.0 refl) (with_new l0 l1 HasSettled (Looks None) s found))
 
+pub returns-in_default-clause-opening : goal.returns-in_default-clause-opening
+returns-in_default-clause-opening g c =
+    let l0 = g.D.Reads.log c.args.folder.now in
+    let l1 = g.D.Reads.log c.settle.new.folder in
+    let s = told_settled l0 l1 c.in_ok-settle.ensures.synced c.in_ok-settle.ensures.steady c.in_ok-settle.ensures.any_moment in
+    subst (λ (o : Option Log). Changes l0 o IsOpening) (sym c.open_batch.ensures.log) (changed_by l0 l1 HasSettled IsOpening (λ x y p. unopened x y y p refl) s)
+
 pub returns-in_default-clause-any_moment : goal.returns-in_default-clause-any_moment
 returns-in_default-clause-any_moment g c =
     let l0 = g.D.Reads.log c.args.folder.now in
     let l1 = g.D.Reads.log c.settle.new.folder in
     let s = told_settled l0 l1 c.in_ok-settle.ensures.synced c.in_ok-settle.ensures.steady c.in_ok-settle.ensures.any_moment in
-    subst (λ (o : Option Log). Changes l0 o StaysOpening) (sym c.open_batch.ensures.log) (changed_by l0 l1 HasSettled StaysOpening (λ x y p. unopened x y y p refl) s)
+    subst (λ (o : Option Log). Changes l0 o StaysOpening) (sym c.open_batch.ensures.log) (changed_by l0 l1 HasSettled StaysOpening (λ x y p. inr (unopened x y y p refl)) s)
 
 pub returns-in_err-redo-clause-any_moment : goal.returns-in_err-redo-clause-any_moment
 returns-in_err-redo-clause-any_moment g c =
@@ -53,7 +60,7 @@ returns-in_err-redo-clause-any_moment g c =
     let l3 = g.D.Reads.log c.redo.new.folder in
     let s = told_settled l0 l1 c.in_ok-settle.ensures.synced c.in_ok-settle.ensures.steady c.in_ok-settle.ensures.any_moment in
     let found : Told l1 (Finds bs) = subst (λ (o : Option (Vec Deed Global)). Told l1 (Looks o)) c.in-Some.is c.in_ok-deeds.ensures.found in
-    through l0 l1 l3 (λ x y. HasSettled x y × Finds bs y) (Stays bs) StaysOpening (reopened_by bs) (with_new l0 l1 HasSettled (Finds bs) s found)
+    through l0 l1 l3 (λ x y. HasSettled x y × Finds bs y) (Stays bs) StaysOpening (λ x y z p q. inr (reopened_by bs x y z p q)) (with_new l0 l1 HasSettled (Finds bs) s found)
     (subst (λ (o : Option Log). Changes o l3 (Stays bs)) c.open_batch.ensures.log
     (subst (λ (ds : List Deed). Changes (g.D.Reads.log c.open_batch.new.folder) l3 (Stays (plains ds))) c.deref.ensures.value c.in_err-redo.ensures.any_moment))
 
@@ -83,6 +90,18 @@ returns-clause-opened g c =
     (subst (λ (o : Option Log). Changes o l3 (HasRedone bs)) c.open_batch.ensures.log
     (subst (λ (ds : List Deed). Changes (g.D.Reads.log c.open_batch.new.folder) l3 (HasRedone (plains ds))) c.deref.ensures.value c.in_ok-redo.ensures.redone))
 
+pub returns-clause-opening : goal.returns-clause-opening
+returns-clause-opening g c =
+    let bs = plains c.in-Some.deeds.items in
+    let l0 = g.D.Reads.log c.args.folder.now in
+    let l1 = g.D.Reads.log c.settle.new.folder in
+    let l3 = g.D.Reads.log c.redo.new.folder in
+    let s = told_settled l0 l1 c.in_ok-settle.ensures.synced c.in_ok-settle.ensures.steady c.in_ok-settle.ensures.any_moment in
+    let found : Told l1 (Finds bs) = subst (λ (o : Option (Vec Deed Global)). Told l1 (Looks o)) c.in-Some.is c.in_ok-deeds.ensures.found in
+    through l0 l1 l3 (λ x y. HasSettled x y × Finds bs y) (Stays bs) IsOpening (reopened_by bs) (with_new l0 l1 HasSettled (Finds bs) s found)
+    (subst (λ (o : Option Log). Changes o l3 (Stays bs)) c.open_batch.ensures.log
+    (subst (λ (ds : List Deed). Changes (g.D.Reads.log c.open_batch.new.folder) l3 (Stays (plains ds))) c.deref.ensures.value c.in_ok-redo.ensures.any_moment))
+
 pub returns-clause-any_moment : goal.returns-clause-any_moment
 returns-clause-any_moment g c =
     let bs = plains c.in-Some.deeds.items in
@@ -91,6 +110,6 @@ returns-clause-any_moment g c =
     let l3 = g.D.Reads.log c.redo.new.folder in
     let s = told_settled l0 l1 c.in_ok-settle.ensures.synced c.in_ok-settle.ensures.steady c.in_ok-settle.ensures.any_moment in
     let found : Told l1 (Finds bs) = subst (λ (o : Option (Vec Deed Global)). Told l1 (Looks o)) c.in-Some.is c.in_ok-deeds.ensures.found in
-    through l0 l1 l3 (λ x y. HasSettled x y × Finds bs y) (Stays bs) StaysOpening (reopened_by bs) (with_new l0 l1 HasSettled (Finds bs) s found)
+    through l0 l1 l3 (λ x y. HasSettled x y × Finds bs y) (Stays bs) StaysOpening (λ x y z p q. inr (reopened_by bs x y z p q)) (with_new l0 l1 HasSettled (Finds bs) s found)
     (subst (λ (o : Option Log). Changes o l3 (Stays bs)) c.open_batch.ensures.log
     (subst (λ (ds : List Deed). Changes (g.D.Reads.log c.open_batch.new.folder) l3 (Stays (plains ds))) c.deref.ensures.value c.in_ok-redo.ensures.any_moment))
