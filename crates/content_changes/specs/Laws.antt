@@ -1,8 +1,8 @@
 -- What writing and resizing make of a host file's content, in the words of the laws.
-use Rattle.std.specs.Prelude.{◌≡◌, ◌⊎◌, ⊤, ℕ, ◌+◌, ◌-◌, ◌*◌, ◌/◌, ◌≤◌, ◌<◌, min, max, List, [], ◌∷◌, length, take, Option, Some, None}
+use Rattle.std.specs.Prelude.{◌≡◌, ◌⊎◌, ⊤, ℕ, ◌+◌, ◌-◌, ◌*◌, ◌/◌, ◌≤◌, ◌<◌, min, max, List, [], ◌∷◌, ◌++◌, length, take, drop, replicate, Option, Some, None}
 use Rattle.std.specs.Int.{div_ceil}
 use Rattle.siv_mode.specs.Keys.{KeyPair}
-use Rattle.tree_model.specs.Rows.{Cell, good, Content, joined}
+use Rattle.tree_model.specs.Rows.{good, Content, joined}
 use Rattle.tree_model.specs.Contents.{spliced, sealed_chunk}
 use Rattle.file_chunks.specs.Header.{Head, header_opens}
 use Rattle.file_chunks.specs.File.{IsKey, clear_length, content_of}
@@ -50,3 +50,16 @@ pub record IsRewritten (keys : KeyPair) (bytes : List ℕ) (r : Rewriting) (chan
 -- a cut to n bytes: at a border of chunks none is sealed anew, else the one that it goes through
 abbrev pub cut_by : ℕ → List (List ℕ) → Rewriting
 cut_by n sealed = record { first = n / CHUNK_LENGTH; sealed = sealed; size = sealed_size n }
+
+-- what a chunk holds after bytes are written over its old ones from an offset on, a gap being filled with zeros; no more than a chunk
+abbrev pub patched : List ℕ → ℕ → List ℕ → List ℕ
+patched old at input = take CHUNK_LENGTH (take at (old ++ replicate (at - length old) 0) ++ input ++ drop (at + length input) old)
+
+-- what a write makes of the chunk of an index, by its old plaintext: where in the chunk it begins, and what of its bytes comes there
+abbrev pub patched_at : ℕ → List ℕ → ℕ → List ℕ → List ℕ
+patched_at index old at input = patched old (at - CHUNK_LENGTH * index) (drop (CHUNK_LENGTH * index - at) input)
+
+-- a write keeps a byte of the chunk of an index of a content of n bytes: one before its own, or one behind
+abbrev pub IsPartlyKept : ℕ → ℕ → ℕ → ℕ → Type 0
+IsPartlyKept n at count index =
+    (CHUNK_LENGTH * index < min at n) ⊎ (at + count < min n (CHUNK_LENGTH * (index + 1)))
