@@ -1,0 +1,9 @@
+//! What sealing chunks anew makes of a content file, by laws on the host file's bytes. Functions
+//! are laws: they do nothing, and their clauses hold.
+#![tactic(auto)]
+
+mod changing;
+mod chunks;
+
+pub use changing::{resized_content, sealed_sizes, unopened_content, written_content};
+pub use chunks::{cut_chunk, written_chunk};
