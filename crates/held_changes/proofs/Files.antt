@@ -3,21 +3,22 @@ use Rattle.std.proofs.Common.{◌≡◌, ◌≢◌, ◌↔◌, ℕ, Bool, true, 
 use Rattle.std.specs.FinMap.{get}
 use Rattle.std.specs.Option.{option_and_then}
 use Rattle.outside.specs.Disk.{Disk, Node as Thing, node_at as thing_at, file as host_file}
-use Rattle.tree_model.specs.Rows.{Content, root}
-use Rattle.clear_tree.specs.Walk.{Path, Sealing, Kind, Plain, Linked, Node, File, Link, Dir, Bad, node_at}
+use Rattle.tree_model.specs.Rows.{Content}
+use Rattle.clear_tree.specs.Walk.{Path, Sealing, Kind, Bare, Node, File, Link, Dir, Bad, look, node, node_at}
 use Rattle.clear_tree.specs.Places.{folders_of, host_inner, seen_at, entry_at, entry_of, text_symlink}
 use Rattle.clear_tree.specs.Rows.{content_in}
-use Rattle.clear_tree.specs.Kept.{What, KeptNode, is_absent, file_path, path_in, size_in, folder_in, what_of, content_of, HasHostFile}
+use Rattle.clear_tree.specs.Kept.{What, is_absent, file_path, path_in, size_in, folder_in, what_of, content_of, HasHostFile}
 use Rattle.clear_tree.proofs.Found.{file_there, link_there, look_seen}
 use Rattle.tree_changes.specs.Trees.{Tree, IsTreeOf}
-use Rattle.tree_changes.specs.Deeds.{Place, place_of}
+use Rattle.tree_changes.specs.Deeds.{place_of}
 use Rattle.tree_changes.proofs.Seeing.{node_kind, some_there}
 use Rattle.tree_changes.proofs.Exact.{parent_there}
 use Rattle.tree_changes.proofs.Standing.{kind_of_file, kind_of_link}
 use Rattle.tree_changes.proofs.Held.{entries_are_of_places}
-use Rattle.live_tree.specs.Held.{HeldNode, HeldTree, node_of, path_of, size_of, parent_folder, IsNamed}
-use Rattle.held_changes.specs.Holds.{IsAt, IsHeldAs, IsHeldPlace, HoldsAt, Holds, AreHeldContents}
+use Rattle.live_tree.specs.Held.{HeldNode, HeldTree, node_of, path_of, size_of, parent_folder}
+use Rattle.held_changes.specs.Holds.{IsAt, IsHeldAs, IsHeldPlace, Holds, AreHeldContents}
 use Rattle.held_changes.specs.Found.{bytes_in, IsHostFile, HasBytes, NodesHaveBytes, IsOfNode, PathsAreOfNodes, AreLiveContents, ContentsAreHeld, PlacesAreHeld}
+use Rattle.held_changes.specs.Writing.{file_at, FilesStandAtPlaces}
 use Rattle.held_changes.proofs.Paths.{one_held}
 use Rattle.held_changes.proofs.Keeping.{one_node}
 use Rattle.held_changes.proofs.Numbers.{reached}
@@ -86,7 +87,7 @@ module _ (s : Sealing) (d : Disk) (tree : Tree) (live : HeldTree) (is : IsTreeOf
     long_is : held.kept.long ≡ is_absent (entry_at s d F X)
     long_is = place.long ∙ is_long (tree.long (n ∷ q)) (entry_at s d F X) (is.placed n q i x dir_at stands)
 
-    kind : (k : Kind) × (Rattle.clear_tree.specs.Walk.look s (folders_of s d) i n ≡ Some k) × (k ≢ Rattle.clear_tree.specs.Walk.Bare) × (Rattle.clear_tree.specs.Walk.node s (folders_of s d) is.owner (n ∷ q) (Some k) ≡ Some x)
+    kind : (k : Kind) × (look s (folders_of s d) i n ≡ Some k) × (k ≢ Bare) × (node s (folders_of s d) is.owner (n ∷ q) (Some k) ≡ Some x)
     kind = node_kind s (folders_of s d) is.owner q i n x (sym (is.exact q) ∙ dir_at) (sym (is.exact (n ∷ q)) ∙ stands)
 
     seen : seen_at s d F X ≡ Some kind.0
@@ -168,23 +169,39 @@ module _ (s : Sealing) (d : Disk) (tree : Tree) (live : HeldTree) (is : IsTreeOf
       let none : path_of live number ≡ None = ap (option_and_then (λ (node : HeldNode). option_and_then (path_in node.kept node.kept.what) (parent_folder live node.kept))) e in absurd cc
   number_held number path (Some held) e h = (held, e)
 
+  one_host_path : (number : ℕ) (a b : List (List ℕ)) → path_of live number ≡ Some a → path_of live number ≡ Some b → a ≡ b
+  one_host_path number a b h g = let w : ◌≡◌ {A = Option (List (List ℕ))} (Some a) (Some b) = sym h ∙ g in cc
+
+  node_from : (number : ℕ) (path : List (List ℕ)) (p : Path) (x : Node) (b : List ℕ) → IsAt live p number → get tree.nodes p ≡ Some x → bytes_in x ≡ Some b → path_of live number ≡ Some path
+      → HasBytes d live number b → IsOfNode d tree live number path
+  node_from number path p x b at stands has h file = record {
+    at_path = p;
+    at = at;
+    node = x;
+    stands = stands;
+    bytes = b;
+    has = has;
+    file = subst (λ (z : List (List ℕ)). IsHostFile d live number z b) (one_host_path number file.path path file.file.is h) file.file;
+  }
+
   of_node : (number : ℕ) (path : List (List ℕ)) → path_of live number ≡ Some path → IsOfNode d tree live number path
   of_node number path h =
       let held = number_held number path (node_of live number) refl h in
       let p = reached live holds.is_tree number held.0 held.1 in
       let has = path_bytes p.0 number path p.1 h in
-      let file = bytes_at p.0 number has.0 has.2 p.1 has.1 has.3 in
-      let w : ◌≡◌ {A = Option (List (List ℕ))} (Some file.path) (Some path) = sym file.file.is ∙ h in
-      let same : file.path ≡ path = cc in
-      record {
-        at_path = p.0;
-        at = p.1;
-        node = has.0;
-        stands = has.1;
-        bytes = has.2;
-        has = has.3;
-        file = subst (λ (z : List (List ℕ)). IsHostFile d live number z has.2) same file.file;
-      }
+      node_from number path p.0 has.0 has.2 p.1 has.1 has.3 h (bytes_at p.0 number has.0 has.2 p.1 has.1 has.3)
+
+  -- the path of a file's host file is that of its place
+  files_at : (p : Path) (number : ℕ) (i n b : List ℕ) → IsAt live (n ∷ p) number → get tree.nodes p ≡ Some (Dir i) → get tree.nodes (n ∷ p) ≡ Some (File b)
+      → path_of live number ≡ Some (file_at (place_of s i n (tree.long (n ∷ p))))
+  files_at p number i n b at dir stands =
+      let it = holds.nodes_of (n ∷ p) number at in
+      let above = above_there n p number it.held at it.there in
+      let same : it.node ≡ File b = one_node tree (n ∷ p) it.node (File b) it.at stands in
+      let place : IsHeldPlace (place_of s i n (tree.long (n ∷ p))) it.held = it.is.place i dir in
+      path_is n p i number it.held above.0 it.node at dir it.at it.there above.1 it.is
+      ∙ ap (λ (w : What). path_in it.held.kept w (s.folder_of i)) (it.is.what ∙ ap (what_of s) same)
+      ∙ ap₂ (λ (l : Bool) (e : List ℕ). Some (file_path l (s.folder_of i) e)) place.long place.entry
 
   -- ---- contents
   module _ (contents : ℕ → Content) where
@@ -197,17 +214,21 @@ module _ (s : Sealing) (d : Disk) (tree : Tree) (live : HeldTree) (is : IsTreeOf
     same_bytes : (o : Option Thing) (a b : List ℕ) → o ≡ Some (host_file a) → o ≡ Some (host_file b) → a ≡ b
     same_bytes o a b h g = cc
 
+    one_length : (o : Option ℕ) (a b : ℕ) → o ≡ Some a → o ≡ Some b → a ≡ b
+    one_length o a b h g = cc
+
+    content_by : (number : ℕ) (path : List (List ℕ)) → AreHeldContents s tree live contents → IsOfNode d tree live number path → HasHostFile s d contents number path
+    content_by number path are it =
+        record { bytes = it.bytes; there = it.file.there; content = content_from it.node it.bytes (contents number) it.has (are it.at_path number it.node it.at it.stands) }
+
+    size_by : (number size : ℕ) (path : List (List ℕ)) (bytes : List ℕ) → IsOfNode d tree live number path → size_of live number ≡ Some size → thing_at d path ≡ Some (host_file bytes) → length bytes ≡ size
+    size_by number size path bytes it g there =
+        ap length (same_bytes (thing_at d path) bytes it.bytes there it.file.there) ∙ one_length (size_of live number) (length it.bytes) size it.file.size g
+
     to_live : AreHeldContents s tree live contents → AreLiveContents s d live contents
     to_live are = record {
-      files = λ number path h.
-          let it = of_node number path h in
-          record { bytes = it.bytes; there = it.file.there; content = content_from it.node it.bytes (contents number) it.has (are it.at_path number it.node it.at it.stands) };
-      sizes = λ number size path bytes h g there.
-          let it = of_node number path h in
-          let same : bytes ≡ it.bytes = same_bytes (thing_at d path) bytes it.bytes there it.file.there in
-          let w : ◌≡◌ {A = Option ℕ} (Some (length it.bytes)) (Some size) = sym it.file.size ∙ g in
-          let long : length it.bytes ≡ size = cc in
-          ap length same ∙ long;
+      files = λ number path h. content_by number path are (of_node number path h);
+      sizes = λ number size path bytes h g there. size_by number size path bytes (of_node number path h) g there;
     }
 
     by_bytes : (p : Path) (number : ℕ) (x : Node) (b : List ℕ) → AreLiveContents s d live contents → IsAt live p number → get tree.nodes p ≡ Some x → bytes_in x ≡ Some b → contents number ≡ s.content b
@@ -231,3 +252,6 @@ paths_are_of_nodes s d tree live number path is holds h = of_node s d tree live 
 
 pub contents_are_held : ContentsAreHeld
 contents_are_held s d tree live contents is holds = (to_live s d tree live is holds contents, to_held s d tree live is holds contents)
+
+pub files_stand_at_places : FilesStandAtPlaces
+files_stand_at_places s d tree live p number i n b is holds at dir stands = files_at s d tree live is holds p number i n b at dir stands

@@ -1,17 +1,18 @@
 -- A tree in memory holds what it held where only versions and moments of its nodes changed.
-use Rattle.std.proofs.Common.{◌≡◌, ◌≢◌, ◌↔◌, ℕ, suc, List, [], ◌∷◌, Option, Some, None, refl, sym, ap, ◌∙◌, subst, arith}
+use Rattle.std.proofs.Common.{◌≡◌, ℕ, suc, List, [], ◌∷◌, Option, Some, None, refl, sym, ap, ◌∙◌, subst, arith}
 use Rattle.std.specs.FinMap.{get}
+use Rattle.std.specs.Option.{option_map}
 use Rattle.clear_tree.specs.Walk.{Path, Sealing, Node}
 use Rattle.clear_tree.specs.Kept.{KeptNode}
 use Rattle.tree_changes.specs.Trees.{Tree}
 use Rattle.tree_changes.proofs.Seeing.{some_there}
 use Rattle.live_tree.specs.Held.{HeldNode, HeldTree, node_of, IsNamed, IsFree, IsChildless, IsTree}
-use Rattle.live_tree.specs.Changes.{changed, changed_node, counted, edited}
-use Rattle.live_tree.proofs.After.{picked, by_pick}
-use Rattle.held_changes.specs.Holds.{IsAt, IsPlaced, IsHeldPlace, IsHeldAs, HoldsAt, HasNumber, Holds}
+use Rattle.live_tree.specs.Changes.{changed, changed_node}
+use Rattle.live_tree.proofs.After.{IsAlike, lookup_edit, picked, by_pick}
+use Rattle.held_changes.specs.Holds.{IsAt, IsPlaced, IsHeldAs, Holds}
 use Rattle.held_changes.specs.Laws.{FreeNamesAreFree, ChildlessHaveNoChild}
 use Rattle.held_changes.proofs.Paths.{one_number}
-use Rattle.held_changes.proofs.Trees.{forth, edit_at, edit_alike, tree_edited, edited_forth, edited_back}
+use Rattle.held_changes.proofs.Trees.{forth, tree_edited, edited_forth, edited_back}
 
 -- ---- names and children
 
@@ -105,12 +106,12 @@ module _ (live : HeldTree) (is : IsTree live) (k now : ℕ) where
   changed_kept x held there = record {
     node = picked k (changed_node now) x held;
     there = forth live (changed live k now) is (picked k (changed_node now)) (λ q. lookup q) refl
-        (λ q n h. by_pick (λ n'. Rattle.live_tree.proofs.After.IsAlike n n') k (changed_node now) q n (λ e. record { parent = refl; folder = refl }) (record { parent = refl; folder = refl })) x held there;
+        (λ q n h. by_pick (λ n'. IsAlike n n') k (changed_node now) q n (λ e. record { parent = refl; folder = refl }) (record { parent = refl; folder = refl })) x held there;
     same = by_pick (λ n'. n'.kept ≡ held.kept) k (changed_node now) x held (λ e. refl) refl;
   }
     where
-      lookup : (q : ℕ) → node_of (changed live k now) q ≡ Rattle.std.specs.Option.option_map (picked k (changed_node now) q) (node_of live q)
-      lookup q = Rattle.live_tree.proofs.After.lookup_edit q k (changed_node now) live.nodes
+      lookup : (q : ℕ) → node_of (changed live k now) q ≡ option_map (picked k (changed_node now) q) (node_of live q)
+      lookup q = lookup_edit q k (changed_node now) live.nodes
 
 pub holds_changed : (s : Sealing) (tree : Tree) (live : HeldTree) (k now : ℕ) → Holds s tree live → Holds s tree (changed live k now)
 holds_changed s tree live k now holds =

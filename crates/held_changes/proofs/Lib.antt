@@ -10,3 +10,4 @@ pub mod Files
 pub mod Loading
 pub mod Writing
 pub mod Rewriting
+pub mod Contents

@@ -1,11 +1,11 @@
 -- A tree as it was loaded holds the tree of its disk.
-use Rattle.std.specs.Prelude.{T}
-use Rattle.std.proofs.Common.{◌≡◌, ◌≢◌, ◌↔◌, ◌<◌, ◌≤◌, ◌+◌, ◌&&◌, ℕ, zero, suc, Bool, true, false, cond, List, [], ◌∷◌, length, Option, Some, None, IsSome, IsTrue, slice_get, refl, sym, ap, ap₂, ◌∙◌, subst, arith, true≢false}
+use Rattle.std.specs.Prelude.{T, is_some}
+use Rattle.std.proofs.Common.{◌≡◌, ◌≢◌, ◌↔◌, ◌<◌, ◌+◌, ◌&&◌, ℕ, zero, suc, Bool, true, false, List, [], ◌∷◌, length, Option, Some, None, IsTrue, slice_get, refl, sym, ap, ap₂, ◌∙◌, subst, arith, true≢false}
 use Rattle.std.proofs.lemmas.Option.{slice_get_within}
 use Rattle.std.specs.Cmp.{nat_cmp_is}
 use Rattle.std.specs.declared.cmp.Ordering.{Ordering}
 use Rattle.std.specs.declared.cmp.Ordering.TheVariants.{Less, Equal, Greater}
-use Rattle.std.specs.Ordering.{nat_cmp, is_lt, ordering_then, ordering_reverse}
+use Rattle.std.specs.Ordering.{nat_cmp, is_lt, ordering_reverse}
 use Rattle.std.specs.Option.{option_map, option_and_then}
 use Rattle.std.specs.FinMap.{get, entries, get-entries, entries_sorted}
 use Rattle.std.specs.FinMap.Entries.{is_sorted, below_all}
@@ -16,20 +16,19 @@ use Rattle.std.specs.BTreeMap.{is_at}
 use Rattle.outside.specs.Disk.{Disk, Node as Thing, IsTree as IsDiskTree}
 use Rattle.tree_model.specs.Rows.{Content, root}
 use Rattle.clear_tree.specs.Walk.{Path, walk_cmp, Sealing, Node, Dir, node_at}
-use Rattle.clear_tree.specs.Places.{folders_of, entry_at, entry_of}
-use Rattle.clear_tree.specs.Rows.{number_of, parent_of, name_of}
-use Rattle.clear_tree.specs.Kept.{KeptNode, KeptTree, IsKept, kept_node, is_absent, long_in, long_by, entry_in, folder_in, what_of, path_in, size_in, AreContents, path_of as kept_path, size_of as kept_size, node_of as kept_at_number, parent_folder as kept_folder}
+use Rattle.clear_tree.specs.Places.{folders_of, entry_at}
+use Rattle.clear_tree.specs.Rows.{number_of}
+use Rattle.clear_tree.specs.Kept.{KeptNode, KeptTree, IsKept, kept_node, is_absent, long_in, long_by, entry_in, folder_in, path_in, size_in, AreContents, path_of as kept_path, size_of as kept_size, parent_folder as kept_folder}
 use Rattle.clear_tree.proofs.Keeping.{find_at, number_at, kept_at}
 use Rattle.clear_tree.proofs.Paths.{walk_itself}
 use Rattle.clear_tree.proofs.Unique.{walk_antisymm}
 use Rattle.tree_changes.specs.Trees.{Tree, IsTreeOf}
-use Rattle.tree_changes.specs.Deeds.{place_of}
 use Rattle.tree_changes.proofs.Exact.{parent_there}
 use Rattle.tree_changes.proofs.Held.{entries_are_of_places}
 use Rattle.tree_changes.proofs.Seeing.{some_there}
-use Rattle.live_tree.specs.Held.{HeldNode, HeldTree, node_of, unchanged_node, numbered, loaded, path_of, size_of, parent_folder, IsNamed, IsTree, HasParent}
+use Rattle.live_tree.specs.Held.{HeldNode, HeldTree, node_of, unchanged_node, numbered, path_of, size_of, parent_folder, IsNamed, IsTree, HasParent}
 use Rattle.live_tree.proofs.Held.{at_true, at_false}
-use Rattle.held_changes.specs.Holds.{IsAt, IsHeldAs, HoldsAt, HasNumber, Holds, AreHeldContents}
+use Rattle.held_changes.specs.Holds.{IsAt, IsHeldAs, Holds}
 use Rattle.held_changes.specs.Found.{AreLiveContents}
 use Rattle.held_changes.specs.Loading.{loaded_tree, IsLoaded, LoadingHolds}
 use Rattle.held_changes.proofs.Files.{contents_are_held}
@@ -69,7 +68,7 @@ lower (f ∷ es) (suc i) zero a b h x y less =
     let is : f ≡ b = cc in
     let other : walk_cmp b.0 a.0 ≡ Less = subst (λ (z : Entry). walk_cmp z.0 a.0 ≡ Less) is (below_at f.0 es i a (first_true _ _ h) x) in
     let both : Less ≡ Greater = sym less ∙ walk_antisymm a.0 b.0 ∙ ap ordering_reverse other in absurd (cc)
-lower (f ∷ es) (suc i) (suc j) a b h x y less = let rest : i < j = lower es i j a b (second_true _ _ h) x y less in omega (arith, rest)
+lower (f ∷ es) (suc i) (suc j) a b h x y less = let rest : i < j = lower es i j a b (second_true (below_all walk_cmp f.0 es) (is_sorted walk_cmp es) h) x y less in omega (arith, rest)
 
 -- a parent is before its child
 parent_first : (n : List ℕ) (p : Path) → walk_cmp p (n ∷ p) ≡ Less
@@ -217,7 +216,7 @@ module _ (s : Sealing) (d : Disk) (kept : KeptTree) (unlocked : ℕ) (is : IsKep
       let low = lower es (number_of es c.above) k (c.above, Dir up.0) (c.name ∷ c.above, c.node) sorted at_up c.at (parent_first c.name c.above) in
       record {
         before = omega (arith, low, inside);
-        folder = ap Rattle.std.specs.Prelude.is_some
+        folder = ap is_some
             (ap (λ (z : ℕ). option_and_then (λ (parent : HeldNode). folder_in parent.kept.what) (node_of live z)) inside
             ∙ ap (option_and_then (λ (parent : HeldNode). folder_in parent.kept.what)) (held_at (number_of es c.above) (c.above, Dir up.0) at_up));
       }

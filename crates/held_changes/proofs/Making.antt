@@ -1,19 +1,18 @@
 -- A node made in the tree and in memory.
-use Rattle.std.proofs.Common.{◌≡◌, ◌≢◌, ◌↔◌, ℕ, Bool, true, false, List, [], ◌∷◌, Option, Some, None, IsSome, IsTrue, refl, sym, ap, ◌∙◌, subst, inl, inr, ◌⊎◌}
+use Rattle.std.proofs.Common.{◌≡◌, ◌≢◌, ◌↔◌, ℕ, Bool, true, false, List, [], ◌∷◌, Option, Some, None, IsSome, IsTrue, arith, refl, sym, ap, ◌∙◌, subst, inl, inr, ◌⊎◌}
 use Rattle.std.specs.FinMap.{get}
 use Rattle.std.proofs.lemmas.Bool.{cond-true, cond-false}
 use Rattle.outside.specs.Disk.{Disk}
 use Rattle.clear_tree.specs.Walk.{Path, same_path, Sealing, Node, Dir, node_at}
 use Rattle.clear_tree.specs.Places.{folders_of}
 use Rattle.clear_tree.specs.Marks.{HasForeign, IsShadowedIn}
-use Rattle.clear_tree.specs.Kept.{KeptNode, What, folder_in, what_of}
+use Rattle.clear_tree.specs.Kept.{What, folder_in, what_of}
 use Rattle.clear_tree.proofs.Paths.{path_cases, same_path-apart, same_path-itself, child_apart}
 use Rattle.tree_changes.specs.Trees.{Tree, IsTreeOf, with_node}
 use Rattle.tree_changes.specs.Deeds.{place_of}
 use Rattle.tree_changes.proofs.Seeing.{some_there}
-use Rattle.tree_changes.proofs.Exact.{unset}
 use Rattle.tree_changes.proofs.Maps.{get_with}
-use Rattle.live_tree.specs.Held.{HeldNode, HeldTree, node_of, IsFree, IsDirectory}
+use Rattle.live_tree.specs.Held.{HeldNode, HeldTree, IsFree, IsDirectory, IsTree}
 use Rattle.live_tree.specs.Changes.{new_node, appended}
 use Rattle.held_changes.specs.Holds.{IsAt, IsPlaced, IsHeldPlace, IsHeldAs, HoldsAt, HasNumber, Holds}
 use Rattle.held_changes.specs.Laws.{MakingHolds}
@@ -44,25 +43,22 @@ module _ (s : Sealing) (d : Disk) (tree : Tree) (live : HeldTree) (p : Path) (pa
   abbrev live' : HeldTree
   live' = appended live new
 
-  ok : Rattle.live_tree.specs.Held.IsTree live
+  ok : IsTree live
   ok = holds.is_tree
 
   up : IsDirectory live parent
   up = is_directory s tree live p parent i holds at_p dir_at
 
-  forth : (q : Path) (y : ℕ) → IsAt live q y → IsAt live' q y
+  apart : parent ≢ live.next
+  apart e = let low = trees.parent_below live ok new up free refl in omega (arith, low, e)
+
+  pub forth : (q : Path) (y : ℕ) → IsAt live q y → IsAt live' q y
   forth = paths.more_forth live ok live' p parent live.next n at_p free (trees.more_forth live ok new up free refl) (trees.more_back live ok new up free refl)
       (trees.next_none live ok new up free refl) apart (trees.more_named live ok new up free refl)
-    where
-      apart : parent ≢ live.next
-      apart e = let low = trees.parent_below live ok new up free refl in omega (Rattle.std.proofs.Common.arith, low, e)
 
-  back : (q : Path) (y : ℕ) → IsAt live' q y → (IsAt live q y × (n ∷ p ≢ q)) ⊎ ((n ∷ p ≡ q) × (y ≡ live.next))
+  pub back : (q : Path) (y : ℕ) → IsAt live' q y → (IsAt live q y × (n ∷ p ≢ q)) ⊎ ((n ∷ p ≡ q) × (y ≡ live.next))
   back = paths.more_back live ok live' p parent live.next n at_p free (trees.more_forth live ok new up free refl) (trees.more_back live ok new up free refl)
       (trees.next_none live ok new up free refl) apart (trees.more_named live ok new up free refl)
-    where
-      apart : parent ≢ live.next
-      apart e = let low = trees.parent_below live ok new up free refl in omega (Rattle.std.proofs.Common.arith, low, e)
 
   none : get tree.nodes (n ∷ p) ≡ None
   none = (free_names_are_free s tree live p parent n holds at_p).0 free

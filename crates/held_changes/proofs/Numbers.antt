@@ -1,29 +1,28 @@
 -- The rows of a tree in memory, by path.
-use Rattle.std.proofs.Common.{◌≡◌, ◌≢◌, ◌<◌, ℕ, zero, suc, Bool, true, false, cond, List, [], ◌∷◌, map, Option, Some, None, IsSome, ◌==◌, refl, sym, ap, ap₂, ◌∙◌, subst, arith, true≢false, inl, inr, ◌⊎◌}
-use Rattle.std.proofs.lemmas.Bool.{eqb-true, eq-eqb, ne_eqb}
+use Rattle.std.proofs.Common.{◌≡◌, ◌≢◌, ◌<◌, ℕ, zero, suc, Bool, true, false, cond, List, [], ◌∷◌, Option, Some, None, IsSome, ◌==◌, refl, sym, ap, ap₂, ◌∙◌, subst, arith, true≢false, inl, inr}
+use Rattle.std.proofs.lemmas.Bool.{eqb-true, eq-eqb}
 use Rattle.std.proofs.lemmas.Cmp.{tied_itself, nat_cmp_total}
 use Rattle.std.specs.FinMap.{get}
 use Rattle.std.specs.Ordering.{nat_cmp}
-use Rattle.std.specs.declared.cmp.Ordering.{Ordering}
 use Rattle.std.specs.declared.cmp.Ordering.TheVariants.{Less, Equal}
 use Rattle.std.specs.Option.{option_map, option_and_then}
 use Rattle.std.specs.List.{AllByRecursion}
 use Rattle.std.specs.List.Sorted.{IsStrictlySortedBy}
 use Rattle.std.specs.Map.{lookup, keys_of}
 use Rattle.std.specs.BTreeMap.{is_at}
-use Rattle.tree_model.specs.Rows.{Content, Row, Rows, Kind, root}
+use Rattle.tree_model.specs.Rows.{Content, Row, Rows, root}
 use Rattle.clear_tree.specs.Walk.{Path, Sealing, Node, File, Link, Dir, Bad}
 use Rattle.clear_tree.specs.Queue.{In}
 use Rattle.clear_tree.specs.Rows as clear
 use Rattle.clear_tree.specs.Kept.{What, kind_of, content_of, what_of, folder_in}
 use Rattle.tree_changes.specs.Trees.{Tree}
-use Rattle.tree_changes.specs.Shapes.{IsRowIn, IsRowAt, AreNumbered, IsShown, HasRow, HasNode, HasShape}
+use Rattle.tree_changes.specs.Shapes.{IsRowIn, IsRowAt, AreNumbered, IsShown, HasShape}
 use Rattle.tree_changes.proofs.Rows.{in_map, map_in}
 use Rattle.live_tree.specs.Held.{HeldNode, HeldTree, node_of, live_row, live_rows, IsNamed, IsTree}
 use Rattle.live_tree.proofs.Held.{at_true, at_false, number_from}
 use Rattle.live_tree.proofs.Rows.{row_is, has_node}
-use Rattle.held_changes.specs.Holds.{IsAt, IsHeldAs, HoldsAt, Holds, AreHeldContents}
-use Rattle.held_changes.specs.Found.{IsNodeAt, NodesHaveRows, RowsAreOfNodes, HeldRowsHaveShape}
+use Rattle.held_changes.specs.Holds.{IsAt, IsHeldAs, Holds, AreHeldContents}
+use Rattle.held_changes.specs.Found.{NodesHaveRows, RowsAreOfNodes, HeldRowsHaveShape}
 use Rattle.held_changes.proofs.Paths.{one_held}
 use Rattle.held_changes.proofs.Keeping.{one_node}
 

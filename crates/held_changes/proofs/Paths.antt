@@ -1,6 +1,5 @@
 -- Paths to numbers, after one more name, one less, and one that is another.
 use Rattle.std.proofs.Common.{◌≡◌, ◌≢◌, ℕ, List, [], ◌∷◌, Option, Some, refl, sym, ap, ap₂, ◌∙◌, subst, inl, inr, ◌⊎◌}
-use Rattle.tree_model.specs.Rows.{root}
 use Rattle.clear_tree.specs.Walk.{Path}
 use Rattle.tree_changes.specs.Trees.{swapped}
 use Rattle.tree_changes.proofs.Rename.{which, swapped_twice, swapped-old, swapped-new, swapped-other, swapped-parent, swapped-root}

@@ -1,5 +1,5 @@
 -- A node without nodes in it removed from the tree and from memory.
-use Rattle.std.proofs.Common.{◌≡◌, ◌≢◌, ℕ, Bool, true, false, List, [], ◌∷◌, Option, Some, None, refl, sym, ap, ◌∙◌, subst, inl, inr, ◌⊎◌}
+use Rattle.std.proofs.Common.{◌≡◌, ◌≢◌, ℕ, true, false, List, [], ◌∷◌, Some, refl, sym, ◌∙◌, subst, inl, inr, ◌⊎◌}
 use Rattle.std.specs.FinMap.{get}
 use Rattle.std.proofs.lemmas.Bool.{cond-true, cond-false}
 use Rattle.tree_model.specs.Rows.{root}
@@ -8,13 +8,13 @@ use Rattle.clear_tree.proofs.Paths.{path_cases, same_path-apart}
 use Rattle.tree_changes.specs.Trees.{Tree, without_node}
 use Rattle.tree_changes.proofs.Seeing.{some_there}
 use Rattle.tree_changes.proofs.Maps.{get_without}
-use Rattle.live_tree.specs.Held.{HeldNode, HeldTree, node_of, IsNamed, IsChildless, IsTree}
+use Rattle.live_tree.specs.Held.{HeldNode, HeldTree, IsNamed, IsChildless, IsTree}
 use Rattle.live_tree.specs.Changes.{changed, dropped}
-use Rattle.held_changes.specs.Holds.{IsAt, IsPlaced, IsHeldAs, HoldsAt, HasNumber, Holds}
+use Rattle.held_changes.specs.Holds.{IsAt, IsPlaced, IsHeldAs, Holds}
 use Rattle.held_changes.specs.Laws.{RemovingHolds}
 use Rattle.held_changes.proofs.Paths as paths
 use Rattle.held_changes.proofs.Trees as trees
-use Rattle.held_changes.proofs.Keeping.{leads_on, changed_tree, changed_forth, changed_back, holds_changed}
+use Rattle.held_changes.proofs.Keeping.{leads_on, changed_forth, changed_back, holds_changed}
 
 module _ (s : Sealing) (tree : Tree) (live : HeldTree) (p : Path) (parent number : ℕ) (n : List ℕ) (holds : Holds s tree live) (at_p : IsAt live p parent) (named : IsNamed live parent n number)
     (childless : IsChildless live number) where
@@ -36,14 +36,14 @@ module _ (s : Sealing) (tree : Tree) (live : HeldTree) (p : Path) (parent number
   forth : (q : Path) (x : ℕ) → IsAt live q x → n ∷ p ≢ q → IsAt live' q x
   forth = paths.less_forth live ok live' p number n at_it (trees.less_forth live ok number below childless) (trees.less_back live ok number below childless) (trees.less_none live ok number below childless)
 
-  from : (q : Path) (x : ℕ) → IsAt live' q x → IsAt live q x × (n ∷ p ≢ q)
+  pub from : (q : Path) (x : ℕ) → IsAt live' q x → IsAt live q x × (n ∷ p ≢ q)
   from = paths.less_from live ok live' p number n at_it (trees.less_forth live ok number below childless) (trees.less_back live ok number below childless) (trees.less_none live ok number below childless)
 
   other : (q : Path) → n ∷ p ≢ q → get tree'.nodes q ≡ get tree.nodes q
   other q ne = get_without tree.nodes (n ∷ p) q ∙ cond-false (same_path (n ∷ p) q) _ _ (same_path-apart (n ∷ p) q ne)
 
   -- a directory after it was one before
-  was_there : (q : Path) (z : Node) → get tree'.nodes q ≡ Some z → (get tree.nodes q ≡ Some z) × (n ∷ p ≢ q)
+  pub was_there : (q : Path) (z : Node) → get tree'.nodes q ≡ Some z → (get tree.nodes q ≡ Some z) × (n ∷ p ≢ q)
   was_there q z at = go (path_cases (n ∷ p) q)
     where
       go : ((same_path (n ∷ p) q ≡ true) × (n ∷ p ≡ q)) ⊎ ((same_path (n ∷ p) q ≡ false) × (n ∷ p ≢ q)) → (get tree.nodes q ≡ Some z) × (n ∷ p ≢ q)

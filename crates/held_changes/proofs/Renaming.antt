@@ -1,5 +1,5 @@
 -- A node given another name in the tree and in memory.
-use Rattle.std.proofs.Common.{◌≡◌, ◌≢◌, ℕ, Bool, true, false, List, [], ◌∷◌, Option, Some, None, refl, sym, ap, ap₂, ◌∙◌, subst, inl, inr, ◌⊎◌}
+use Rattle.std.proofs.Common.{◌≡◌, ◌≢◌, ℕ, Bool, true, false, List, [], ◌∷◌, Option, Some, refl, sym, ap, ◌∙◌, subst, inl, inr, ◌⊎◌}
 use Rattle.std.specs.FinMap.{get}
 use Rattle.std.proofs.lemmas.Bool.{cond-true, cond-false}
 use Rattle.clear_tree.specs.Walk.{Path, same_path, Sealing, Node, Dir}
@@ -8,9 +8,9 @@ use Rattle.tree_changes.specs.Trees.{Tree, with_name, swapped}
 use Rattle.tree_changes.specs.Deeds.{place_of}
 use Rattle.tree_changes.proofs.Maps.{get_moved}
 use Rattle.tree_changes.proofs.Rename.{swapped_twice, swapped-old, swapped-new, swapped-other, swapped-parent}
-use Rattle.live_tree.specs.Held.{HeldNode, HeldTree, node_of, IsNamed, IsFree, IsTree}
+use Rattle.live_tree.specs.Held.{HeldNode, HeldTree, IsNamed, IsFree, IsTree}
 use Rattle.live_tree.specs.Changes.{edited, renamed_node}
-use Rattle.held_changes.specs.Holds.{IsAt, IsPlaced, IsHeldPlace, IsHeldAs, HoldsAt, HasNumber, Holds}
+use Rattle.held_changes.specs.Holds.{IsAt, IsPlaced, IsHeldPlace, IsHeldAs, HoldsAt, Holds}
 use Rattle.held_changes.specs.Laws.{RenamingHolds}
 use Rattle.held_changes.proofs.Paths as paths
 use Rattle.held_changes.proofs.Trees as trees
@@ -40,11 +40,11 @@ module _ (s : Sealing) (tree : Tree) (live : HeldTree) (p : Path) (parent number
   forth = paths.moved_forth live ok live' p parent number n k apart at_p named free (trees.after_forth live ok number parent n k entry long named free)
       (trees.after_back live ok number parent n k entry long named free) (trees.after_named live ok number parent n k entry long named free)
 
-  back : (q : Path) (x : ℕ) → IsAt live' q x → IsAt live (sw q) x
+  pub back : (q : Path) (x : ℕ) → IsAt live' q x → IsAt live (sw q) x
   back = paths.moved_back live ok live' p parent number n k apart at_p named free (trees.after_forth live ok number parent n k entry long named free)
       (trees.after_back live ok number parent n k entry long named free) (trees.after_named live ok number parent n k entry long named free)
 
-  moved : (q : Path) → get tree'.nodes q ≡ get tree.nodes (sw q)
+  pub moved : (q : Path) → get tree'.nodes q ≡ get tree.nodes (sw q)
   moved q = get_moved n k p apart tree.nodes q
 
   -- where the renamed node stands

@@ -1,20 +1,20 @@
 -- Where the host file of a file gets other bytes, the tree of the disk has them.
-use Rattle.std.proofs.Common.{◌≡◌, ◌≢◌, ◌↔◌, ℕ, Bool, true, false, cond, List, [], ◌∷◌, Option, Some, None, IsTrue, refl, sym, ap, ap₂, ◌∙◌, subst, inl, inr, ◌⊎◌, true≢false}
+use Rattle.std.proofs.Common.{◌≡◌, ◌≢◌, ◌↔◌, ℕ, Bool, true, false, cond, List, [], ◌∷◌, Option, Some, None, IsTrue, bytes_eq, refl, sym, ap, ap₂, ◌∙◌, subst, inl, inr, ◌⊎◌, true≢false}
 use Rattle.std.specs.FinMap.{get}
 use Rattle.std.proofs.lemmas.Bool.{cond-true, cond-false}
 use Rattle.outside.specs.Disk.{Disk, Node as Thing, folder as Folder, file as Bytes, Path as HostPath, IsFile}
-use Rattle.clear_tree.specs.Walk.{Path, same_path, Sealing, Folders, Kind, Plain, Bare, Node, File, Link, Dir, Bad, is_name, look, node, node_at, claimed, IsOwner, ChangedAt}
-use Rattle.clear_tree.specs.Places.{folders_of, host_folder, host_entry, host_inner, entry_at, entry_of, entry_where, seen_at, short_at, long_at, folder_at, either_kind, long_kind, folder_kind, bytes_of, is_folder, known, text_dir, text_dirid, text_symlink, text_contents, text_name}
-use Rattle.clear_tree.specs.Marks.{IsShadowed, IsShadowedIn, HasForeign, NamedTwice, IsNodeEntry, Foreign, known_at}
+use Rattle.clear_tree.specs.Walk.{Path, same_path, Sealing, Folders, Kind, Plain, Bare, Node, File, Link, Dir, Bad, is_name, look, node, node_at, claimed, ChangedAt}
+use Rattle.clear_tree.specs.Places.{folders_of, host_folder, host_entry, host_inner, entry_at, entry_of, entry_where, seen_at, short_at, long_at, folder_at, either_kind, kind_where, long_kind, folder_kind, bytes_of, is_folder, known, text_dir, text_dirid, text_symlink, text_contents, text_name}
+use Rattle.clear_tree.specs.Marks.{IsShadowed, IsShadowedIn, HasForeign, Foreign, known_at}
 use Rattle.clear_tree.specs.Kept.{is_absent, file_path}
-use Rattle.clear_tree.proofs.Paths.{path_cases}
+use Rattle.clear_tree.proofs.Paths.{path_cases, bytes_same}
 use Rattle.clear_tree.proofs.Leaf.{change_leaf, leaf_owner}
 use Rattle.clear_tree.proofs.Found.{file_there}
 use Rattle.tree_changes.specs.Trees.{Tree, IsTreeOf}
 use Rattle.tree_changes.specs.Deeds.{entry_text, place_of}
 use Rattle.tree_changes.proofs.Disk.{entry_is, inner_is, folder_entry, folder_inner, entry_inner, inner_entry}
-use Rattle.tree_changes.proofs.Seeing.{some_there, text_cases, HoldsOnly, holds_it, not_shown, entry_some, long_shown, file_bytes, looked, look_seen, node_kind}
-use Rattle.tree_changes.proofs.Exact.{through, neither, has_foreign, same_twice}
+use Rattle.tree_changes.proofs.Seeing.{some_there, text_cases, holds_it, not_shown, entry_some, long_shown, file_bytes, looked, look_seen, node_kind}
+use Rattle.tree_changes.proofs.Exact.{through, has_foreign, same_twice}
 use Rattle.tree_changes.proofs.Maps.{get_with}
 use Rattle.tree_changes.proofs.Standing.{kind_of_file}
 use Rattle.tree_changes.proofs.Held.{entries_are_of_places}
@@ -324,7 +324,7 @@ module _ (s : Sealing) (d d' : Disk) (tree : Tree) (p : Path) (i n old bytes : L
     form = inr at_long;
     name = λ z. named;
     seen' = cond-true (s.is_text X) _ _ text ∙ ap₂ (λ (a : Option Thing) (k : Option Kind). either_kind a (short_at d' F X) k) (absent_to s d d' F X old bytes H (inr at_long) it re.file re.others F X e)
-        (ap₂ (λ (a : Option Thing) (k : Kind). long_kind X (bytes_of a) k) (inner_same text_name (λ z. cc) ∙ named) kind ∙ ap (λ (b : Bool). Rattle.clear_tree.specs.Places.kind_where b (Plain bytes)) same_name);
+        (ap₂ (λ (a : Option Thing) (k : Kind). long_kind X (bytes_of a) k) (inner_same text_name (λ z. cc) ∙ named) kind ∙ ap (λ (b : Bool). kind_where b (Plain bytes)) same_name);
   }
     where
       at_long : H ≡ host_inner F (s.long_of X) text_contents
@@ -336,8 +336,8 @@ module _ (s : Sealing) (d d' : Disk) (tree : Tree) (p : Path) (i n old bytes : L
       named : get d (host_inner F (s.long_of X) text_name) ≡ Some (Bytes X)
       named = file_bytes _ X its.0
 
-      same_name : Rattle.std.specs.Prelude.bytes_eq X X ≡ true
-      same_name = Rattle.clear_tree.proofs.Paths.bytes_same X
+      same_name : bytes_eq X X ≡ true
+      same_name = bytes_same X
 
       inner_same : (l : List ℕ) → l ≢ text_contents → get d' (host_inner F (s.long_of X) l) ≡ get d (host_inner F (s.long_of X) l)
       inner_same l far = re.others (host_inner F (s.long_of X) l) (λ z. far (inner_is F (s.long_of X) F (s.long_of X) l text_contents (z ∙ at_long)).2)

@@ -1,5 +1,5 @@
 -- A tree in memory is one after each step of a change, and which names it has then.
-use Rattle.std.proofs.Common.{◌≡◌, ◌≢◌, ◌<◌, ◌≤◌, ℕ, suc, Bool, true, false, cond, not, List, [], ◌∷◌, Option, Some, None, IsSome, ◌==◌, if◌then◌else◌, refl, sym, ap, ap₂, ◌∙◌, subst, arith, true≢false, inl, inr, ◌⊎◌}
+use Rattle.std.proofs.Common.{◌≡◌, ◌≢◌, ◌<◌, ◌≤◌, ℕ, suc, Bool, true, false, cond, not, List, Some, None, IsSome, ◌==◌, if◌then◌else◌, refl, sym, ap, ◌∙◌, subst, arith, true≢false, inl, inr, ◌⊎◌}
 use Rattle.std.proofs.lemmas.Bool.{eqb-true, eq-eqb, ne_eqb}
 use Rattle.std.specs.Ordering.{nat_cmp}
 use Rattle.std.specs.Option.{option_map, option_and_then}
@@ -9,11 +9,11 @@ use Rattle.std.specs.BTreeMap.{is_at}
 use Rattle.tree_model.specs.Rows.{root}
 use Rattle.clear_tree.specs.Kept.{folder_in}
 use Rattle.live_tree.specs.Held.{HeldNode, HeldTree, node_of, IsNamed, IsFree, IsChildless, IsDirectory, HasParent, IsTree}
-use Rattle.live_tree.specs.Changes.{edited, edited_nodes, changed, changed_node, counted, appended, dropped, renamed_node}
+use Rattle.live_tree.specs.Changes.{edited, edited_nodes, appended, dropped, renamed_node}
 use Rattle.live_tree.proofs.Entries.{AreBelow, below_from}
 use Rattle.live_tree.proofs.Held.{folder_there, folder_some, number_from, at_true, at_false}
 use Rattle.live_tree.proofs.After.{lookup_edit, IsAlike, Came, came_from, picked, by_pick}
-use Rattle.held_changes.proofs.Lists.{sorted_edit, lookup_last, sorted_last, without, lookup_without, sorted_without}
+use Rattle.held_changes.proofs.Lists.{sorted_edit, lookup_last, sorted_last, lookup_without, sorted_without}
 use Rattle.held_changes.proofs.Paths.{one_held}
 
 -- ---- nodes that changed, each by itself

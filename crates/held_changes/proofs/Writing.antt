@@ -1,16 +1,16 @@
 -- A file written, and a node dated, in the tree and in memory.
-use Rattle.std.proofs.Common.{◌≡◌, ◌≢◌, ◌≤◌, ℕ, Bool, true, false, List, [], ◌∷◌, length, Option, Some, None, ◌==◌, if◌then◌else◌, refl, sym, ap, ◌∙◌, subst, arith, inl, inr, ◌⊎◌}
+use Rattle.std.proofs.Common.{◌≡◌, ◌≢◌, ◌≤◌, ℕ, true, false, List, [], ◌∷◌, length, Option, Some, if◌then◌else◌, refl, sym, ap, ◌∙◌, subst, arith, inl, inr, ◌⊎◌}
 use Rattle.std.proofs.lemmas.Bool.{cond-true, cond-false, eq-eqb, ne_eqb}
 use Rattle.std.specs.FinMap.{get}
 use Rattle.clear_tree.specs.Walk.{Path, same_path, Sealing, Node, File, Dir}
-use Rattle.clear_tree.specs.Kept.{What, folder_in, what_of}
+use Rattle.clear_tree.specs.Kept.{folder_in, what_of}
 use Rattle.clear_tree.proofs.Paths.{path_cases, same_path-apart, same_path-itself}
 use Rattle.tree_changes.specs.Trees.{Tree}
 use Rattle.tree_changes.proofs.Maps.{get_with}
-use Rattle.live_tree.specs.Held.{HeldNode, HeldTree, node_of, IsNamed, IsTree}
+use Rattle.live_tree.specs.Held.{HeldNode, HeldTree, node_of, IsTree}
 use Rattle.live_tree.specs.Changes.{edited, sized_node, dated, dated_node}
 use Rattle.live_tree.proofs.After.{IsAlike, picked, by_pick}
-use Rattle.held_changes.specs.Holds.{IsAt, IsPlaced, IsHeldPlace, IsHeldAs, HoldsAt, HasNumber, Holds}
+use Rattle.held_changes.specs.Holds.{IsAt, IsPlaced, HoldsAt, HasNumber, Holds}
 use Rattle.held_changes.specs.Writing.{with_file, WritingHolds, DatingHolds}
 use Rattle.held_changes.proofs.Paths.{one_held, one_number, one_path}
 use Rattle.held_changes.proofs.Trees.{forth, edit_at, edit_alike, tree_edited, edited_forth, edited_back}
@@ -78,13 +78,13 @@ module _ (s : Sealing) (tree : Tree) (live : HeldTree) (p : Path) (number : ℕ)
   more : live.changes ≤ live.changes
   more = omega arith
 
-  is_tree : IsTree live'
+  pub is_tree : IsTree live'
   is_tree = tree_edited live ok number f live.changes alike named more versions
 
   to : (q : Path) (x : ℕ) → IsAt live q x → IsAt live' q x
   to = leads_on live live' (edited_forth live ok number f live.changes alike named more versions)
 
-  from : (q : Path) (x : ℕ) → IsAt live' q x → IsAt live q x
+  pub from : (q : Path) (x : ℕ) → IsAt live' q x → IsAt live q x
   from = leads_on live' live (edited_back live ok number f live.changes alike named more versions)
 
   there_after : (x : ℕ) (held : HeldNode) → node_of live x ≡ Some held → node_of live' x ≡ Some (picked number f x held)
@@ -99,10 +99,10 @@ module _ (s : Sealing) (tree : Tree) (live : HeldTree) (p : Path) (number : ℕ)
   abbrev Cases : Path → Type 0
   Cases q = ((same_path p q ≡ true) × (p ≡ q)) ⊎ ((same_path p q ≡ false) × (p ≢ q))
 
-  here : get tree'.nodes p ≡ Some (File bytes)
+  pub here : get tree'.nodes p ≡ Some (File bytes)
   here = get_with tree.nodes p (File bytes) p ∙ cond-true (same_path p p) _ _ (same_path-itself p)
 
-  other : (q : Path) → p ≢ q → get tree'.nodes q ≡ get tree.nodes q
+  pub other : (q : Path) → p ≢ q → get tree'.nodes q ≡ get tree.nodes q
   other q far = get_with tree.nodes p (File bytes) q ∙ cond-false (same_path p q) _ _ (same_path-apart p q far)
 
   -- a directory after it was one before

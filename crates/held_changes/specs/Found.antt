@@ -6,7 +6,7 @@ use Rattle.tree_model.specs.Rows.{Content, Row, row_of}
 use Rattle.clear_tree.specs.Walk.{Path, Sealing, Node, File, Link, Dir, Bad}
 use Rattle.clear_tree.specs.Kept.{HasHostFile, folder_in}
 use Rattle.tree_changes.specs.Trees.{Tree, IsTreeOf}
-use Rattle.tree_changes.specs.Deeds.{Place, place_of}
+use Rattle.tree_changes.specs.Deeds.{place_of}
 use Rattle.tree_changes.specs.Shapes.{IsRowAt, HasShape}
 use Rattle.live_tree.specs.Held.{HeldNode, HeldTree, node_of, live_row, live_rows, path_of, size_of, IsNamed}
 use Rattle.held_changes.specs.Holds.{IsAt, IsHeldAs, Holds, AreHeldContents}

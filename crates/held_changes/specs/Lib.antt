@@ -3,3 +3,4 @@ pub mod Laws
 pub mod Found
 pub mod Loading
 pub mod Writing
+pub mod Contents

@@ -6,7 +6,7 @@ use Rattle.clear_tree.specs.Walk.{Path, Sealing, File, Dir}
 use Rattle.clear_tree.specs.Kept.{file_path}
 use Rattle.tree_changes.specs.Trees.{Tree, IsTreeOf}
 use Rattle.tree_changes.specs.Deeds.{Place, place_of}
-use Rattle.live_tree.specs.Held.{HeldTree}
+use Rattle.live_tree.specs.Held.{HeldTree, path_of}
 use Rattle.live_tree.specs.Changes.{touched, dated}
 use Rattle.held_changes.specs.Holds.{IsAt, Holds}
 
@@ -33,6 +33,12 @@ pub record IsRewritten (d d' : Disk) (path : HostPath) (bytes : List ℕ) : Type
 -- where the host file of a file at a place stands
 abbrev pub file_at : Place → HostPath
 file_at place = file_path place.long place.folder place.entry
+
+-- it is where the tree in memory says
+abbrev pub FilesStandAtPlaces : Type 0
+FilesStandAtPlaces = (s : Sealing) (d : Disk) (tree : Tree) (live : HeldTree) (p : Path) (number : ℕ) (i n bytes : List ℕ) → IsTreeOf s d tree → Holds s tree live
+    → IsAt live (n ∷ p) number → get tree.nodes p ≡ Some (Dir i) → get tree.nodes (n ∷ p) ≡ Some (File bytes)
+    → path_of live number ≡ Some (file_at (place_of s i n (tree.long (n ∷ p))))
 
 -- where the host file of a file has other bytes, so has the file, and nothing else is other
 abbrev pub ContentsChange : Type 0

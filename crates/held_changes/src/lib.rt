@@ -9,10 +9,11 @@
 //! Its functions are laws: they do nothing, and their clauses hold.
 #![tactic(auto)]
 
+ghost use Rattle.held_changes.specs.Contents.{DatingKeepsContents, MakingKeepsContents, RemovingKeepsContents, RenamingKeepsContents, WritingKeepsContents};
 ghost use Rattle.held_changes.specs.Found.{ContentsAreHeld, HeldRowsHaveShape, NodesHaveBytes, NodesHaveRows, PathsAreOfNodes, PlacesAreHeld, RowsAreOfNodes};
 ghost use Rattle.held_changes.specs.Laws.{ChildlessHaveNoChild, FreeNamesAreFree, MakingHolds, RemovingHolds, RenamingHolds};
 ghost use Rattle.held_changes.specs.Loading.{LoadingHolds};
-ghost use Rattle.held_changes.specs.Writing.{ContentsChange, DatingHolds, WritingHolds};
+ghost use Rattle.held_changes.specs.Writing.{ContentsChange, DatingHolds, FilesStandAtPlaces, WritingHolds};
 
 /// A name is free in a directory's number just where no node of the tree has it there, and a number has no nodes in it just where
 /// its path has none below it.
@@ -51,9 +52,11 @@ pub fn held_paths()
     ensures contents { ContentsAreHeld }
 {}
 
-/// A node's place is the folder that is held of its parent, with the entry that is held of the node.
+/// A node's place is the folder that is held of its parent, with the entry that is held of the node; and a file's host file stands
+/// at its place.
 pub fn places_are_held()
-    ensures { PlacesAreHeld }
+    ensures places { PlacesAreHeld }
+    ensures files { FilesStandAtPlaces }
 {}
 
 /// What is kept of a disk, as it is loaded, holds a tree of the disk.
@@ -74,4 +77,13 @@ pub fn dating_holds()
 /// Where the host file of a file has other bytes, the tree of the disk has them, and nothing else changes.
 pub fn contents_change()
     ensures { ContentsChange }
+{}
+
+/// After each change the contents that were right for the tree are so, but for those of the node that is made or written.
+pub fn contents_stay()
+    ensures made { MakingKeepsContents }
+    ensures removed { RemovingKeepsContents }
+    ensures renamed { RenamingKeepsContents }
+    ensures written { WritingKeepsContents }
+    ensures dated { DatingKeepsContents }
 {}
