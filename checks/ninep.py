@@ -1,5 +1,7 @@
-"""A small 9P2000 client over a program's standard streams, for the checks and benches."""
+"""A small 9P2000 client over a program's standard streams or a socket, for the checks and benches."""
 
+import os
+import socket
 import struct
 import subprocess
 
@@ -44,14 +46,17 @@ class Session:
     def __init__(self, words, secret, size=65560):
         self.program = subprocess.Popen(words, stdin=subprocess.PIPE, stdout=subprocess.PIPE)
         self.program.stdin.write(secret + b"\n")
-        self.next = 1
+        self.begin(self.program.stdin, self.program.stdout, size)
+
+    def begin(self, sink, source, size):
+        self.sink, self.source, self.next = sink, source, 1
         reply = self.ask("version", struct.pack("<I", size) + string(b"9P2000"), NO_TAG)
         (self.size,) = struct.unpack_from("<I", reply)
         self.ask("attach", struct.pack("<II", 0, NO_FID) + string(b"u") + string(b""))
 
     def ask(self, kind, body, tag=1):
-        self.program.stdin.write(struct.pack("<IBH", 7 + len(body), KINDS[kind], tag) + body)
-        self.program.stdin.flush()
+        self.sink.write(struct.pack("<IBH", 7 + len(body), KINDS[kind], tag) + body)
+        self.sink.flush()
         (size,) = struct.unpack("<I", self.take(4))
         reply = self.take(size - 4)
         if reply[0] == ERROR:
@@ -61,7 +66,7 @@ class Session:
         return reply[3:]
 
     def take(self, count):
-        data = self.program.stdout.read(count)
+        data = self.source.read(count)
         if len(data) < count:
             raise SystemExit("the program's replies end within a message")
         return data
@@ -110,3 +115,63 @@ class Session:
         if rest:
             raise SystemExit("bytes after the last reply")
         return self.program.wait()
+
+
+class SocketSession(Session):
+    """One session over a connected socket."""
+
+    def __init__(self, link, size=65560):
+        self.link = link
+        self.begin(link.makefile("wb"), link.makefile("rb"), size)
+
+    def end(self):
+        """Ends the conversation; the server has to end it too."""
+        self.link.shutdown(socket.SHUT_WR)
+        rest = self.source.read()
+        self.link.close()
+        if rest:
+            raise SystemExit("bytes after the last reply")
+
+
+def free_port():
+    """A port that nobody listens at now."""
+    with socket.socket() as probe:
+        probe.bind(("127.0.0.1", 0))
+        return probe.getsockname()[1]
+
+
+class Served:
+    """A program that serves a vault at `unix:PATH` or `127.0.0.1:PORT`, and is ready for clients."""
+
+    def __init__(self, program, vault, secret, address, sessions, at_once, raw=True, prefix=()):
+        words = [*prefix, program, "serve", vault, "--listen", address, "--sessions", str(sessions), "--at-once", str(at_once)]
+        self.address = address
+        self.program = subprocess.Popen(words + ["--raw-key"] * raw, stdin=subprocess.PIPE, stdout=subprocess.PIPE)
+        self.program.stdin.write(secret + b"\n")
+        self.program.stdin.close()
+        first = self.program.stdout.readline()
+        if first != b"serving\n":
+            raise SystemExit(f"the program doesn't serve at {address}: {first!r}")
+
+    def connect(self):
+        if self.address.startswith("unix:"):
+            link = socket.socket(socket.AF_UNIX)
+            link.connect(self.address[len("unix:") :])
+        else:
+            host, _, port = self.address.rpartition(":")
+            link = socket.create_connection((host, int(port)))
+            link.setsockopt(socket.IPPROTO_TCP, socket.TCP_NODELAY, 1)
+        return link
+
+    def descriptors(self):
+        return len(os.listdir(f"/proc/{self.program.pid}/fd"))
+
+    def resident(self):
+        """KiB of resident memory."""
+        with open(f"/proc/{self.program.pid}/status", encoding="ascii") as file:
+            return int(next(line for line in file if line.startswith("VmRSS")).split()[1])
+
+    def end(self, seconds=60):
+        """The status and the last line, once all sessions are done."""
+        status = self.program.wait(seconds)
+        return status, self.program.stdout.read().decode()

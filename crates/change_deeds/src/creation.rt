@@ -1,5 +1,6 @@
-ghost use Rattle.std.specs.Prelude.{◌≡◌, IfOk, IsTrue};
+ghost use Rattle.std.specs.Prelude.{◌≡◌, ◌<◌, ◌^◌, length, IfOk, IsTrue};
 ghost use Rattle.vault_path.specs.Parts.{is_path};
+ghost use Rattle.deeds.specs.Grammar.{IsBatch};
 ghost use Rattle.deeds.specs.Plain.{plains};
 ghost use Rattle.clear_tree.specs.Places.{host_folder};
 ghost use Rattle.tree_changes.specs.Deeds as changes;
@@ -11,8 +12,24 @@ use deeds::Deed;
 use std::alloc::{AllocError, Global};
 
 /// The deeds that make a file without chunks, of this header, at a place. `text` is the text of its name, which a long place
-/// keeps. Fails only where memory runs out.
+/// keeps. They are a batch. Fails only where memory runs out.
 pub fn create_file_deeds(
+    alloc: Global,
+    place: &Place,
+    text: &[u8],
+    header: Vec<u8>,
+) -> Result<Vec<Deed>, AllocError>
+    requires place { IsHostPlace (place_at place.now) }
+    requires text { length text.now < 2 ^ 32 }
+    requires header { length header.items < 2 ^ 32 }
+    ensures deeds { IfOk result (λ deeds. plains deeds.items ≡ changes.create_file_deeds (place_at place.now) text.now header.items) }
+    ensures batch { IfOk result (λ deeds. IsBatch (plains deeds.items)) }
+{
+    file_creation(alloc, place, text, header)
+}
+
+// The same, whatever the lengths.
+fn file_creation(
     alloc: Global,
     place: &Place,
     text: &[u8],
@@ -33,9 +50,27 @@ pub fn create_file_deeds(
     Ok(deeds)
 }
 
-/// The deeds that make a directory of this identifier at a place, with its own folder of these 32 characters. Fails only where
-/// memory runs out.
+/// The deeds that make a directory of this identifier at a place, with its own folder of these 32 characters. They are a batch.
+/// Fails only where memory runs out.
 pub fn create_dir_deeds(
+    alloc: Global,
+    place: &Place,
+    text: &[u8],
+    own: &[u8; 32],
+    identifier: &[u8],
+) -> Result<Vec<Deed>, AllocError>
+    requires place { IsHostPlace (place_at place.now) }
+    requires own { IsTrue (is_path (host_folder own.now)) }
+    requires text { length text.now < 2 ^ 32 }
+    requires identifier { length identifier.now < 2 ^ 32 }
+    ensures deeds { IfOk result (λ deeds. plains deeds.items ≡ changes.create_dir_deeds (place_at place.now) text.now own.now identifier.now) }
+    ensures batch { IfOk result (λ deeds. IsBatch (plains deeds.items)) }
+{
+    dir_creation(alloc, place, text, own, identifier)
+}
+
+// The same, whatever the lengths.
+fn dir_creation(
     alloc: Global,
     place: &Place,
     text: &[u8],

@@ -1,5 +1,6 @@
 ghost use Rattle.std.specs.Prelude.{◌≡◌, IfOk, IsTrue};
 ghost use Rattle.vault_path.specs.Parts.{is_part, is_path};
+ghost use Rattle.deeds.specs.Grammar.{IsBatch};
 ghost use Rattle.deeds.specs.Plain.{plains};
 ghost use Rattle.clear_tree.specs.Places.{host_folder};
 ghost use Rattle.clear_tree.specs.Built.{HasHostFolder, kept_what};
@@ -14,8 +15,18 @@ use deeds::Deed;
 use std::alloc::{AllocError, Global};
 
 /// The deeds that remove the node at a place: a file, a link, or a directory without nodes and foreign entries. A Bad node has
-/// none. Fails only where memory runs out.
+/// none. They are a batch. Fails only where memory runs out.
 pub fn remove_deeds(alloc: Global, place: &Place, what: &What) -> Result<Vec<Deed>, AllocError>
+    requires place { IsHostPlace (place_at place.now) }
+    requires own { HasHostFolder (kept_what what.now) }
+    ensures deeds { IfOk result (λ deeds. plains deeds.items ≡ changes.remove_deeds (place_at place.now) (kept_what what.now)) }
+    ensures batch { IfOk result (λ deeds. IsBatch (plains deeds.items)) }
+{
+    removal(alloc, place, what)
+}
+
+// The deeds alone.
+fn removal(alloc: Global, place: &Place, what: &What) -> Result<Vec<Deed>, AllocError>
     requires place { IsHostPlace (place_at place.now) }
     requires own { HasHostFolder (kept_what what.now) }
     ensures { IfOk result (λ deeds. plains deeds.items ≡ changes.remove_deeds (place_at place.now) (kept_what what.now)) }

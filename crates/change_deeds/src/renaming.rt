@@ -1,5 +1,6 @@
-ghost use Rattle.std.specs.Prelude.{◌≡◌, true, IfOk, IsTrue};
+ghost use Rattle.std.specs.Prelude.{◌≡◌, ◌<◌, ◌^◌, true, length, IfOk, IsTrue};
 ghost use Rattle.vault_path.specs.Parts.{is_part};
+ghost use Rattle.deeds.specs.Grammar.{IsBatch};
 ghost use Rattle.deeds.specs.Plain.{plains};
 ghost use Rattle.clear_tree.specs.Built.{kept_what};
 ghost use Rattle.tree_changes.specs.Deeds as changes;
@@ -13,8 +14,27 @@ use deeds::Deed;
 use std::alloc::{AllocError, Global};
 
 /// The deeds that bring the node at a place to another one of the same directory. `text` is the text of its new name, which a
-/// long place keeps. A Bad node has none. Fails only where memory runs out.
+/// long place keeps. A Bad node has none. They are a batch. Fails only where memory runs out.
 pub fn rename_deeds(
+    alloc: Global,
+    old: &Place,
+    new: &Place,
+    text: &[u8],
+    what: &What,
+) -> Result<Vec<Deed>, AllocError>
+    requires old { IsHostPlace (place_at old.now) }
+    requires new { IsHostPlace (place_at new.now) }
+    requires same { (place_at new.now).folder ≡ (place_at old.now).folder }
+    requires text { length text.now < 2 ^ 32 }
+    ensures deeds { IfOk result (λ deeds. plains deeds.items
+        ≡ changes.rename_deeds (place_at old.now) (place_at new.now) text.now (kept_what what.now)) }
+    ensures batch { IfOk result (λ deeds. IsBatch (plains deeds.items)) }
+{
+    renaming(alloc, old, new, text, what)
+}
+
+// The same, whatever the length.
+fn renaming(
     alloc: Global,
     old: &Place,
     new: &Place,

@@ -58,7 +58,9 @@ fn chunk_in(sealed: &[u8], index: usize) -> &[u8]
     &sealed[start..end]
 }
 
-// Opens a sealed chunk into the front of `clear`, and gives the number of clear bytes.
+// Opens a sealed chunk into the front of `clear`, and gives the number of clear bytes. It is a function of its own in the program
+// too: inlined into a caller with a large frame, decryption keeps more of its words on the stack and takes a tenth longer.
+#[inline(never)]
 fn open_sealed(
     header: &Header,
     index: u64,

@@ -3,3 +3,4 @@ pub mod Settling
 pub mod Adding
 pub mod Turning
 pub mod Ending
+pub mod Reading

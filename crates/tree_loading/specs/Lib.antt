@@ -4,3 +4,4 @@ pub mod Under
 pub mod Settled
 pub mod Added
 pub mod Turned
+pub mod Undamaged

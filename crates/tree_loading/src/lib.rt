@@ -15,4 +15,4 @@ mod nodes;
 mod turns;
 
 pub use fault::LoadErr;
-pub use loading::{load, loading_is_clear};
+pub use loading::{load, loading_is_clear, undamaged_is_read};

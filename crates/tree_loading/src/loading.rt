@@ -6,6 +6,7 @@ ghost use Rattle.clear_tree.specs.Kept.{IsKept};
 ghost use Rattle.clear_tree.specs.Loading.{IsLoading};
 ghost use Rattle.directory_scan.specs.Format.{sealing_of};
 ghost use Rattle.tree_loading.specs.Clear.{HasTooMany, LoadingIsClear, root_folder};
+ghost use Rattle.tree_loading.specs.Undamaged.{UndamagedIsRead};
 ghost use Rattle.tree_loading.specs.Under.{IsReady, is_claimed, node_limit};
 ghost use Rattle.tree_loading.specs.Turned.{FindsTooMany, GoesOn};
 
@@ -53,6 +54,11 @@ pub fn load<R: Reads>(
 /// What loads a tree tells the rows that the disk stands for.
 pub fn loading_is_clear()
     ensures { LoadingIsClear }
+{}
+
+/// Of a disk without damage each byte is read: no read is answered damaged. It does nothing.
+pub fn undamaged_is_read()
+    ensures { UndamagedIsRead }
 {}
 
 // The root, before its turn.

@@ -1,0 +1,5 @@
+pub mod Fitting
+pub mod Lists
+pub mod NameLemmas
+pub mod Putting
+pub mod Ways
