@@ -128,5 +128,5 @@ pub dating_keeps_contents : DatingKeepsContents
 dating_keeps_contents s tree live number modified contents holds are q x z at stands =
     are q x z
     (leads_on (dated live number modified) live
-    (trees.edited_back live holds.is_tree number (dated_node modified) live.changes (λ n there. record { parent = refl; folder = refl }) (λ n there. refl) (omega arith) (λ n there. holds.is_tree.versions number n there)) q x at)
+    (trees.edited_back live holds.is_tree number (dated_node modified) (λ n there. record { parent = refl; folder = refl }) (λ n there. refl) (λ n there. holds.is_tree.versions number n there)) q x at)
     stands

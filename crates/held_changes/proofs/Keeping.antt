@@ -1,5 +1,5 @@
 -- A tree in memory holds what it held where only versions and moments of its nodes changed.
-use Rattle.std.proofs.Common.{◌≡◌, ℕ, suc, List, [], ◌∷◌, Option, Some, None, refl, sym, ap, ◌∙◌, subst, arith}
+use Rattle.std.proofs.Common.{◌≡◌, ℕ, List, [], ◌∷◌, Option, Some, None, refl, sym, ap, ◌∙◌, subst, arith}
 use Rattle.std.specs.FinMap.{get}
 use Rattle.std.specs.Option.{option_map}
 use Rattle.clear_tree.specs.Walk.{Path, Sealing, Node}
@@ -91,16 +91,13 @@ holds_kept s tree old new holds is_tree twice kept forth back = record {
 
 module _ (live : HeldTree) (is : IsTree live) (k now : ℕ) where
   pub changed_tree : IsTree (changed live k now)
-  changed_tree = tree_edited live is k (changed_node now) (suc live.changes) (λ n there. record { parent = refl; folder = refl }) (λ n there. refl) (omega arith)
-      (λ n there. let low = is.versions k n there in omega (arith, low))
+  changed_tree = tree_edited live is k (changed_node now) (λ n there. record { parent = refl; folder = refl }) (λ n there. refl) (λ n there. omega arith)
 
   pub changed_forth : (a : ℕ) (m : List ℕ) (x : ℕ) → IsNamed live a m x → IsNamed (changed live k now) a m x
-  changed_forth = edited_forth live is k (changed_node now) (suc live.changes) (λ n there. record { parent = refl; folder = refl }) (λ n there. refl) (omega arith)
-      (λ n there. let low = is.versions k n there in omega (arith, low))
+  changed_forth = edited_forth live is k (changed_node now) (λ n there. record { parent = refl; folder = refl }) (λ n there. refl) (λ n there. omega arith)
 
   pub changed_back : (a : ℕ) (m : List ℕ) (x : ℕ) → IsNamed (changed live k now) a m x → IsNamed live a m x
-  changed_back = edited_back live is k (changed_node now) (suc live.changes) (λ n there. record { parent = refl; folder = refl }) (λ n there. refl) (omega arith)
-      (λ n there. let low = is.versions k n there in omega (arith, low))
+  changed_back = edited_back live is k (changed_node now) (λ n there. record { parent = refl; folder = refl }) (λ n there. refl) (λ n there. omega arith)
 
   pub changed_kept : (x : ℕ) (held : HeldNode) → node_of live x ≡ Some held → IsKeptIn (changed live k now) x held
   changed_kept x held there = record {

@@ -1,5 +1,5 @@
 -- A tree in memory is one after each step of a change, and which names it has then.
-use Rattle.std.proofs.Common.{◌≡◌, ◌≢◌, ◌<◌, ◌≤◌, ℕ, suc, Bool, true, false, cond, not, List, Some, None, IsSome, ◌==◌, if◌then◌else◌, refl, sym, ap, ◌∙◌, subst, arith, true≢false, inl, inr, ◌⊎◌}
+use Rattle.std.proofs.Common.{◌≡◌, ◌≢◌, ◌<◌, ◌^◌, ℕ, suc, Bool, true, false, cond, not, List, Some, None, IsSome, ◌==◌, if◌then◌else◌, refl, sym, ap, ◌∙◌, subst, arith, true≢false, inl, inr, ◌⊎◌}
 use Rattle.std.proofs.lemmas.Bool.{eqb-true, eq-eqb, ne_eqb}
 use Rattle.std.specs.Ordering.{nat_cmp}
 use Rattle.std.specs.Option.{option_map, option_and_then}
@@ -9,7 +9,7 @@ use Rattle.std.specs.BTreeMap.{is_at}
 use Rattle.tree_model.specs.Rows.{root}
 use Rattle.clear_tree.specs.Kept.{folder_in}
 use Rattle.live_tree.specs.Held.{HeldNode, HeldTree, node_of, IsNamed, IsFree, IsChildless, IsDirectory, HasParent, IsTree}
-use Rattle.live_tree.specs.Changes.{edited, edited_nodes, appended, dropped, renamed_node}
+use Rattle.live_tree.specs.Changes.{edited, appended, dropped, renamed_node}
 use Rattle.live_tree.proofs.Entries.{AreBelow, below_from}
 use Rattle.live_tree.proofs.Held.{folder_there, folder_some, number_from, at_true, at_false}
 use Rattle.live_tree.proofs.After.{lookup_edit, IsAlike, Came, came_from, picked, by_pick}
@@ -42,7 +42,7 @@ module _ (tree tree' : HeldTree) (is : IsTree tree) (g : ℕ → HeldNode → He
         folder = rw up (folder_forth from.node.kept.parent old.folder);
       }
 
-  pub tree_by : IsStrictlySortedBy nat_cmp (keys_of tree'.nodes) → ((q : ℕ) (n : HeldNode) → node_of tree q ≡ Some n → (g q n).version ≤ tree'.changes)
+  pub tree_by : IsStrictlySortedBy nat_cmp (keys_of tree'.nodes) → ((q : ℕ) (n : HeldNode) → node_of tree q ≡ Some n → (g q n).version < 2 ^ 32)
       → ((parent : ℕ) (name : List ℕ) (a b : ℕ) → IsNamed tree' parent name a → IsNamed tree' parent name b → a ≡ b) → IsTree tree'
   tree_by ordered versions names = record {
     ordered = ordered;
@@ -56,7 +56,7 @@ module _ (tree tree' : HeldTree) (is : IsTree tree) (g : ℕ → HeldNode → He
     );
     parents = λ q n' there below. parents_at q n' below (came q n' there);
     numbers = λ q n' there. let from = came q n' there in let low = is.numbers q from.node from.there in omega (arith, low, next);
-    versions = λ q n' there. let from = came q n' there in subst (λ (n : HeldNode). n.version ≤ tree'.changes) (sym from.is) (versions q from.node from.there);
+    versions = λ q n' there. let from = came q n' there in subst (λ (n : HeldNode). n.version < 2 ^ 32) (sym from.is) (versions q from.node from.there);
     names = names;
   }
 
@@ -85,18 +85,18 @@ module _ (tree tree' : HeldTree) (is : IsTree tree) (g : ℕ → HeldNode → He
           named = sym (same_name number from.node from.there) ∙ ap (λ (n : HeldNode). n.kept.name) (sym from.is) ∙ named.named;
         }
 
-    pub tree_alike : IsStrictlySortedBy nat_cmp (keys_of tree'.nodes) → ((q : ℕ) (n : HeldNode) → node_of tree q ≡ Some n → (g q n).version ≤ tree'.changes) → IsTree tree'
+    pub tree_alike : IsStrictlySortedBy nat_cmp (keys_of tree'.nodes) → ((q : ℕ) (n : HeldNode) → node_of tree q ≡ Some n → (g q n).version < 2 ^ 32) → IsTree tree'
     tree_alike ordered versions = tree_by ordered versions (λ parent name a b x y. is.names parent name a b (named_back parent name a x) (named_back parent name b y))
 
 -- ---- the node of a number changed, with its name
 
-module _ (tree : HeldTree) (is : IsTree tree) (number : ℕ) (f : HeldNode → HeldNode) (changes : ℕ) (alike : (n : HeldNode) → node_of tree number ≡ Some n → IsAlike n (f n))
-    (same_name : (n : HeldNode) → node_of tree number ≡ Some n → (f n).kept.name ≡ n.kept.name) (more : tree.changes ≤ changes)
-    (versions : (n : HeldNode) → node_of tree number ≡ Some n → (f n).version ≤ changes) where
-  abbrev pub recounted : HeldTree
-  recounted = record { nodes = edited_nodes tree.nodes number f; next = tree.next; twice = tree.twice; changes = changes }
+module _ (tree : HeldTree) (is : IsTree tree) (number : ℕ) (f : HeldNode → HeldNode) (alike : (n : HeldNode) → node_of tree number ≡ Some n → IsAlike n (f n))
+    (same_name : (n : HeldNode) → node_of tree number ≡ Some n → (f n).kept.name ≡ n.kept.name)
+    (versions : (n : HeldNode) → node_of tree number ≡ Some n → (f n).version < 2 ^ 32) where
+  abbrev pub another : HeldTree
+  another = edited tree number f
 
-  pub edit_at : (q : ℕ) → node_of recounted q ≡ option_map (picked number f q) (node_of tree q)
+  pub edit_at : (q : ℕ) → node_of another q ≡ option_map (picked number f q) (node_of tree q)
   edit_at q = lookup_edit q number f tree.nodes
 
   pub edit_alike : (q : ℕ) (n : HeldNode) → node_of tree q ≡ Some n → IsAlike n (picked number f q n)
@@ -105,15 +105,15 @@ module _ (tree : HeldTree) (is : IsTree tree) (number : ℕ) (f : HeldNode → H
   edit_named : (q : ℕ) (n : HeldNode) → node_of tree q ≡ Some n → (picked number f q n).kept.name ≡ n.kept.name
   edit_named q n there = by_pick (λ n'. n'.kept.name ≡ n.kept.name) number f q n (λ e. same_name n (ap (node_of tree) (sym e) ∙ there)) refl
 
-  pub tree_edited : IsTree recounted
-  tree_edited = tree_alike tree recounted is (picked number f) edit_at refl edit_alike edit_named (sorted_edit number f tree.nodes is.ordered)
-      (λ q n there. by_pick (λ n'. n'.version ≤ changes) number f q n (λ e. versions n (ap (node_of tree) (sym e) ∙ there)) (let low = is.versions q n there in omega (arith, low, more)))
+  pub tree_edited : IsTree another
+  tree_edited = tree_alike tree another is (picked number f) edit_at refl edit_alike edit_named (sorted_edit number f tree.nodes is.ordered)
+      (λ q n there. by_pick (λ n'. n'.version < 2 ^ 32) number f q n (λ e. versions n (ap (node_of tree) (sym e) ∙ there)) (is.versions q n there))
 
-  pub edited_forth : (parent : ℕ) (name : List ℕ) (x : ℕ) → IsNamed tree parent name x → IsNamed recounted parent name x
-  edited_forth = named_forth tree recounted is (picked number f) edit_at refl edit_alike edit_named
+  pub edited_forth : (parent : ℕ) (name : List ℕ) (x : ℕ) → IsNamed tree parent name x → IsNamed another parent name x
+  edited_forth = named_forth tree another is (picked number f) edit_at refl edit_alike edit_named
 
-  pub edited_back : (parent : ℕ) (name : List ℕ) (x : ℕ) → IsNamed recounted parent name x → IsNamed tree parent name x
-  edited_back = named_back tree recounted is (picked number f) edit_at refl edit_alike edit_named
+  pub edited_back : (parent : ℕ) (name : List ℕ) (x : ℕ) → IsNamed another parent name x → IsNamed tree parent name x
+  edited_back = named_back tree another is (picked number f) edit_at refl edit_alike edit_named
 
 -- ---- a node behind the others
 
@@ -193,7 +193,7 @@ module _ (tree : HeldTree) (is : IsTree tree) (node : HeldNode) (up : IsDirector
       numbers q n (inl e) = let same = e.0 in omega (arith, same)
       numbers q n (inr there) = let low = is.numbers q n there in omega (arith, low)
 
-      versions : (q : ℕ) (n : HeldNode) → ((q ≡ tree.next) × (n ≡ node)) ⊎ (node_of tree q ≡ Some n) → n.version ≤ tree.changes
+      versions : (q : ℕ) (n : HeldNode) → ((q ≡ tree.next) × (n ≡ node)) ⊎ (node_of tree q ≡ Some n) → n.version < 2 ^ 32
       versions q n (inl e) = let zero_is : n.version ≡ 0 = ap (λ (x : HeldNode). x.version) e.1 ∙ fresh in omega (arith, zero_is)
       versions q n (inr there) = is.versions q n there
 
@@ -320,7 +320,7 @@ module _ (tree : HeldTree) (is : IsTree tree) (number parent : ℕ) (n k entry :
 
   pub tree_after : IsTree after
   tree_after = tree_by tree after is pick after_at refl alike (sorted_edit number (renamed_node k entry long) tree.nodes is.ordered)
-      (λ q m there. by_pick (λ m'. m'.version ≤ tree.changes) number (renamed_node k entry long) q m (λ e. is.versions q m there) (is.versions q m there))
+      (λ q m there. by_pick (λ m'. m'.version < 2 ^ 32) number (renamed_node k entry long) q m (λ e. is.versions q m there) (is.versions q m there))
       (λ a m x y h g. names a m x y (after_back a m x h) (after_back a m y g))
     where
       taken : (a : ℕ) (m : List ℕ) (x : ℕ) → IsNamed tree a m x → a ≡ parent → m ≡ k → ⊥

@@ -1,5 +1,5 @@
 -- A file written, and a node dated, in the tree and in memory.
-use Rattle.std.proofs.Common.{◌≡◌, ◌≢◌, ◌≤◌, ℕ, true, false, List, [], ◌∷◌, length, Option, Some, if◌then◌else◌, refl, sym, ap, ◌∙◌, subst, arith, inl, inr, ◌⊎◌}
+use Rattle.std.proofs.Common.{◌≡◌, ◌≢◌, ◌<◌, ◌^◌, ℕ, true, false, List, [], ◌∷◌, length, Option, Some, if◌then◌else◌, refl, sym, ap, ◌∙◌, subst, inl, inr, ◌⊎◌}
 use Rattle.std.proofs.lemmas.Bool.{cond-true, cond-false, eq-eqb, ne_eqb}
 use Rattle.std.specs.FinMap.{get}
 use Rattle.clear_tree.specs.Walk.{Path, same_path, Sealing, Node, File, Dir}
@@ -20,8 +20,8 @@ use Rattle.held_changes.proofs.Keeping.{one_node, leads_on, IsKeptIn, holds_kept
 
 pub dating_holds : DatingHolds
 dating_holds s tree live number modified holds =
-    holds_kept s tree live (dated live number modified) holds (tree_edited live ok number (dated_node modified) live.changes alike named (omega arith) versions) refl kept
-    (edited_forth live ok number (dated_node modified) live.changes alike named (omega arith) versions) (edited_back live ok number (dated_node modified) live.changes alike named (omega arith) versions)
+    holds_kept s tree live (dated live number modified) holds (tree_edited live ok number (dated_node modified) alike named versions) refl kept
+    (edited_forth live ok number (dated_node modified) alike named versions) (edited_back live ok number (dated_node modified) alike named versions)
   where
     ok : IsTree live
     ok = holds.is_tree
@@ -32,14 +32,14 @@ dating_holds s tree live number modified holds =
     named : (n : HeldNode) → node_of live number ≡ Some n → (dated_node modified n).kept.name ≡ n.kept.name
     named n there = refl
 
-    versions : (n : HeldNode) → node_of live number ≡ Some n → (dated_node modified n).version ≤ live.changes
+    versions : (n : HeldNode) → node_of live number ≡ Some n → (dated_node modified n).version < 2 ^ 32
     versions n there = ok.versions number n there
 
     kept : (x : ℕ) (held : HeldNode) → node_of live x ≡ Some held → IsKeptIn (dated live number modified) x held
     kept x held there = record {
       node = picked number (dated_node modified) x held;
-      there = forth live (dated live number modified) ok (picked number (dated_node modified)) (edit_at live ok number (dated_node modified) live.changes alike named (omega arith) versions) refl
-          (edit_alike live ok number (dated_node modified) live.changes alike named (omega arith) versions) x held there;
+      there = forth live (dated live number modified) ok (picked number (dated_node modified)) (edit_at live ok number (dated_node modified) alike named versions) refl
+          (edit_alike live ok number (dated_node modified) alike named versions) x held there;
       same = by_pick (λ n'. n'.kept ≡ held.kept) number (dated_node modified) x held (λ e. refl) refl;
     }
 
@@ -72,23 +72,20 @@ module _ (s : Sealing) (tree : Tree) (live : HeldTree) (p : Path) (number : ℕ)
   named : (n : HeldNode) → node_of live number ≡ Some n → (f n).kept.name ≡ n.kept.name
   named n there = refl
 
-  versions : (n : HeldNode) → node_of live number ≡ Some n → (f n).version ≤ live.changes
+  versions : (n : HeldNode) → node_of live number ≡ Some n → (f n).version < 2 ^ 32
   versions n there = ok.versions number n there
 
-  more : live.changes ≤ live.changes
-  more = omega arith
-
   pub is_tree : IsTree live'
-  is_tree = tree_edited live ok number f live.changes alike named more versions
+  is_tree = tree_edited live ok number f alike named versions
 
   to : (q : Path) (x : ℕ) → IsAt live q x → IsAt live' q x
-  to = leads_on live live' (edited_forth live ok number f live.changes alike named more versions)
+  to = leads_on live live' (edited_forth live ok number f alike named versions)
 
   pub from : (q : Path) (x : ℕ) → IsAt live' q x → IsAt live q x
-  from = leads_on live' live (edited_back live ok number f live.changes alike named more versions)
+  from = leads_on live' live (edited_back live ok number f alike named versions)
 
   there_after : (x : ℕ) (held : HeldNode) → node_of live x ≡ Some held → node_of live' x ≡ Some (picked number f x held)
-  there_after = forth live live' ok (picked number f) (edit_at live ok number f live.changes alike named more versions) refl (edit_alike live ok number f live.changes alike named more versions)
+  there_after = forth live live' ok (picked number f) (edit_at live ok number f alike named versions) refl (edit_alike live ok number f alike named versions)
 
   picked_here : (held : HeldNode) → picked number f number held ≡ f held
   picked_here held = ap (λ b. if b then f held else held) (eq-eqb number number refl)

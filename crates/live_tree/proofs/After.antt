@@ -1,5 +1,5 @@
 -- What holds of a tree holds of it after a node of it changed, got another name or was taken away.
-use Rattle.std.proofs.Common.{◌≡◌, ◌≢◌, ℕ, suc, ◌≤◌, Bool, true, false, cond, List, [], ◌∷◌, map, Option, Some, None, IsSome, ◌==◌, if◌then◌else◌, refl, sym, ap, ap₂, ◌∙◌, subst, true≢false, arith}
+use Rattle.std.proofs.Common.{◌≡◌, ◌≢◌, ℕ, ◌<◌, ◌^◌, Bool, true, false, cond, List, [], ◌∷◌, map, Option, Some, None, IsSome, ◌==◌, if◌then◌else◌, refl, sym, ap, ap₂, ◌∙◌, subst, true≢false, arith}
 use Rattle.std.proofs.lemmas.Bool.{eqb-true, eq-eqb, ne_eqb}
 use Rattle.std.specs.Ordering.{nat_cmp}
 use Rattle.std.specs.Option.{option_map, option_and_then}
@@ -10,7 +10,7 @@ use Rattle.tree_model.specs.Rows.{root}
 use Rattle.clear_tree.specs.Kept.{What, KeptFile, KeptLink, KeptDir, KeptBad, folder_in}
 use Rattle.live_tree.specs.Held.{HeldNode, HeldTree, node_of, IsNamed, IsFree, HasParent}
 use Rattle.live_tree.specs.Index.{Names, number_at, has_names, is_place, IsSet, IsHeld}
-use Rattle.live_tree.specs.Changes.{edited_nodes, edited, counted, changed_node, renamed_node, sized_node, dated_node, IsFile}
+use Rattle.live_tree.specs.Changes.{edited_nodes, edited, changed_node, renamed_node, sized_node, dated_node, IsFile}
 use Rattle.live_tree.proofs.Entries.{edit}
 use Rattle.live_tree.proofs.Held.{place_is, place_true, folder_there, folder_some, number_from}
 
@@ -73,7 +73,7 @@ module _ (names : Names) (tree tree' : HeldTree) (held : IsHeld names tree) (g :
   pub held_by : (names' : Names) → ((q : ℕ) → has_names names q ≡ true → has_names names' q ≡ true)
       → ((parent : ℕ) (name : List ℕ) (number : ℕ) → number_at names' parent name ≡ Some number → IsNamed tree' parent name number)
       → ((parent : ℕ) (name : List ℕ) (number : ℕ) → IsNamed tree' parent name number → number_at names' parent name ≡ Some number)
-      → IsStrictlySortedBy nat_cmp (keys_of tree'.nodes) → ((q : ℕ) (n : HeldNode) → node_of tree q ≡ Some n → (g q n).version ≤ tree'.changes) → IsHeld names' tree'
+      → IsStrictlySortedBy nat_cmp (keys_of tree'.nodes) → ((q : ℕ) (n : HeldNode) → node_of tree q ≡ Some n → (g q n).version < 2 ^ 32) → IsHeld names' tree'
   held_by names' grown named found ordered versions = record {
     ordered = ordered;
     first = (
@@ -86,7 +86,7 @@ module _ (names : Names) (tree tree' : HeldTree) (held : IsHeld names tree) (g :
     );
     parents = λ q n' there below. parents_at q n' below (came q n' there);
     numbers = λ q n' there. let from = came q n' there in let low = held.numbers q from.node from.there in omega (arith, low, next);
-    versions = λ q n' there. let from = came q n' there in subst (λ (n : HeldNode). n.version ≤ tree'.changes) (sym from.is) (versions q from.node from.there);
+    versions = λ q n' there. let from = came q n' there in subst (λ (n : HeldNode). n.version < 2 ^ 32) (sym from.is) (versions q from.node from.there);
     directories = λ q n' there folder.
         let from = came q n' there in
         grown q (held.directories q from.node from.there (subst IsSome (ap (λ (n : HeldNode). folder_in n.kept.what) from.is ∙ (alike q from.node from.there).folder) folder));
@@ -119,7 +119,7 @@ module _ (names : Names) (tree tree' : HeldTree) (held : IsHeld names tree) (g :
           named = sym (same_name number from.node from.there) ∙ ap (λ (n : HeldNode). n.kept.name) (sym from.is) ∙ is.named;
         }
 
-    pub held_alike : IsStrictlySortedBy nat_cmp (keys_of tree'.nodes) → ((q : ℕ) (n : HeldNode) → node_of tree q ≡ Some n → (g q n).version ≤ tree'.changes) → IsHeld names tree'
+    pub held_alike : IsStrictlySortedBy nat_cmp (keys_of tree'.nodes) → ((q : ℕ) (n : HeldNode) → node_of tree q ≡ Some n → (g q n).version < 2 ^ 32) → IsHeld names tree'
     held_alike ordered versions =
         held_by names (λ q there. there) (λ parent name number found. named_forth parent name number (held.named parent name number found))
         (λ parent name number is. held.found parent name number (named_back parent name number is)) ordered versions
@@ -135,36 +135,31 @@ by_pick P number f q n here other = step (q == number) refl
     step true b = rw b (here (eqb-true q number b))
     step false b = rw b other
 
-recount : HeldTree → ℕ → HeldTree
-recount tree changes = record { nodes = tree.nodes; next = tree.next; twice = tree.twice; changes = changes }
-
 sorted_edit : (tree : HeldTree) (number : ℕ) (f : HeldNode → HeldNode) → IsStrictlySortedBy nat_cmp (keys_of tree.nodes) → IsStrictlySortedBy nat_cmp (keys_of (edited_nodes tree.nodes number f))
 sorted_edit tree number f sorted = subst (IsStrictlySortedBy nat_cmp) (sym (keys_edit number f tree.nodes)) sorted
 
 -- a node that keeps its directory, its name and what it is
-pub held_edited : (names : Names) (tree : HeldTree) (number : ℕ) (f : HeldNode → HeldNode) (changes : ℕ) → IsHeld names tree
+pub held_edited : (names : Names) (tree : HeldTree) (number : ℕ) (f : HeldNode → HeldNode) → IsHeld names tree
     → ((n : HeldNode) → node_of tree number ≡ Some n → IsAlike n (f n)) → ((n : HeldNode) → (f n).kept.name ≡ n.kept.name)
-    → tree.changes ≤ changes → ((n : HeldNode) → node_of tree number ≡ Some n → (f n).version ≤ changes)
-    → IsHeld names (record { nodes = edited_nodes tree.nodes number f; next = tree.next; twice = tree.twice; changes = changes })
-held_edited names tree number f changes held alike same_name more versions =
-    held_alike names tree (record { nodes = edited_nodes tree.nodes number f; next = tree.next; twice = tree.twice; changes = changes }) held (picked number f)
+    → ((n : HeldNode) → node_of tree number ≡ Some n → (f n).version < 2 ^ 32) → IsHeld names (edited tree number f)
+held_edited names tree number f held alike same_name versions =
+    held_alike names tree (edited tree number f) held (picked number f)
     (λ q. lookup_edit q number f tree.nodes) refl
     (λ q n there. by_pick (λ n'. IsAlike n n') number f q n (λ e. alike n (ap (node_of tree) (sym e) ∙ there)) (record { parent = refl; folder = refl }))
     (λ q n there. by_pick (λ n'. n'.kept.name ≡ n.kept.name) number f q n (λ e. same_name n) refl) (sorted_edit tree number f held.ordered)
-    (λ q n there. by_pick (λ n'. n'.version ≤ changes) number f q n (λ e. versions n (ap (node_of tree) (sym e) ∙ there)) (let low = held.versions q n there in omega (arith, low, more)))
+    (λ q n there. by_pick (λ n'. n'.version < 2 ^ 32) number f q n (λ e. versions n (ap (node_of tree) (sym e) ∙ there)) (held.versions q n there))
 
 alike_itself : (n : HeldNode) → IsAlike n n
 alike_itself n = record { parent = refl; folder = refl }
 
 -- one change more
-pub held_changed : (names : Names) (tree : HeldTree) (number now : ℕ) → IsHeld names tree → IsHeld names (counted (edited tree number (changed_node now)))
+pub held_changed : (names : Names) (tree : HeldTree) (number now : ℕ) → IsHeld names tree → IsHeld names (edited tree number (changed_node now))
 held_changed names tree number now held =
-    held_edited names tree number (changed_node now) (suc tree.changes) held (λ n there. record { parent = refl; folder = refl }) (λ n. refl) (omega arith)
-    (λ n there. let low = held.versions number n there in omega (arith, low))
+    held_edited names tree number (changed_node now) held (λ n there. record { parent = refl; folder = refl }) (λ n. refl) (λ n there. omega arith)
 
 pub held_dated : (names : Names) (tree : HeldTree) (number modified : ℕ) → IsHeld names tree → IsHeld names (edited tree number (dated_node modified))
 held_dated names tree number modified held =
-    held_edited names tree number (dated_node modified) tree.changes held (λ n there. record { parent = refl; folder = refl }) (λ n. refl) (omega arith)
+    held_edited names tree number (dated_node modified) held (λ n there. record { parent = refl; folder = refl }) (λ n. refl)
     (λ n there. held.versions number n there)
 
 no_folder : (what : What) → IsFile what → (size : ℕ) → folder_in (KeptFile size) ≡ folder_in what
@@ -176,7 +171,7 @@ no_folder (KeptBad text) is size = refl
 pub held_sized : (names : Names) (tree : HeldTree) (number size : ℕ) → IsHeld names tree → ((n : HeldNode) → node_of tree number ≡ Some n → IsFile n.kept.what)
     → IsHeld names (edited tree number (sized_node size))
 held_sized names tree number size held written =
-    held_edited names tree number (sized_node size) tree.changes held (λ n there. record { parent = refl; folder = no_folder n.kept.what (written n there) size }) (λ n. refl) (omega arith)
+    held_edited names tree number (sized_node size) held (λ n there. record { parent = refl; folder = no_folder n.kept.what (written n there) size }) (λ n. refl)
     (λ n there. held.versions number n there)
 
 -- ---- another name
@@ -288,4 +283,4 @@ module _ (names mid new : Names) (tree : HeldTree) (number : ℕ) (name entry : 
       (λ p n k at. named_of p n k (is_place node.kept.parent node.kept.name p n) (is_place node.kept.parent name p n) refl refl (sym (at_new p n) ∙ at))
       (λ p n k is. at_new p n ∙ found_of p n k is (came_from tree k (pick k) is.node (node_of tree k) refl (sym (at_after k) ∙ is.child.there)) (k == number) refl)
       (sorted_edit tree number (renamed_node name entry long) held.ordered)
-      (λ q n is. by_pick (λ n'. n'.version ≤ tree.changes) number (renamed_node name entry long) q n (λ e. held.versions q n is) (held.versions q n is))
+      (λ q n is. by_pick (λ n'. n'.version < 2 ^ 32) number (renamed_node name entry long) q n (λ e. held.versions q n is) (held.versions q n is))

@@ -1,5 +1,5 @@
 -- What holds of a tree holds of it after a change.
-use Rattle.std.proofs.Common.{◌≡◌, ◌≢◌, ℕ, suc, ◌<◌, ◌≤◌, Bool, true, false, cond, ◌&&◌, List, [], ◌∷◌, ◌++◌, Option, Some, None, IsSome, bytes_eq, ◌==◌, refl, sym, ap, ap₂, ◌∙◌, subst, true≢false, arith, ◌⊎◌, inl, inr}
+use Rattle.std.proofs.Common.{◌≡◌, ◌≢◌, ℕ, suc, ◌<◌, ◌^◌, Bool, true, false, cond, ◌&&◌, List, [], ◌∷◌, ◌++◌, Option, Some, None, IsSome, bytes_eq, ◌==◌, refl, sym, ap, ap₂, ◌∙◌, subst, true≢false, arith, ◌⊎◌, inl, inr}
 use Rattle.std.proofs.lemmas.Bool.{eqb-true, eq-eqb, ne_eqb, and_parts}
 use Rattle.std.proofs.lemmas.Slice.Eq.{bytes_eq-Decides}
 use Rattle.std.specs.Ordering.{nat_cmp}
@@ -192,7 +192,7 @@ module _ (names : Names) (tree : HeldTree) (node : HeldNode) (held : IsHeld name
     numbers_at q n (inl this) = let e = this.number in omega (arith, e)
     numbers_at q n (inr there) = let low = held.numbers q n there in omega (arith, low)
 
-    versions_at : (q : ℕ) (n : HeldNode) → IsNew q n tree.next node ⊎ (node_of tree q ≡ Some n) → n.version ≤ tree.changes
+    versions_at : (q : ℕ) (n : HeldNode) → IsNew q n tree.next node ⊎ (node_of tree q ≡ Some n) → n.version < 2 ^ 32
     versions_at q n (inl this) = let zero_is : n.version ≡ 0 = ap (λ (x : HeldNode). x.version) this.node_is ∙ fresh in omega (arith, zero_is)
     versions_at q n (inr there) = held.versions q n there
 

@@ -1,5 +1,5 @@
 -- A tree as it was loaded, node by node.
-use Rattle.std.proofs.Common.{◌≡◌, ◌≢◌, ℕ, zero, suc, ◌+◌, ◌<◌, ◌≤◌, Bool, true, false, cond, List, [], ◌∷◌, ◌++◌, length, take, slice_get, Option, Some, None, Result, Ok, Err, OnOk, IsSome, refl, sym, ap, ap₂, ◌∙◌, subst, true≢false, arith}
+use Rattle.std.proofs.Common.{◌≡◌, ◌≢◌, ℕ, zero, suc, ◌+◌, ◌<◌, ◌≤◌, ◌^◌, Bool, true, false, cond, List, [], ◌∷◌, ◌++◌, length, take, slice_get, Option, Some, None, Result, Ok, Err, OnOk, IsSome, refl, sym, ap, ap₂, ◌∙◌, subst, true≢false, arith}
 use Rattle.std.proofs.lemmas.Option.{slice_get_within}
 use Rattle.live_tree.proofs.Rows.{rows_loaded}
 use Rattle.std.specs.Ordering.{nat_cmp}
@@ -112,7 +112,7 @@ module _ (unlocked : ℕ) (tree : KeptTree) (is : IsTree tree) (number : ℕ) (x
   pub loaded_more : appended (loaded unlocked (take number tree.nodes) number tree.twice) (unchanged_node unlocked x) ≡ loaded unlocked (take (suc number) tree.nodes) (suc number) tree.twice
   loaded_more =
       let len : length (take number tree.nodes) ≡ number = length_taken tree.nodes number x there in
-      ap (λ (es : List (ℕ × HeldNode)). record { nodes = es; next = suc number; twice = tree.twice; changes = 0 })
+      ap (λ (es : List (ℕ × HeldNode)). record { nodes = es; next = suc number; twice = tree.twice })
       (sym (ap (numbered unlocked 0) (take_more tree.nodes number x there) ∙ numbered_append unlocked 0 number (take number tree.nodes) x (omega (arith, len))))
 
 -- ---- the root
@@ -126,7 +126,7 @@ take_one [] x h = absurd cc
 take_one (y ∷ ns) x h = let same : y ≡ x = cc in ap (λ (z : KeptNode). z ∷ []) same
 
 alone : ℕ → KeptNode → Bool → HeldTree
-alone unlocked x twice = record { nodes = (0, unchanged_node unlocked x) ∷ []; next = 1; twice = twice; changes = 0 }
+alone unlocked x twice = record { nodes = (0, unchanged_node unlocked x) ∷ []; next = 1; twice = twice }
 
 record IsAlone (unlocked : ℕ) (x : KeptNode) (q : ℕ) (n : HeldNode) : Type 0 where
   number : q ≡ 0
@@ -144,7 +144,7 @@ pub only_entry : (es nodes : List (ℕ × HeldNode)) (v w : HeldNode) → es ≡
 only_entry es nodes v w empty put same = put ∙ ap (λ (xs : List (ℕ × HeldNode)). insert_entry nat_cmp xs 0 v) empty ∙ ap (λ (x : HeldNode). (0, x) ∷ []) same
 
 abbrev pub with_one : List (ℕ × HeldNode) → Bool → HeldTree
-with_one nodes twice = record { nodes = nodes; next = 1; twice = twice; changes = 0 }
+with_one nodes twice = record { nodes = nodes; next = 1; twice = twice }
 
 pub root_is : (unlocked : ℕ) (tree : KeptTree) (x : KeptNode) (twice : Bool) → kept_node_of tree root ≡ Some x → twice ≡ tree.twice → (nodes : List (ℕ × HeldNode)) → nodes ≡ (0, unchanged_node unlocked x) ∷ []
     → with_one nodes twice ≡ loaded unlocked (take 1 tree.nodes) 1 tree.twice
@@ -162,7 +162,7 @@ load_is unlocked tree number x self new node is there was made app =
     app ∙ ap₂ (λ (t : HeldTree) (n : HeldNode). appended t n) was made ∙ loaded_more unlocked tree is number x there
 
 pub root_held : (empty names : Names) (unlocked : ℕ) (tree : KeptTree) (x : KeptNode) (twice : Bool) → IsTree tree → kept_node_of tree root ≡ Some x → empty.entries ≡ [] → IsGrown empty names → has_names names 0 ≡ true
-    → (nodes : List (ℕ × HeldNode)) → nodes ≡ (0, unchanged_node unlocked x) ∷ [] → IsHeld names (record { nodes = nodes; next = 1; twice = twice; changes = 0 })
+    → (nodes : List (ℕ × HeldNode)) → nodes ≡ (0, unchanged_node unlocked x) ∷ [] → IsHeld names (record { nodes = nodes; next = 1; twice = twice })
 root_held empty names unlocked tree x twice is there none grown opened nodes e =
     let same : is.first.0 ≡ x = (let own = is.first.1.there in cc (own, there)) in
     let up : x.parent ≡ root = ap (λ (n : KeptNode). n.parent) (sym same) ∙ is.first.1.own in
@@ -174,7 +174,7 @@ root_held empty names unlocked tree x twice is there none grown opened nodes e =
       );
       parents = λ q n at below. absurd (below (alone_at unlocked x q n (is_at (nat_cmp q) 0) refl at).number);
       numbers = λ q n at. let zero_is = (alone_at unlocked x q n (is_at (nat_cmp q) 0) refl at).number in omega (arith, zero_is);
-      versions = λ q n at. subst (λ (m : HeldNode). m.version ≤ 0) (sym (alone_at unlocked x q n (is_at (nat_cmp q) 0) refl at).node_is) (omega arith);
+      versions = λ q n at. subst (λ (m : HeldNode). m.version < 2 ^ 32) (sym (alone_at unlocked x q n (is_at (nat_cmp q) 0) refl at).node_is) (omega arith);
       directories = λ q n at folder. ap (has_names names) (alone_at unlocked x q n (is_at (nat_cmp q) 0) refl at).number ∙ opened;
       named = λ p n k at. let no = sym (grown.numbers p n ∙ empty_names empty none p n) ∙ at in absurd cc;
       found = λ p n k named. absurd (named.child.below (alone_at unlocked x k named.node (is_at (nat_cmp k) 0) refl named.child.there).number);

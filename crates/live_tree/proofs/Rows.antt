@@ -1,9 +1,9 @@
 -- The rows of a tree after a change.
-use Rattle.std.proofs.Common.{◌≡◌, ◌≢◌, ℕ, suc, ◌<◌, Bool, true, false, cond, not, List, [], ◌∷◌, ◌++◌, map, filter, Option, Some, None, ◌==◌, if◌then◌else◌, refl, sym, ap, ap₂, ◌∙◌, true≢false, arith}
+use Rattle.std.proofs.Common.{◌≡◌, ◌≢◌, ℕ, suc, ◌<◌, ◌%◌, ◌^◌, Bool, true, false, cond, not, List, [], ◌∷◌, ◌++◌, map, filter, Option, Some, None, ◌==◌, if◌then◌else◌, refl, sym, ap, ap₂, ◌∙◌, true≢false, arith}
 use Rattle.std.proofs.lemmas.Bool.{eqb-true, eq-eqb}
 use Rattle.std.specs.Ordering.{nat_cmp}
 use Rattle.std.specs.Option.{option_map}
-use Rattle.std.specs.List.{AllByRecursion, find}
+use Rattle.std.specs.List.{find}
 use Rattle.std.specs.List.Sorted.{IsStrictlySortedBy}
 use Rattle.std.specs.Map.{lookup, keys_of}
 use Rattle.std.specs.BTreeMap.{is_at}
@@ -11,7 +11,7 @@ use Rattle.tree_model.specs.Rows.{Content, chunks, Row, Rows, is_dir, row_of}
 use Rattle.tree_model.specs.Step.{changed_at, new_row, with_content}
 use Rattle.clear_tree.specs.Kept.{What, KeptFile, KeptLink, KeptDir, KeptBad, KeptNode, kind_of, content_of, rows_from}
 use Rattle.live_tree.specs.Held.{HeldNode, HeldTree, node_of, live_row, live_rows, numbered, unchanged_node}
-use Rattle.live_tree.specs.Changes.{changed_node, added, new_node, removed, renamed, renamed_node, touched, sized_node, dated, dated_node, CanBeMade, IsFile, AgreeBut, RowsAreAdded, RowsAreRemoved, RowsAreRenamed, RowsAreTouched, RowsAreDated}
+use Rattle.live_tree.specs.Changes.{changed_node, added, new_node, removed, renamed, renamed_node, touched, sized_node, dated, dated_node, CanBeMade, IsFile, AgreeBut, wrapped_row, wrapped, RowsAreAdded, RowsAreRemoved, RowsAreRenamed, RowsAreTouched, RowsAreDated}
 use Rattle.live_tree.proofs.Entries.{test_is, map_congr, map_map, map_append, all_any, edit, AreBelow, AreThis, this_from}
 
 Nodes : Type 0
@@ -52,44 +52,45 @@ has_node contents tree number row h = node_for contents tree number row (node_of
 
 -- ---- a node that changed
 
+-- a version is shown as it is held
+wraps : (v : ℕ) → v % 2 ^ 32 % 2 ^ 32 ≡ v % 2 ^ 32
+wraps v = omega arith
+
+changed_row : (contents : ℕ → Content) (now number : ℕ) (node : HeldNode) → wrapped_row (live_row contents (number, changed_node now node)) ≡ wrapped_row (changed_at now (live_row contents (number, node)))
+changed_row contents now number node = ap (λ (v : ℕ). record (live_row contents (number, node)) { version = v; modified = now }) (wraps (suc node.version))
+
 -- the rows of an edited tree, in which the row of the number is another
 change_step : (b : Bool) (contents : ℕ → Content) (number now : ℕ) (e : ℕ × HeldNode) → (e.0 == number) ≡ b
-    → live_row contents (edit number (changed_node now) e) ≡ cond (e.0 == number) (changed_at now (live_row contents e)) (live_row contents e)
-change_step true contents number now e is = rw is refl
+    → wrapped_row (live_row contents (edit number (changed_node now) e)) ≡ wrapped_row (cond (e.0 == number) (changed_at now (live_row contents e)) (live_row contents e))
+change_step true contents number now e is = rw is (changed_row contents now e.0 e.1)
 change_step false contents number now e is = rw is refl
 
 pub rows_changed : (contents : ℕ → Content) (number now : ℕ) (es : List (ℕ × HeldNode))
-    → map (live_row contents) (map (edit number (changed_node now)) es)
-    ≡ map (λ (row : Row). if row.number == number then changed_at now row else row) (map (live_row contents) es)
-rows_changed contents number now es =
-    map_map (edit number (changed_node now)) (live_row contents) es
-    ∙ map_congr _ _ es (all_any _ (λ e. change_step (e.0 == number) contents number now e refl) es)
-    ∙ sym (map_map (live_row contents) (λ (row : Row). if row.number == number then changed_at now row else row) es)
+    → map wrapped_row (map (live_row contents) (map (edit number (changed_node now)) es))
+    ≡ map wrapped_row (map (λ (row : Row). if row.number == number then changed_at now row else row) (map (live_row contents) es))
+rows_changed contents number now [] = refl
+rows_changed contents number now (e ∷ es) =
+    ap₂ (λ (row : Row) (rows : List Row). row ∷ rows) (change_step (e.0 == number) contents number now e refl) (rows_changed contents number now es)
 
 -- where the node of the number is this one, its row is set
 set_step : (b : Bool) (contents contents' : ℕ → Content) (number : ℕ) (f : HeldNode → HeldNode) (node : HeldNode) (new : Row) (e : ℕ × HeldNode) → (e.0 == number) ≡ b
-    → ((e.0 == number) ≡ true → e.1 ≡ node) → live_row contents' (number, f node) ≡ new → ((e.0 ≢ number) → live_row contents' e ≡ live_row contents e)
-    → live_row contents' (edit number f e) ≡ cond (e.0 == number) new (live_row contents e)
+    → ((e.0 == number) ≡ true → e.1 ≡ node) → wrapped_row (live_row contents' (number, f node)) ≡ wrapped_row new → ((e.0 ≢ number) → live_row contents' e ≡ live_row contents e)
+    → wrapped_row (live_row contents' (edit number f e)) ≡ wrapped_row (cond (e.0 == number) new (live_row contents e))
 set_step true contents contents' number f node new e is this set other =
-    rw is (ap (λ (p : ℕ × HeldNode). live_row contents' (p.0, f p.1)) (ap₂ (λ (k : ℕ) (n : HeldNode). (k, n)) (eqb-true e.0 number is) (this is)) ∙ set)
+    rw is (ap (λ (p : ℕ × HeldNode). wrapped_row (live_row contents' (p.0, f p.1))) (ap₂ (λ (k : ℕ) (n : HeldNode). (k, n)) (eqb-true e.0 number is) (this is)) ∙ set)
 set_step false contents contents' number f node new e is this set other =
-    rw is (other (λ same. true≢false (sym (eq-eqb e.0 number same) ∙ is)))
-
-set_all : (contents contents' : ℕ → Content) (number : ℕ) (f : HeldNode → HeldNode) (node : HeldNode) (new : Row) (es : List (ℕ × HeldNode)) → AreThis number node es
-    → live_row contents' (number, f node) ≡ new → ((e : ℕ × HeldNode) → e.0 ≢ number → live_row contents' e ≡ live_row contents e)
-    → AllByRecursion (λ (e : ℕ × HeldNode). live_row contents' (edit number f e) ≡ cond (e.0 == number) new (live_row contents e)) es
-set_all contents contents' number f node new [] this set other = tt
-set_all contents contents' number f node new (e ∷ es) this set other =
-    (set_step (e.0 == number) contents contents' number f node new e refl this.0 set (other e), set_all contents contents' number f node new es this.1 set other)
+    rw is (ap wrapped_row (other (λ same. true≢false (sym (eq-eqb e.0 number same) ∙ is))))
 
 pub rows_set : (contents contents' : ℕ → Content) (number : ℕ) (f : HeldNode → HeldNode) (node : HeldNode) (new : Row) (es : List (ℕ × HeldNode)) → AreThis number node es
-    → new.number ≡ number → live_row contents' (number, f node) ≡ new → ((e : ℕ × HeldNode) → e.0 ≢ number → live_row contents' e ≡ live_row contents e)
-    → map (live_row contents') (map (edit number f) es) ≡ map (λ (row : Row). if row.number == new.number then new else row) (map (live_row contents) es)
-rows_set contents contents' number f node new es this numbered set other =
-    map_map (edit number f) (live_row contents') es
-    ∙ map_congr _ _ es (set_all contents contents' number f node new es this set other)
-    ∙ sym (map_map (live_row contents) (λ (row : Row). if row.number == number then new else row) es)
-    ∙ ap (λ k. map (λ (row : Row). if row.number == k then new else row) (map (live_row contents) es)) (sym numbered)
+    → new.number ≡ number → wrapped_row (live_row contents' (number, f node)) ≡ wrapped_row new → ((e : ℕ × HeldNode) → e.0 ≢ number → live_row contents' e ≡ live_row contents e)
+    → map wrapped_row (map (live_row contents') (map (edit number f) es))
+    ≡ map wrapped_row (map (λ (row : Row). if row.number == new.number then new else row) (map (live_row contents) es))
+rows_set contents contents' number f node new [] this numbered set other = refl
+rows_set contents contents' number f node new (e ∷ es) this numbered set other =
+    ap₂ (λ (row : Row) (rows : List Row). row ∷ rows)
+    (set_step (e.0 == number) contents contents' number f node new e refl this.0 set (other e)
+    ∙ ap (λ (k : ℕ). wrapped_row (cond (e.0 == k) new (live_row contents e))) (sym numbered))
+    (rows_set contents contents' number f node new es this.1 numbered set other)
 
 Ordered : HeldTree → Type 0
 Ordered tree = IsStrictlySortedBy nat_cmp (keys_of tree.nodes)
@@ -97,7 +98,8 @@ Ordered tree = IsStrictlySortedBy nat_cmp (keys_of tree.nodes)
 abbrev pub rows_with : ℕ → Bool → List Row → Rows
 rows_with next twice rows = record { nodes = rows; next = next; named_twice = twice }
 
-with_these : (tree : HeldTree) (xs : List Row) (ys : List Row) → xs ≡ ys → rows_with tree.next tree.twice xs ≡ rows_with tree.next tree.twice ys
+with_these : (tree : HeldTree) (xs : List Row) (ys : List Row) → map wrapped_row xs ≡ map wrapped_row ys
+    → wrapped (rows_with tree.next tree.twice xs) ≡ wrapped (rows_with tree.next tree.twice ys)
 with_these tree xs ys e = ap (rows_with tree.next tree.twice) e
 
 -- ---- the mtime
@@ -115,7 +117,7 @@ content_agrees : (what : What) (a b : Content) → a ≡ b → content_of what a
 content_agrees what a b e = ap (content_of what) e
 
 sized_row : (contents contents' : ℕ → Content) (number size now : ℕ) (node : HeldNode) (what : What) → node.kept.what ≡ what → IsFile what
-    → live_row contents' (number, changed_node now (sized_node size node)) ≡ with_content (live_row contents (number, node)) (contents' number) now
+    → changed_at now (live_row contents' (number, sized_node size node)) ≡ with_content (live_row contents (number, node)) (contents' number) now
 sized_row contents contents' number size now node (KeptFile old) is can = rw is refl
 sized_row contents contents' number size now node (KeptLink old) is can = absurd can
 sized_row contents contents' number size now node (KeptDir identifier folder) is can = absurd can
@@ -140,20 +142,20 @@ rows_touched tree number size now sorted written contents contents' row found ag
     let has = has_node contents tree number row found in
     let this = this_from number has.node tree.nodes sorted has.there in
     rw has.is (with_these tree _ _
-    (ap (map (live_row contents')) (touch_both now number size tree.nodes)
+    (ap (λ (es : List (ℕ × HeldNode)). map wrapped_row (map (live_row contents') es)) (touch_both now number size tree.nodes)
     ∙ rows_set contents contents' number (λ (node : HeldNode). changed_node now (sized_node size node)) has.node (with_content (live_row contents (number, has.node)) (contents' number) now) tree.nodes this refl
-    (sized_row contents contents' number size now has.node has.node.kept.what refl (written has.node has.there)) (λ e apart. row_agrees contents contents' e (agree e.0 apart))))
+    (changed_row contents' now number (sized_node size has.node) ∙ ap wrapped_row (sized_row contents contents' number size now has.node has.node.kept.what refl (written has.node has.there))) (λ e apart. row_agrees contents contents' e (agree e.0 apart))))
 
 -- ---- a name
 
 rename_step : (b d : Bool) (contents : ℕ → Content) (number parent : ℕ) (name entry : List ℕ) (long : Bool) (now : ℕ) (node : HeldNode) (e : ℕ × HeldNode) → (e.0 == number) ≡ b
     → (e.0 == parent) ≡ d → parent ≢ number → ((e.0 == number) ≡ true → e.1 ≡ node)
-    → live_row contents (edit parent (changed_node now) (edit number (renamed_node name entry long) e))
-    ≡ cond (e.0 == number) (record (live_row contents (number, node)) { name = name }) (cond (e.0 == parent) (changed_at now (live_row contents e)) (live_row contents e))
+    → wrapped_row (live_row contents (edit parent (changed_node now) (edit number (renamed_node name entry long) e)))
+    ≡ wrapped_row (cond (e.0 == number) (record (live_row contents (number, node)) { name = name }) (cond (e.0 == parent) (changed_at now (live_row contents e)) (live_row contents e)))
 rename_step true true contents number parent name entry long now node e is up apart this = absurd (apart (sym (eqb-true e.0 parent up) ∙ eqb-true e.0 number is))
 rename_step true false contents number parent name entry long now node e is up apart this =
-    rw (is, up) (ap₂ (λ (k : ℕ) (n : HeldNode). live_row contents (k, renamed_node name entry long n)) (eqb-true e.0 number is) (this is))
-rename_step false true contents number parent name entry long now node e is up apart this = rw (is, up) refl
+    rw (is, up) (ap₂ (λ (k : ℕ) (n : HeldNode). wrapped_row (live_row contents (k, renamed_node name entry long n))) (eqb-true e.0 number is) (this is))
+rename_step false true contents number parent name entry long now node e is up apart this = rw (is, up) (changed_row contents now e.0 e.1)
 rename_step false false contents number parent name entry long now node e is up apart this = rw (is, up) refl
 
 swap_step : (d : Bool) (contents : ℕ → Content) (number parent : ℕ) (name : List ℕ) (now : ℕ) (node : HeldNode) (e : ℕ × HeldNode) → (e.0 == parent) ≡ d
@@ -163,12 +165,12 @@ swap_step true contents number parent name now node e up = rw up refl
 swap_step false contents number parent name now node e up = rw up refl
 
 rename_all : (contents : ℕ → Content) (number parent : ℕ) (name entry : List ℕ) (long : Bool) (now : ℕ) (node : HeldNode) → parent ≢ number → (es : List (ℕ × HeldNode)) → AreThis number node es
-    → map (live_row contents) (map (edit parent (changed_node now)) (map (edit number (renamed_node name entry long)) es))
-    ≡ map (λ (row : Row). if row.number == number then record (live_row contents (number, node)) { name = name } else row)
-    (map (λ (row : Row). if row.number == parent then changed_at now row else row) (map (live_row contents) es))
+    → map wrapped_row (map (live_row contents) (map (edit parent (changed_node now)) (map (edit number (renamed_node name entry long)) es)))
+    ≡ map wrapped_row (map (λ (row : Row). if row.number == number then record (live_row contents (number, node)) { name = name } else row)
+    (map (λ (row : Row). if row.number == parent then changed_at now row else row) (map (live_row contents) es)))
 rename_all contents number parent name entry long now node apart [] this = refl
 rename_all contents number parent name entry long now node apart (e ∷ es) this =
-    ap₂ (λ (row : Row) (rows : List Row). row ∷ rows) (rename_step (e.0 == number) (e.0 == parent) contents number parent name entry long now node e refl refl apart this.0 ∙ sym (swap_step (e.0 == parent) contents number parent name now node e refl))
+    ap₂ (λ (row : Row) (rows : List Row). row ∷ rows) (rename_step (e.0 == number) (e.0 == parent) contents number parent name entry long now node e refl refl apart this.0 ∙ ap wrapped_row (sym (swap_step (e.0 == parent) contents number parent name now node e refl)))
     (rename_all contents number parent name entry long now node apart es this.1)
 
 pub rows_renamed : (tree : HeldTree) (number : ℕ) (name entry : List ℕ) (long : Bool) (now : ℕ) → IsStrictlySortedBy nat_cmp (keys_of tree.nodes)
@@ -194,6 +196,17 @@ filter_rows : (contents : ℕ → Content) (number : ℕ) (es : List (ℕ × Hel
 filter_rows contents number [] = refl
 filter_rows contents number (e ∷ es) = filter_step (e.0 == number) contents number e es refl (filter_rows contents number es)
 
+keep_step : (b : Bool) (number : ℕ) (row : Row) (rows : List Row) → (row.number == number) ≡ b
+    → map wrapped_row (filter (λ (row : Row). not (row.number == number)) rows) ≡ filter (λ (row : Row). not (row.number == number)) (map wrapped_row rows)
+    → map wrapped_row (filter (λ (row : Row). not (row.number == number)) (row ∷ rows)) ≡ filter (λ (row : Row). not (row.number == number)) (map wrapped_row (row ∷ rows))
+keep_step true number row rows is rest = rw is rest
+keep_step false number row rows is rest = rw is (ap (λ (xs : List Row). wrapped_row row ∷ xs) rest)
+
+filter_wrapped : (number : ℕ) (rows : List Row)
+    → map wrapped_row (filter (λ (row : Row). not (row.number == number)) rows) ≡ filter (λ (row : Row). not (row.number == number)) (map wrapped_row rows)
+filter_wrapped number [] = refl
+filter_wrapped number (row ∷ rows) = keep_step (row.number == number) number row rows refl (filter_wrapped number rows)
+
 pub rows_removed : (tree : HeldTree) (number now : ℕ) → (node : HeldNode) → node_of tree number ≡ Some node
     → RowsAreRemoved tree (removed tree number node.kept.parent now) number now
 rows_removed tree number now node there contents row found =
@@ -201,8 +214,10 @@ rows_removed tree number now node there contents row found =
     let same : has.node ≡ node = cc (has.there, there) in
     let is : row ≡ live_row contents (number, node) = has.is ∙ ap (λ (n : HeldNode). live_row contents (number, n)) same in
     rw is (with_these tree _ _
-    (filter_rows contents number (map (edit node.kept.parent (changed_node now)) tree.nodes)
-    ∙ ap (filter (λ (row : Row). not (row.number == number))) (rows_changed contents node.kept.parent now tree.nodes)))
+    (ap (map wrapped_row) (filter_rows contents number (map (edit node.kept.parent (changed_node now)) tree.nodes))
+    ∙ filter_wrapped number (map (live_row contents) (map (edit node.kept.parent (changed_node now)) tree.nodes))
+    ∙ ap (filter (λ (row : Row). not (row.number == number))) (rows_changed contents node.kept.parent now tree.nodes)
+    ∙ sym (filter_wrapped number (map (λ (row : Row). if row.number == node.kept.parent then changed_at now row else row) (map (live_row contents) tree.nodes)))))
 
 -- ---- one is made
 
@@ -223,7 +238,8 @@ last_step : (contents : ℕ → Content) (next parent now : ℕ) (node : HeldNod
 last_step contents next parent now node true is less = let same : next ≡ parent = eqb-true next parent is in absurd (omega (arith, less, same))
 last_step contents next parent now node false is less = rw is refl
 
-with_all : (tree : HeldTree) (xs : List Row) (ys : List Row) → xs ≡ ys → rows_with (suc tree.next) tree.twice xs ≡ rows_with (suc tree.next) tree.twice ys
+with_all : (tree : HeldTree) (xs : List Row) (ys : List Row) → map wrapped_row xs ≡ map wrapped_row ys
+    → wrapped (rows_with (suc tree.next) tree.twice xs) ≡ wrapped (rows_with (suc tree.next) tree.twice ys)
 with_all tree xs ys e = ap (rows_with (suc tree.next) tree.twice) e
 
 pub rows_added : (tree : HeldTree) (parent : ℕ) (name : List ℕ) (what : What) (entry : List ℕ) (long : Bool) (now : ℕ) → AreBelow tree.next tree.nodes → parent < tree.next → CanBeMade what
@@ -234,13 +250,16 @@ rows_added tree parent name what entry long now below less can contents contents
     let node = new_node parent name what entry long now in
     let new = new_is contents contents' tree parent name what entry long now row can up empty in
     with_all tree _ _
-    (ap (map (live_row contents')) (map_append (edit parent (changed_node now)) tree.nodes ((tree.next, node) ∷ []))
-    ∙ map_append (live_row contents') (map (edit parent (changed_node now)) tree.nodes) (edit parent (changed_node now) (tree.next, node) ∷ [])
+    (ap (λ (es : List (ℕ × HeldNode)). map wrapped_row (map (live_row contents') es)) (map_append (edit parent (changed_node now)) tree.nodes ((tree.next, node) ∷ []))
+    ∙ ap (map wrapped_row) (map_append (live_row contents') (map (edit parent (changed_node now)) tree.nodes) (edit parent (changed_node now) (tree.next, node) ∷ []))
+    ∙ map_append wrapped_row (map (live_row contents') (map (edit parent (changed_node now)) tree.nodes)) (live_row contents' (edit parent (changed_node now) (tree.next, node)) ∷ [])
     ∙ ap₂ (λ (xs : List Row) (x : Row). xs ++ x ∷ [])
     (rows_changed contents' parent now tree.nodes
-    ∙ ap (map (λ (row : Row). if row.number == parent then changed_at now row else row)) (agree_all contents contents' tree.next tree.nodes below agree)
-    ∙ ap (λ k. map (λ (row : Row). if row.number == k then changed_at now row else row) (map (live_row contents) tree.nodes)) (sym up))
-    (last_step contents' tree.next parent now node (tree.next == parent) refl less ∙ new))
+    ∙ ap (λ (rows : List Row). map wrapped_row (map (λ (row : Row). if row.number == parent then changed_at now row else row) rows)) (agree_all contents contents' tree.next tree.nodes below agree)
+    ∙ ap (λ k. map wrapped_row (map (λ (row : Row). if row.number == k then changed_at now row else row) (map (live_row contents) tree.nodes))) (sym up))
+    (ap wrapped_row (last_step contents' tree.next parent now node (tree.next == parent) refl less ∙ new))
+    ∙ sym (map_append wrapped_row (map (λ (r : Row). if r.number == row.number then changed_at now r else r) (map (live_row contents) tree.nodes))
+    (new_row (live_rows contents tree) row name (is_dir (kind_of what)) now ∷ [])))
 
 -- ---- a tree as it was loaded
 

@@ -1,6 +1,6 @@
 -- The changes of a tree, and what each makes of its rows.
-use Rattle.std.specs.Prelude.{◌≡◌, ◌≢◌, ◌<◌, ◌-◌, ◌^◌, ℕ, suc, List, [], ◌∷◌, ◌++◌, map, filter, Bool, true, false, not, Some, ◌==◌, if◌then◌else◌, ⊤}
-use Rattle.tree_model.specs.Rows.{Content, chunks, Row, row_of}
+use Rattle.std.specs.Prelude.{◌≡◌, ◌≢◌, ◌-◌, ◌^◌, ◌%◌, ℕ, suc, List, [], ◌∷◌, ◌++◌, map, filter, Bool, true, false, not, Some, ◌==◌, if◌then◌else◌, ⊤}
+use Rattle.tree_model.specs.Rows.{Content, chunks, Row, Rows, row_of}
 use Rattle.tree_model.specs.Step.{set_row, change_dir, new_row, with_new, with_content, without_row}
 use Rattle.clear_tree.specs.Kept.{What, KeptFile, KeptLink, KeptDir, KeptBad}
 use Rattle.live_tree.specs.Held.{HeldNode, HeldTree, live_rows}
@@ -16,20 +16,15 @@ edited tree number change = record {
   nodes = edited_nodes tree.nodes number change;
   next = tree.next;
   twice = tree.twice;
-  changes = tree.changes;
 }
-
--- one change more is counted
-abbrev pub counted : HeldTree → HeldTree
-counted tree = record { nodes = tree.nodes; next = tree.next; twice = tree.twice; changes = suc tree.changes }
 
 -- a node that changed at a second
 abbrev pub changed_node : ℕ → HeldNode → HeldNode
-changed_node now node = record { kept = node.kept; version = suc node.version; modified = now }
+changed_node now node = record { kept = node.kept; version = suc node.version % 2 ^ 32; modified = now }
 
 -- the node of a number changed at a second
 abbrev pub changed : HeldTree → ℕ → ℕ → HeldTree
-changed tree number now = counted (edited tree number (changed_node now))
+changed tree number now = edited tree number (changed_node now)
 
 -- a node behind the others, with the next number
 abbrev pub appended : HeldTree → HeldNode → HeldTree
@@ -37,7 +32,6 @@ appended tree node = record {
   nodes = tree.nodes ++ (tree.next, node) ∷ [];
   next = suc tree.next;
   twice = tree.twice;
-  changes = tree.changes;
 }
 
 abbrev pub new_node : ℕ → List ℕ → What → List ℕ → Bool → ℕ → HeldNode
@@ -57,7 +51,6 @@ dropped tree number = record {
   nodes = filter (λ e. not (e.0 == number)) tree.nodes;
   next = tree.next;
   twice = tree.twice;
-  changes = tree.changes;
 }
 
 -- the tree after a node was removed from a directory at a second
@@ -125,15 +118,17 @@ IsFile (KeptDir identifier folder) = ⊥
 IsFile (KeptLink size) = ⊥
 IsFile (KeptBad text) = ⊥
 
--- the largest count
+-- the largest number
 abbrev pub count_limit : ℕ
 count_limit = 2 ^ 64 - 1
 
--- one more change can be counted
-abbrev pub CanChange : HeldTree → Type 0
-CanChange tree = tree.changes < count_limit
+-- ---- rows after them, up to the multiples of 2 ^ 32 in their versions, which are shown modulo 2 ^ 32 alone
 
--- ---- rows after them
+abbrev pub wrapped_row : Row → Row
+wrapped_row row = record row { version = row.version % 2 ^ 32 }
+
+abbrev pub wrapped : Rows → Rows
+wrapped rows = record rows { nodes = map wrapped_row rows.nodes }
 
 -- contents that differ from others at one number at most
 abbrev pub AgreeBut : ℕ → (ℕ → Content) → (ℕ → Content) → Type 0
@@ -143,27 +138,27 @@ AgreeBut number old new = (other : ℕ) → other ≢ number → new other ≡ o
 abbrev pub RowsAreAdded : HeldTree → HeldTree → ℕ → List ℕ → Bool → ℕ → Type 0
 RowsAreAdded old new parent name directory now =
     (contents contents' : ℕ → Content) (row : Row) → row_of (live_rows contents old) parent ≡ Some row → AgreeBut old.next contents contents'
-    → contents' old.next ≡ chunks true [] → live_rows contents' new ≡ with_new (live_rows contents old) (new_row (live_rows contents old) row name directory now) now
+    → contents' old.next ≡ chunks true [] → wrapped (live_rows contents' new) ≡ wrapped (with_new (live_rows contents old) (new_row (live_rows contents old) row name directory now) now)
 
 -- the rows are those after a node was removed
 abbrev pub RowsAreRemoved : HeldTree → HeldTree → ℕ → ℕ → Type 0
 RowsAreRemoved old new number now =
-    (contents : ℕ → Content) (row : Row) → row_of (live_rows contents old) number ≡ Some row → live_rows contents new ≡ without_row (live_rows contents old) row now
+    (contents : ℕ → Content) (row : Row) → row_of (live_rows contents old) number ≡ Some row → wrapped (live_rows contents new) ≡ wrapped (without_row (live_rows contents old) row now)
 
 -- the rows are those after a node got another name
 abbrev pub RowsAreRenamed : HeldTree → HeldTree → ℕ → List ℕ → ℕ → Type 0
 RowsAreRenamed old new number name now =
     (contents : ℕ → Content) (row : Row) → row_of (live_rows contents old) number ≡ Some row
-    → live_rows contents new ≡ set_row (change_dir (live_rows contents old) row.parent now) (record row { name = name })
+    → wrapped (live_rows contents new) ≡ wrapped (set_row (change_dir (live_rows contents old) row.parent now) (record row { name = name }))
 
 -- the rows are those after a file got another content
 abbrev pub RowsAreTouched : HeldTree → HeldTree → ℕ → ℕ → Type 0
 RowsAreTouched old new number now =
     (contents contents' : ℕ → Content) (row : Row) → row_of (live_rows contents old) number ≡ Some row → AgreeBut number contents contents'
-    → live_rows contents' new ≡ set_row (live_rows contents old) (with_content row (contents' number) now)
+    → wrapped (live_rows contents' new) ≡ wrapped (set_row (live_rows contents old) (with_content row (contents' number) now))
 
 -- the rows are those after a node's mtime was set
 abbrev pub RowsAreDated : HeldTree → HeldTree → ℕ → ℕ → Type 0
 RowsAreDated old new number modified =
     (contents : ℕ → Content) (row : Row) → row_of (live_rows contents old) number ≡ Some row
-    → live_rows contents new ≡ set_row (live_rows contents old) (record row { modified = modified })
+    → wrapped (live_rows contents new) ≡ wrapped (set_row (live_rows contents old) (record row { modified = modified }))

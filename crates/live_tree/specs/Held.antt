@@ -1,5 +1,5 @@
 -- What is held of a tree that changes: its nodes by number, and the rows that they stand for.
-use Rattle.std.specs.Prelude.{◌≡◌, ◌≢◌, ◌<◌, ◌≤◌, ℕ, suc, List, [], ◌∷◌, map, Bool, Option, Some, IsSome}
+use Rattle.std.specs.Prelude.{◌≡◌, ◌≢◌, ◌<◌, ◌^◌, ℕ, suc, List, [], ◌∷◌, map, Bool, Option, Some, IsSome}
 use Rattle.std.specs.declared.cmp.Ordering.TheVariants.{Less}
 use Rattle.std.specs.Ordering.{nat_cmp}
 use Rattle.std.specs.Cmp.Lexicographic.{slice_cmp}
@@ -10,19 +10,18 @@ use Rattle.std.specs.BTreeMap.{is_at}
 use Rattle.tree_model.specs.Rows.{Content, Row, Rows, root}
 use Rattle.clear_tree.specs.Kept.{KeptNode, kind_of, content_of, folder_in, path_in, size_in, IsBehind}
 
--- a node: what is kept of it, how often it changed since the vault was unlocked, and the second of its last change
+-- a node: what is kept of it, how often it changed since the vault was unlocked, modulo 2 ^ 32, and the second of its last change
 pub record HeldNode : Type 0 where
   pub kept : KeptNode
   pub version : ℕ
   pub modified : ℕ
 
--- The nodes that are there, in the order of their numbers; the number that comes next, which no node had before; whether an identifier is
--- named twice; and a count of changes, which no node's version exceeds.
+-- The nodes that are there, in the order of their numbers; the number that comes next, which no node had before; and whether an identifier
+-- is named twice.
 pub record HeldTree : Type 0 where
   pub nodes : List (ℕ × HeldNode)
   pub next : ℕ
   pub twice : Bool
-  pub changes : ℕ
 
 abbrev pub node_of : HeldTree → ℕ → Option HeldNode
 node_of tree number = lookup (is_at (nat_cmp number)) tree.nodes
@@ -62,7 +61,7 @@ numbered unlocked number (node ∷ nodes) = (number, unchanged_node unlocked nod
 
 -- the nodes from a number on that were loaded, of a vault that was unlocked at this second
 abbrev pub loaded : ℕ → List KeptNode → ℕ → Bool → HeldTree
-loaded unlocked nodes next twice = record { nodes = numbered unlocked 0 nodes; next = next; twice = twice; changes = 0 }
+loaded unlocked nodes next twice = record { nodes = numbered unlocked 0 nodes; next = next; twice = twice }
 
 -- ---- host files
 
@@ -132,11 +131,11 @@ pub record HasParent (tree : HeldTree) (number : ℕ) (node : HeldNode) : Type 0
   pub folder : IsSome (parent_folder tree node.kept)
 
 -- what each tree is: the root, and below it nodes in directories of lower numbers; no two nodes of one directory with one name; each number
--- below the next one; and no version above the count of changes
+-- below the next one; and each version below 2 ^ 32
 pub record IsTree (tree : HeldTree) : Type 0 where
   pub ordered : IsStrictlySortedBy nat_cmp (keys_of tree.nodes)
   pub first : (node : HeldNode) × IsRoot tree node
   pub parents : (number : ℕ) (node : HeldNode) → node_of tree number ≡ Some node → number ≢ root → HasParent tree number node
   pub numbers : (number : ℕ) (node : HeldNode) → node_of tree number ≡ Some node → number < tree.next
-  pub versions : (number : ℕ) (node : HeldNode) → node_of tree number ≡ Some node → node.version ≤ tree.changes
+  pub versions : (number : ℕ) (node : HeldNode) → node_of tree number ≡ Some node → node.version < 2 ^ 32
   pub names : (parent : ℕ) (name : List ℕ) (a b : ℕ) → IsNamed tree parent name a → IsNamed tree parent name b → a ≡ b

@@ -1,5 +1,5 @@
 -- The index of children by name, and what holds of it and of the nodes.
-use Rattle.std.specs.Prelude.{◌≡◌, ◌≢◌, ◌<◌, ◌≤◌, ℕ, List, Bool, true, ◌&&◌, Option, Some, None, IsSome, is_some, IsTrue, cond, ◌==◌}
+use Rattle.std.specs.Prelude.{◌≡◌, ◌≢◌, ◌<◌, ◌^◌, ℕ, List, Bool, true, ◌&&◌, Option, Some, None, IsSome, is_some, IsTrue, cond, ◌==◌}
 use Rattle.std.specs.declared.cmp.Ordering.TheVariants.{Less}
 use Rattle.std.specs.Ordering.{nat_cmp}
 use Rattle.std.specs.Cmp.Lexicographic.{slice_cmp}
@@ -77,7 +77,7 @@ pub record IsHeld (names : Names) (tree : HeldTree) : Type 0 where
   pub first : (node : HeldNode) × IsRoot tree node
   pub parents : (number : ℕ) (node : HeldNode) → node_of tree number ≡ Some node → number ≢ root → HasParent tree number node
   pub numbers : (number : ℕ) (node : HeldNode) → node_of tree number ≡ Some node → number < tree.next
-  pub versions : (number : ℕ) (node : HeldNode) → node_of tree number ≡ Some node → node.version ≤ tree.changes
+  pub versions : (number : ℕ) (node : HeldNode) → node_of tree number ≡ Some node → node.version < 2 ^ 32
   pub directories : (number : ℕ) (node : HeldNode) → node_of tree number ≡ Some node → IsSome (folder_in node.kept.what) → has_names names number ≡ true
   pub named : (parent : ℕ) (name : List ℕ) (number : ℕ) → number_at names parent name ≡ Some number → IsNamed tree parent name number
   pub found : (parent : ℕ) (name : List ℕ) (number : ℕ) → IsNamed tree parent name number → number_at names parent name ≡ Some number

@@ -1,4 +1,4 @@
-ghost use Rattle.std.specs.Prelude.{◌≡◌, ◌<◌, Some, IsTrue, IfErr, OnOk, OnErr};
+ghost use Rattle.std.specs.Prelude.{◌≡◌, Some, IsTrue, IfErr, OnOk, OnErr};
 ghost use Rattle.std.specs.List.Sorted.{IsStrictlySortedBy};
 ghost use Rattle.std.specs.Map.{keys_of};
 ghost use Rattle.std.specs.Ordering.{nat_cmp};
@@ -6,7 +6,7 @@ ghost use Rattle.std.specs.BTreeMap.{get, insert_entry};
 ghost use Rattle.vault_path.specs.Parts.{is_part};
 ghost use Rattle.tree_model.specs.Names.{IsClearName};
 ghost use Rattle.live_tree.specs.Held.{HeldNode};
-ghost use Rattle.live_tree.specs.Changes.{edited_nodes, changed_node, renamed_node, sized_node, dated_node, count_limit, IsFile};
+ghost use Rattle.live_tree.specs.Changes.{edited_nodes, changed_node, renamed_node, sized_node, dated_node, IsFile};
 
 use crate::node::LiveNode;
 use std::collections::BTreeMap;
@@ -30,7 +30,6 @@ pub(crate) fn insert_node(nodes: &mut Nodes, number: u64, node: LiveNode) -> Res
 
 /// Counts a change of a node at a second.
 pub(crate) fn change_node(nodes: &mut Nodes, number: u64, now: u32)
-    requires { (node : HeldNode) → get nat_cmp nodes.old number ≡ Some node → node.version < count_limit }
     ensures { nodes.new.entries ≡ edited_nodes nodes.old.entries number (changed_node now) }
 {
     if let Some(node) = nodes.get_mut(&number) {

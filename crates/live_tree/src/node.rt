@@ -1,4 +1,4 @@
-ghost use Rattle.std.specs.Prelude.{◌≡◌, ◌<◌, ◌≤◌, length, IsTrue, IfOk, IfSome, None};
+ghost use Rattle.std.specs.Prelude.{◌≡◌, ◌≤◌, length, IsTrue, IfOk, IfSome, None};
 ghost use Rattle.std.specs.Option.{option_copied};
 ghost use Rattle.std.specs.Str.{IsUtf8};
 ghost use Rattle.vault_path.specs.Parts.{is_part, is_path};
@@ -7,7 +7,7 @@ ghost use Rattle.clear_tree.specs.Places.{host_folder};
 ghost use Rattle.clear_tree.specs.Kept.{folder_in};
 ghost use Rattle.clear_tree.specs.Built.{kept_what, HasHostFolder};
 ghost use Rattle.live_tree.specs.Held.{unchanged_node};
-ghost use Rattle.live_tree.specs.Changes.{new_node, changed_node, renamed_node, sized_node, dated_node, count_limit, IsFile};
+ghost use Rattle.live_tree.specs.Changes.{new_node, changed_node, renamed_node, sized_node, dated_node, IsFile};
 
 use crate::directories::copied;
 use clear_tree::{Node, What};
@@ -25,7 +25,7 @@ pub struct LiveNode {
     what: What,
     foreign: bool,
     shadowed: bool,
-    version: u64,
+    version: u32,
     modified: u32,
 }
 
@@ -157,8 +157,8 @@ impl LiveNode {
         self.shadowed
     }
 
-    /// How often it changed since the vault was unlocked.
-    pub fn version(&self) -> u64
+    /// How often it changed since the vault was unlocked, modulo 2^32.
+    pub fn version(&self) -> u32
         ensures { result ≡ self.now.version }
     {
         self.version
@@ -183,10 +183,9 @@ impl LiveNode {
     }
 
     pub(crate) fn change(&mut self, now: u32)
-        requires { self.old.version < count_limit }
         ensures { self.new ≡ changed_node now self.old }
     {
-        self.version += 1;
+        self.version = self.version.wrapping_add(1);
         self.modified = now;
     }
 

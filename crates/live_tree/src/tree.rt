@@ -10,7 +10,7 @@ ghost use Rattle.clear_tree.specs.Places.{host_folder, host_entry, host_inner};
 ghost use Rattle.clear_tree.specs.Kept.{IsTree as IsKeptTree, kind_of, tree_rows};
 ghost use Rattle.clear_tree.specs.Built.{kept_what, HasHostFolder};
 ghost use Rattle.live_tree.specs.Held.{HeldNode, node_of, path_of, size_of, live_rows, loaded, IsNamed, IsFree, IsNext, IsNoNext, IsChildless, IsDirectory, IsTree};
-ghost use Rattle.live_tree.specs.Changes.{edited, changed, appended, added, dropped, removed, renamed, renamed_node, touched, dated, new_node, count_limit, CanBeMade, CanChange, IsFile, RowsAreAdded, RowsAreRemoved, RowsAreRenamed, RowsAreTouched, RowsAreDated};
+ghost use Rattle.live_tree.specs.Changes.{edited, changed, appended, added, dropped, removed, renamed, renamed_node, touched, dated, new_node, count_limit, CanBeMade, IsFile, RowsAreAdded, RowsAreRemoved, RowsAreRenamed, RowsAreTouched, RowsAreDated};
 
 use crate::changing::{Nodes, change_node, date_node, insert_node, rename_node, resize_node};
 use crate::directories::{
@@ -37,7 +37,6 @@ pub struct LiveTree {
     names: Names,
     next: u64,
     twice: bool,
-    changes: u64,
 }
 
 impl Model for LiveTree {
@@ -46,9 +45,9 @@ impl Model for LiveTree {
 
     ghost Value = { HeldTree };
 
-    ghost view = { λ t. record { nodes = t.nodes.entries; next = t.next; twice = t.twice; changes = t.changes } };
+    ghost view = { λ t. record { nodes = t.nodes.entries; next = t.next; twice = t.twice } };
 
-    ghost invariant = { λ t. IsHeld t.names (record { nodes = t.nodes.entries; next = t.next; twice = t.twice; changes = t.changes }) };
+    ghost invariant = { λ t. IsHeld t.names (record { nodes = t.nodes.entries; next = t.next; twice = t.twice }) };
 }
 
 impl LiveTree {
@@ -152,7 +151,6 @@ impl LiveTree {
         requires folder { HasHostFolder (kept_what what) }
         requires entry { IsTrue (is_part entry) }
         requires room { self.old.next < count_limit }
-        requires change { CanChange self.old }
         ensures number { IfOk result (λ number. number ≡ self.old.next) }
         ensures held { OnOk result (self.new ≡ added self.old (new_node parent name (kept_what what) entry long now) now) }
         ensures rows { OnOk result (RowsAreAdded self.old self.new parent name (is_dir (kind_of (kept_what what))) now) }
@@ -178,7 +176,6 @@ impl LiveTree {
         requires free { (node : HeldNode) → node_of self.old number ≡ Some node → IsFree self.old node.kept.parent name }
         requires clear { IsClearName name }
         requires entry { IsTrue (is_part entry) }
-        requires change { CanChange self.old }
         ensures held { OnOk result ((node : HeldNode) → node_of self.old number ≡ Some node → self.new ≡ renamed self.old number node.kept.parent name entry long now) }
         ensures rows { OnOk result (RowsAreRenamed self.old self.new number name now) }
         ensures same { OnErr result (self.new ≡ self.old) }
@@ -194,7 +191,6 @@ impl LiveTree {
         requires there { IsSome (node_of self.old number) }
         requires below { number ≢ root }
         requires childless { IsChildless self.old number }
-        requires change { CanChange self.old }
         ensures held { (node : HeldNode) → node_of self.old number ≡ Some node → self.new ≡ removed self.old number node.kept.parent now }
         ensures rows { RowsAreRemoved self.old self.new number now }
     {
@@ -206,13 +202,11 @@ impl LiveTree {
     /// Says of a file that it was written at a second, and how many bytes its host file has. It takes no memory.
     pub fn touch(&mut self, number: u64, size: u64, now: u32)
         requires file { (node : HeldNode) → node_of self.old number ≡ Some node → IsFile node.kept.what }
-        requires change { CanChange self.old }
         ensures held { self.new ≡ touched self.old number size now }
         ensures rows { RowsAreTouched self.old self.new number now }
     {
         resize_node(&mut self.nodes, number, size);
         change_node(&mut self.nodes, number, now);
-        self.changes += 1;
     }
 
     /// Sets a node's mtime, which is no change of it. It takes no memory.
@@ -242,7 +236,6 @@ impl LiveTree {
             names,
             next: 1,
             twice: tree.is_twice(),
-            changes: 0,
         })
     }
 
@@ -289,11 +282,9 @@ impl LiveTree {
 
     // Counts a change of a directory at a second.
     fn change(&mut self, number: u64, now: u32)
-        requires { CanChange self.old }
         ensures { self.new ≡ changed self.old number now }
     {
         change_node(&mut self.nodes, number, now);
-        self.changes += 1;
     }
 
     fn parent_of(&self, number: u64) -> u64
