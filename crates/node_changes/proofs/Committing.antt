@@ -1,0 +1,59 @@
+-- A change whose deeds were committed, or whose commit failed.
+use Rattle.std.proofs.Common.{ℕ, List, Option, Some, None}
+use Rattle.outside.specs.Calls.{Told, Changes}
+use Rattle.outside.specs.Disk.{Disk}
+use Rattle.outside.specs.Images.{Log, now}
+use Rattle.outside.proofs.Told.{told_then, changed_from}
+use Rattle.deeds.specs.Deeds.{PlainDeed, DoesAll, in_order}
+use Rattle.chunk_journal.specs.Journal.{IsQuiet, AnyMoment, HasCommitted}
+use Rattle.tree_model.specs.Asked.{PlainRequest}
+use Rattle.tree_model.specs.Step.{Answer}
+use Rattle.clear_tree.specs.Walk.{Sealing}
+use Rattle.live_tree.specs.Held.{HeldTree}
+use Rattle.node_changes.specs.Changed.{IsAtRest, LeadsOn, MakesStep, IsStepAnswer, HasChanged, MayHaveChanged}
+
+both_changed : {X : Type 0} (a b : Option X) (P Q : X → X → Type 0) → Changes a b P → Changes a b Q → Changes a b (λ x y. P x y × Q x y)
+both_changed None None P Q p q = tt
+both_changed None (Some y) P Q p q = absurd p
+both_changed (Some x) None P Q p q = absurd p
+both_changed (Some x) (Some y) P Q p q = (p, q)
+
+module _ (s : Sealing) (request : PlainRequest) (second : ℕ) (deeds : List PlainDeed) (live live' : HeldTree) (claims claims' : List (List ℕ × ℕ)) (old : Option Log) where
+  -- what is known of deeds before they are committed
+  abbrev Makes : Type 0
+  Makes = Told old (λ (l : Log). MakesStep s request second deeds (now l) live live' claims claims')
+
+  pub can_be_done : Makes → Told old (λ (l : Log). (after : Disk) × DoesAll (in_order deeds) (now l) after)
+  can_be_done makes =
+      told_then old (λ (l : Log). MakesStep s request second deeds (now l) live live' claims claims') (λ (l : Log). (after : Disk) × DoesAll (in_order deeds) (now l) after) makes (λ l m. (m.after, m.does))
+
+  abbrev HasDone : Log → Log → Type 0
+  HasDone x y = MakesStep s request second deeds (now x) live live' claims claims' × AnyMoment deeds x y × HasCommitted deeds x y
+
+  pub has_changed : (answer : Answer) (new : Option Log) → Makes → Told old (λ (l : Log). IsStepAnswer s request second answer (now l) live claims) → Changes old new (AnyMoment deeds) → Changes old new (HasCommitted deeds)
+      → Changes old new (HasChanged s request second answer live live' claims claims')
+  has_changed answer new makes is any committed =
+      changed_from old new (λ (l : Log). IsStepAnswer s request second answer (now l) live claims) HasDone (HasChanged s request second answer live live' claims claims')
+      (λ x y p q. record { deeds = deeds; makes = q.0; answer_is = p; any_moment = q.1; committed = q.2 }) is
+      (changed_from old new (λ (l : Log). MakesStep s request second deeds (now l) live live' claims claims') (λ x y. AnyMoment deeds x y × HasCommitted deeds x y) HasDone
+      (λ x y p q. (p, q.0, q.1)) makes (both_changed old new (AnyMoment deeds) (HasCommitted deeds) any committed))
+
+  pub may_have_changed : (new : Option Log) → Makes → Changes old new (AnyMoment deeds) → Changes old new (MayHaveChanged s request second live live' claims claims')
+  may_have_changed new makes any =
+      changed_from old new (λ (l : Log). MakesStep s request second deeds (now l) live live' claims claims') (AnyMoment deeds) (MayHaveChanged s request second live live' claims claims')
+      (λ x y p q. record { deeds = deeds; makes = p; any_moment = q }) makes any
+
+-- the journal is quiet
+pub quiet : (s : Sealing) (live : HeldTree) (claims : List (List ℕ × ℕ)) (log : Option Log) → Told log (IsAtRest s live claims) → Told log IsQuiet
+quiet s live claims log rest = told_then log (IsAtRest s live claims) IsQuiet rest (λ l r. r.quiet)
+
+-- what a change of the tree in memory leads to is told of the disk that reads give
+pub told_makes : (s : Sealing) (request : PlainRequest) (second : ℕ) (answer : Answer) (deeds : List PlainDeed) (live live' : HeldTree) (claims claims' : List (List ℕ × ℕ)) (log : Option Log)
+    → LeadsOn s request second answer live live' claims claims' deeds → Told log (IsAtRest s live claims) → Told log (λ (l : Log). MakesStep s request second deeds (now l) live live' claims claims')
+told_makes s request second answer deeds live live' claims claims' log leads rest =
+    told_then log (IsAtRest s live claims) (λ (l : Log). MakesStep s request second deeds (now l) live live' claims claims') rest (λ l r. (leads (now l) r.contents r.stands).0)
+
+pub told_answer : (s : Sealing) (request : PlainRequest) (second : ℕ) (answer : Answer) (deeds : List PlainDeed) (live live' : HeldTree) (claims claims' : List (List ℕ × ℕ)) (log : Option Log)
+    → LeadsOn s request second answer live live' claims claims' deeds → Told log (IsAtRest s live claims) → Told log (λ (l : Log). IsStepAnswer s request second answer (now l) live claims)
+told_answer s request second answer deeds live live' claims claims' log leads rest =
+    told_then log (IsAtRest s live claims) (λ (l : Log). IsStepAnswer s request second answer (now l) live claims) rest (λ l r. (leads (now l) r.contents r.stands).1)

@@ -1,0 +1,33 @@
+use Rattle.std.proofs.Common.{subst}
+use Rattle.deeds.specs.Plain.{plains}
+use Rattle.directory_scan.specs.Format.{sealing_of}
+use Rattle.node_changes.specs.Removal.{IsRemovalRefusal}
+use Rattle.node_changes.proofs.Refusing.{is_there, is_below_root, is_childless}
+use Rattle.node_changes.proofs.Removals.{refused_by, deeds_refused, removed_leads}
+use Rattle.node_changes.proofs.tree.VaultTree.take_out.Goals as goal
+
+pub returns-in-Some-clause-refused : goal.returns-in-Some-clause-refused
+returns-in-Some-clause-refused c =
+    refused_by (sealing_of c.args.self.now.keys) c.args.self.now.live c.args.self.now.claims c.args.number c.args.now c.in-Some.refusal c.in-Some.ensures.refusal c.in-Some.ensures.own
+
+pub removal_deeds-requires : goal.removal_deeds-requires
+removal_deeds-requires c = record { there = is_there c.args.self.now.live c.args.number (subst (IsRemovalRefusal c.args.self.now.live c.args.number) c.in_default.is c.removal_refusal.ensures.refusal) }
+
+pub returns-in-Err-clause-refused : goal.returns-in-Err-clause-refused
+returns-in-Err-clause-refused c =
+    deeds_refused c.args.self.now.keys c.entries_are_parts.ensures c.args.self.now.live c.args.self.now.claims c.args.number c.args.now c.removal_refusal.ensures.tree
+    (subst (IsRemovalRefusal c.args.self.now.live c.args.number) c.in_default.is c.removal_refusal.ensures.refusal) c.in-Err.refusal c.in-Err.ensures.refusal
+
+pub forget-requires-clause-below : goal.forget-requires-clause-below
+forget-requires-clause-below c =
+    is_below_root c.args.self.now.live c.removal_refusal.ensures.tree c.args.number (subst (IsRemovalRefusal c.args.self.now.live c.args.number) c.in_default.is c.removal_refusal.ensures.refusal)
+
+pub forget-requires-clause-childless : goal.forget-requires-clause-childless
+forget-requires-clause-childless c =
+    is_childless c.args.self.now.live c.removal_refusal.ensures.tree c.args.number (subst (IsRemovalRefusal c.args.self.now.live c.args.number) c.in_default.is c.removal_refusal.ensures.refusal)
+
+pub returns-clause-made : goal.returns-clause-made
+returns-clause-made c =
+    removed_leads c.args.self.now.keys c.are_texts.ensures c.kept_claims.ensures c.args.self.now.live c.forget.new.self.live c.args.self.now.claims c.forget.new.self.claims c.args.number c.args.now
+    (plains c.in-Ok.deeds.items) c.removal_refusal.ensures.tree (subst (IsRemovalRefusal c.args.self.now.live c.args.number) c.in_default.is c.removal_refusal.ensures.refusal)
+    c.in-Ok.ensures.deeds c.forget.ensures.live c.forget.ensures.rows c.forget.ensures.claims

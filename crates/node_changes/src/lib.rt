@@ -1,0 +1,17 @@
+//! The changes of an open vault's shape: a node is made, removed or gets another name, on the disk by one batch and in memory.
+//!
+//! ```
+//! let mut tree = VaultTree::new(alloc, &keys, live)?;
+//! tree.remove(&mut journal, number, now)?;
+//! ```
+//!
+//! Each change is refused as the plain file tree's step refuses it, or for the cause that its answer names, and then changes
+//! nothing; or it is committed, and the tree in memory goes on to that of the disk after it. All memory is taken before.
+#![tactic(auto)]
+
+mod error;
+mod removing;
+mod tree;
+
+pub use error::ChangeErr;
+pub use tree::VaultTree;
