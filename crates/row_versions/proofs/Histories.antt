@@ -6,36 +6,10 @@ use Rattle.tree_model.specs.declared.refusal.Refusal.TheVariants as refusals
 use Rattle.tree_model.specs.Rows.{Row, Rows, row_of}
 use Rattle.tree_model.specs.Asked.{PlainRequest, look, walk, open_node, create, read, list, write, remove, stat_of, change, sync}
 use Rattle.tree_model.specs.Step.{Answer, refuses, node_of, new_name, step, early_refusal}
-use Rattle.tree_history.specs.NotBuilt.{not_built, withheld}
-use Rattle.tree_history.specs.History.{Made, answer_of, places, is_refusal, answer_in, IsTreeAnswer, rows_then, next, tally_at}
-use Rattle.row_versions.specs.Versions.{wrapped_row, wrapped, WithheldAreSame, PlacesAreSame, AnsweredInBoth, RowsThenAreSame, RowsAfterAreSame, AllAnsweredInBoth, LegalInBoth}
+use Rattle.tree_history.specs.History.{Made, answer_of, places, is_refusal, answer_in, rows_then, next, tally_at}
+use Rattle.row_versions.specs.Versions.{wrapped_row, wrapped, PlacesAreSame, AnsweredInBoth, RowsThenAreSame, RowsAfterAreSame, AllAnsweredInBoth, LegalInBoth}
 use Rattle.row_versions.proofs.Pieces.{row_seen}
 use Rattle.row_versions.proofs.Steps.{steps_are_same, early_refusals_are_same}
-
-built_at : (request : PlainRequest) (row : Row) → not_built (wrapped_row row) request ≡ not_built row request
-built_at (look n) row = refl
-built_at (walk n names) row = refl
-built_at (open_node n mode) row = refl
-built_at (create n name is_dir mode) row = refl
-built_at (read n at most) row = refl
-built_at (list n after most) row = refl
-built_at (write n at bytes) row = refl
-built_at (remove n) row = refl
-built_at (stat_of n) row = refl
-built_at (change n c) row = refl
-built_at (sync n) row = refl
-
-withheld_at : (request : PlainRequest) (o : Option Row)
-    → option_and_then (λ (row : Row). not_built row request) (option_map wrapped_row o) ≡ option_and_then (λ (row : Row). not_built row request) o
-withheld_at request None = refl
-withheld_at request (Some row) = built_at request row
-
-withheld_wrapped : (rows : Rows) (request : PlainRequest) → withheld (wrapped rows) request ≡ withheld rows request
-withheld_wrapped rows request =
-    ap (λ (o : Option Row). option_and_then (λ (row : Row). not_built row request) o) (row_seen rows (node_of request)) ∙ withheld_at request (row_of rows (node_of request))
-
-pub withheld_are_same : WithheldAreSame
-withheld_are_same a b request same = sym (withheld_wrapped a request) ∙ ap (λ (rows : Rows). withheld rows request) same ∙ withheld_wrapped b request
 
 places_at : (f : Row → Bool) → ((row : Row) → f (wrapped_row row) ≡ f row) → (o : Option Row) → option_map_or f (option_map wrapped_row o) false ≡ option_map_or f o false
 places_at f alike None = refl
@@ -69,22 +43,12 @@ answer_same a b made same =
 none_early : (a b : Rows) (made : Made) → wrapped a ≡ wrapped b → IsNone (early_refusal a made.asked.request) → IsNone (early_refusal b made.asked.request)
 none_early a b made same none = subst (λ (o : Option Refusal). IsNone o) (early_refusals_are_same a b made.asked.request same) none
 
-tree_answer : (a b : Rows) (made : Made) → wrapped a ≡ wrapped b → IsTreeAnswer a made → IsTreeAnswer b made
-tree_answer a b made same (inl is) = inl (is ∙ answer_same a b made same)
-tree_answer a b made same (inr (inl is)) = inr (inl (is.0, none_early a b made same is.1))
-tree_answer a b made same (inr (inr (inl is))) = inr (inr (inl (is.0, none_early a b made same is.1)))
-tree_answer a b made same (inr (inr (inr is))) =
-    inr (inr (inr (is.0, λ removed. is.1 ((steps_are_same a b made.asked.request made.asked.second same).answer ∙ removed))))
-
-answered_by : (a b : Rows) (made : Made) (o : Option Refusal) → wrapped a ≡ wrapped b → MatchOption o (IsTreeAnswer a made) (λ refusal. answer_of made ≡ refuses refusal)
-    → MatchOption o (IsTreeAnswer b made) (λ refusal. answer_of made ≡ refuses refusal)
-answered_by a b made None same is = tree_answer a b made same is
-answered_by a b made (Some refusal) same is = is
-
 pub answered_in_both : AnsweredInBoth
-answered_in_both a b made same is =
-    subst (λ (o : Option Refusal). MatchOption o (IsTreeAnswer b made) (λ refusal. answer_of made ≡ refuses refusal)) (withheld_are_same a b made.asked.request same)
-    (answered_by a b made (withheld a made.asked.request) same is)
+answered_in_both a b made same (inl is) = inl (is ∙ answer_same a b made same)
+answered_in_both a b made same (inr (inl is)) = inr (inl (is.0, none_early a b made same is.1))
+answered_in_both a b made same (inr (inr (inl is))) = inr (inr (inl (is.0, none_early a b made same is.1)))
+answered_in_both a b made same (inr (inr (inr is))) =
+    inr (inr (inr (is.0, λ removed. is.1 ((steps_are_same a b made.asked.request made.asked.second same).answer ∙ removed))))
 
 then_by : (refuses : Bool) (a b a' b' : Rows) → wrapped a ≡ wrapped b → wrapped a' ≡ wrapped b' → wrapped (cond refuses a a') ≡ wrapped (cond refuses b b')
 then_by true a b a' b' same same' = same

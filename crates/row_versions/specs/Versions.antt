@@ -3,7 +3,6 @@ use Rattle.std.specs.Prelude.{◌≡◌, ℕ, ◌%◌, ◌^◌, List, map}
 use Rattle.tree_model.specs.Rows.{Row, Rows}
 use Rattle.tree_model.specs.Asked.{PlainRequest}
 use Rattle.tree_model.specs.Step.{Stepped, step, early_refusal}
-use Rattle.tree_history.specs.NotBuilt.{withheld}
 use Rattle.tree_history.specs.History.{Made, Entry, Origin, Tally, places, IsAnswered, AreAnswered, IsLegal, rows_then, rows_after}
 
 abbrev pub wrapped_row : Row → Row
@@ -22,9 +21,6 @@ StepsAreSame = (a b : Rows) (request : PlainRequest) (second : ℕ) → wrapped 
 
 abbrev pub EarlyRefusalsAreSame : Type 0
 EarlyRefusalsAreSame = (a b : Rows) (request : PlainRequest) → wrapped a ≡ wrapped b → early_refusal a request ≡ early_refusal b request
-
-abbrev pub WithheldAreSame : Type 0
-WithheldAreSame = (a b : Rows) (request : PlainRequest) → wrapped a ≡ wrapped b → withheld a request ≡ withheld b request
 
 abbrev pub PlacesAreSame : Type 0
 PlacesAreSame = (a b : Rows) (request : PlainRequest) → wrapped a ≡ wrapped b → places a request ≡ places b request

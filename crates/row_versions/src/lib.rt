@@ -10,7 +10,7 @@
 //! Its functions are laws: they do nothing, and their clauses hold.
 #![tactic(auto)]
 
-ghost use Rattle.row_versions.specs.Versions.{AllAnsweredInBoth, AnsweredInBoth, EarlyRefusalsAreSame, LegalInBoth, PlacesAreSame, RowsAfterAreSame, RowsThenAreSame, StepsAreSame, WithheldAreSame};
+ghost use Rattle.row_versions.specs.Versions.{AllAnsweredInBoth, AnsweredInBoth, EarlyRefusalsAreSame, LegalInBoth, PlacesAreSame, RowsAfterAreSame, RowsThenAreSame, StepsAreSame};
 
 /// From rows that are the same but for versions beyond 2^32 each request has the same answer and the same refusal before the work,
 /// and leads to rows that are so too.
@@ -19,10 +19,9 @@ pub fn steps_see_no_further()
     ensures early { EarlyRefusalsAreSame }
 {}
 
-/// The same of one entry of a history: what is withheld, what puts a node at a new place, which answers there may be, and the rows
+/// The same of one entry of a history: what puts a node at a new place, which answers there may be, and the rows
 /// after it.
 pub fn entries_see_no_further()
-    ensures withheld { WithheldAreSame }
     ensures places { PlacesAreSame }
     ensures answered { AnsweredInBoth }
     ensures rows { RowsThenAreSame }

@@ -9,14 +9,8 @@ use Rattle.tree_model.specs.declared.refusal.Refusal.TheVariants as refusals
 use Rattle.tree_model.specs.Rows.{Rows}
 use Rattle.tree_model.specs.Asked.{PlainReply, refused}
 use Rattle.tree_model.specs.Step.{Answer, refuses, step}
-use Rattle.tree_history.specs.NotBuilt.{withheld}
-use Rattle.tree_history.specs.History.{Made, Entry, Tally, Origin, answer_of, entry_at, places, is_refusal, HasCause, IsCaused, AreCaused, IsTreeAnswer, IsAnswered, AreAnswered, IsLegal, next, after, tally_at, rows_then, rows_at}
+use Rattle.tree_history.specs.History.{Made, Entry, Tally, Origin, answer_of, entry_at, places, is_refusal, HasCause, IsCaused, AreCaused, IsAnswered, AreAnswered, IsLegal, next, after, tally_at, rows_then, rows_at}
 use Rattle.tree_history.specs.Laws.{IsFaultless, AreFaultless, IsStepAnswer, IsStepped, AreStepped}
-
--- an Option without a value is None
-none_of : {X : Type 0} (o : Option X) → IsNone o → o ≡ None
-none_of None none = refl
-none_of (Some x) none = absurd cc
 
 -- the cause of a refusal that was answered
 cause_of : (made : Made) (refusal : Refusal) → answer_of made ≡ refuses refusal → HasCause made made.asked.reply → HasCause made (refused refusal)
@@ -40,7 +34,7 @@ where_answer rows made true false None p r t is = inl is
 where_answer rows made true false (Some path) p r t is =
     inr (inl (record { path = path; taken = t; places = p; accepted = r; answer = is }))
 
-tree_answer : (rows : Rows) (made : Made) → HasCause made made.asked.reply → IsFaultless made → IsTreeAnswer rows made → IsStepAnswer rows made
+tree_answer : (rows : Rows) (made : Made) → HasCause made made.asked.reply → IsFaultless made → IsAnswered rows made → IsStepAnswer rows made
 tree_answer rows made cause faultless (inl is) =
     where_answer rows made (places rows made.asked.request) (is_refusal (step rows made.asked.request made.asked.second).answer.reply) made.taken refl refl refl is
 tree_answer rows made cause faultless (inr (inl is)) = absurd (faultless.folder (cause_of made refusals.DeviceFault is.0 cause))
@@ -54,9 +48,7 @@ stepped : (rows : Rows) (tally : Tally) (entry : Entry) → IsNone tally.stopped
 stepped rows tally entry running caused answered faultless = record {
   committed = committed tally entry running caused faultless;
   running = (caused.running running).1;
-  answer = λ built.
-      tree_answer rows entry.made (caused.running running).0 faultless
-      (subst (λ (o : Option Refusal). MatchOption o (IsTreeAnswer rows entry.made) (λ refusal. answer_of entry.made ≡ refuses refusal)) (none_of (withheld rows entry.made.asked.request) built) answered);
+  answer = tree_answer rows entry.made (caused.running running).0 faultless answered;
 }
 
 -- and the store goes on

@@ -1,3 +1,2 @@
 pub mod Faultless
 pub mod Histories
-pub mod Withheld

@@ -1,5 +1,5 @@
 -- Legal histories: which entries a store may answer, in order, from given rows on.
-use Rattle.std.specs.Prelude.{◌≡◌, ◌⊎◌, ◌≢◌, ℕ, zero, suc, ◌≤◌, ◌^◌, ◌-◌, min, List, [], ◌∷◌, filter, Bool, true, false, ◌&&◌, ◌||◌, not, ◌==◌, Option, Some, None, is_some, IsNone, IsSome, MatchOption, ⊤, if◌then◌else◌}
+use Rattle.std.specs.Prelude.{◌≡◌, ◌⊎◌, ◌≢◌, ℕ, zero, suc, ◌≤◌, ◌^◌, ◌-◌, min, List, [], ◌∷◌, filter, Bool, true, false, ◌&&◌, ◌||◌, not, ◌==◌, Option, Some, None, is_some, IsNone, IsSome, ⊤, if◌then◌else◌}
 use Rattle.std.specs.Option.{option_map_or}
 use Rattle.outside.specs.Disk.{Path}
 use Rattle.outside.specs.Calls.{Rose}
@@ -7,7 +7,6 @@ use Rattle.tree_model.specs.declared.refusal.Refusal.TheVariants as refusals
 use Rattle.tree_model.specs.Rows.{Rows, row_of}
 use Rattle.tree_model.specs.Asked.{PlainRequest, look, walk, open_node, create, read, list, write, remove, stat_of, change, sync, PlainReply, qid, walked, count, stat, done, refused, Asked}
 use Rattle.tree_model.specs.Step.{Answer, refuses, step, early_refusal, new_name, truncates}
-use Rattle.tree_history.specs.NotBuilt.{withheld}
 
 -- ---- entries
 
@@ -222,18 +221,13 @@ answer_in rows made = answer_where rows made.asked.request made.taken (step rows
 
 -- The answer of a store that hasn't stopped: the tree's, or a fault. No fault takes the place of a refusal that comes before the work
 -- begins.
-abbrev pub IsTreeAnswer : Rows → Made → Type 0
-IsTreeAnswer rows made =
+abbrev pub IsAnswered : Rows → Made → Type 0
+IsAnswered rows made =
     (answer_of made ≡ answer_in rows made)
     ⊎ ((answer_of made ≡ refuses refusals.DeviceFault) × IsNone (early_refusal rows made.asked.request))
     ⊎ ((answer_of made ≡ refuses refusals.RandomFault) × IsNone (early_refusal rows made.asked.request))
     ⊎ ((answer_of made ≡ refuses refusals.OutOfMemory)
     × ((step rows made.asked.request made.asked.second).answer ≢ refuses refusals.Removed))
-
--- what isn't built yet is refused
-abbrev pub IsAnswered : Rows → Made → Type 0
-IsAnswered rows made =
-    MatchOption (withheld rows made.asked.request) (IsTreeAnswer rows made) (λ refusal. answer_of made ≡ refuses refusal)
 
 -- the rows after an entry, which counts where its reply is no refusal
 abbrev pub rows_then : Rows → Made → Rows

@@ -6,7 +6,6 @@ use Rattle.outside.specs.Calls.{Rose}
 use Rattle.tree_model.specs.declared.refusal.Refusal.TheVariants as refusals
 use Rattle.tree_model.specs.Rows.{Rows}
 use Rattle.tree_model.specs.Step.{refuses, step}
-use Rattle.tree_history.specs.NotBuilt.{withheld}
 use Rattle.tree_history.specs.History.{Made, Entry, Origin, answer_of, entry_at, places, is_refusal, is_stopped, rows_at, tally_of, MayLackMemory}
 
 -- no count of faults rose in an entry
@@ -42,7 +41,7 @@ IsStepAnswer rows made =
 pub record IsStepped (rows : Rows) (made : Made) : Type 0 where
   pub committed : made.commit_failed ≡ false
   pub running : is_stopped made.asked.reply ≡ false
-  pub answer : IsNone (withheld rows made.asked.request) → IsStepAnswer rows made
+  pub answer : IsStepAnswer rows made
 
 -- each entry of a history is stepped in the rows before it, and the store is running after them all
 pub record AreStepped (rows : Rows) (origin : Origin) (entries : List Entry) : Type 0 where

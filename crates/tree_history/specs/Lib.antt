@@ -1,3 +1,2 @@
-pub mod NotBuilt
 pub mod History
 pub mod Laws

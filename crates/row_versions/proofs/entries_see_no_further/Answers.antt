@@ -1,8 +1,5 @@
-use Rattle.row_versions.proofs.Histories.{withheld_are_same, places_are_same, answered_in_both, rows_then_are_same}
+use Rattle.row_versions.proofs.Histories.{places_are_same, answered_in_both, rows_then_are_same}
 use Rattle.row_versions.proofs.entries_see_no_further.Goals as goal
-
-pub returns-clause-withheld : goal.returns-clause-withheld
-returns-clause-withheld c = withheld_are_same
 
 pub returns-clause-places : goal.returns-clause-places
 returns-clause-places c = places_are_same
