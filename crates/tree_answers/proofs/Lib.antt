@@ -1,3 +1,4 @@
+pub mod Members
 pub mod Rows
 pub mod Steps
 pub mod Shown
@@ -7,3 +8,6 @@ pub mod Children
 pub mod Fitting
 pub mod Listed
 pub mod Sizes
+pub mod Named
+pub mod Walks
+pub mod Ways

@@ -1,10 +1,12 @@
--- The row of a node.
-use Rattle.std.proofs.Common.{◌≡◌, ◌≢◌, ℕ, zero, suc, ◌+◌, ◌==◌, List, [], ◌∷◌, slice_get, Option, Some, None, IfSome, IfNone, is_some, true, false, refl, ap, ◌∙◌, arith, eq-eqb}
-use Rattle.std.specs.List.{find}
-use Rattle.std.specs.Option.{option_map}
-use Rattle.std.proofs.lemmas.Bool.{ne_eqb, cond-true, cond-false}
-use Rattle.tree_model.specs.Rows.{Content, Row, row_of}
-use Rattle.clear_tree.specs.Kept.{KeptNode, KeptTree, node_of, row_of as kept_row, rows_from, tree_rows}
+-- The row of a node, and the node of a row.
+use Rattle.std.proofs.Common.{◌≡◌, ◌≢◌, ◌<◌, ◌%◌, ◌^◌, ◌==◌, ℕ, Bool, true, false, not, Option, Some, None, IfSome, IfNone, IsSome, is_some, refl, sym, ap, ◌∙◌, arith, eq-eqb, ne_eqb, eqb-true}
+use Rattle.std.specs.Option.{option_map, option_and_then}
+use Rattle.tree_model.specs.Rows.{Content, Row, root, row_of}
+use Rattle.clear_tree.specs.Kept.{folder_in}
+use Rattle.clear_tree.specs.Queue.{In}
+use Rattle.live_tree.specs.Held.{HeldNode, HeldTree, IsTree, node_of, live_row, live_rows}
+use Rattle.live_tree.proofs.Rows.{row_is}
+use Rattle.tree_answers.proofs.Members.{in_map, map_in, in_found, found_in}
 
 pub none_of : {A : Type 0} (o : Option A) → ((x : A) → o ≡ Some x → ⊥) → o ≡ None
 none_of None not = refl
@@ -18,23 +20,60 @@ pub none_there : {A : Type 0} (o : Option A) (P : Type 0) → IfNone o P → is_
 none_there None P h is = h
 none_there (Some x) P h is = absurd cc
 
--- the row of a number among rows from a number on
-module _ (contents : ℕ → Content) (at : ℕ) where
-  row_from : (from i number : ℕ) (nodes : List KeptNode) → number ≡ from + i
-      → find (λ (row : Row). row.number == number) (rows_from contents at from nodes) ≡ option_map (kept_row contents at number) (slice_get nodes i)
-  row_from from i number [] is = refl
-  row_from from zero number (node ∷ nodes) is =
-      let same : from ≡ number = omega arith in
-      cond-true (from == number) _ _ (eq-eqb from number same) ∙ ap (λ (n : ℕ). Some (kept_row contents at n node)) same
-  row_from from (suc i) number (node ∷ nodes) is =
-      let other : from ≢ number = λ (e : from ≡ number). absurd (omega arith) in
-      cond-false (from == number) _ _ (ne_eqb from number other) ∙ row_from (suc from) i number nodes (omega arith)
+pub some_is : {A : Type 0} (o : Option A) → IsSome o → (x : A) × (o ≡ Some x)
+some_is None some = absurd cc
+some_is (Some x) some = (x, refl)
 
-  pub row_is : (tree : KeptTree) (number : ℕ) → row_of (tree_rows contents at tree) number ≡ option_map (kept_row contents at number) (node_of tree number)
-  row_is tree number = row_from 0 number number tree.nodes (omega arith)
+-- a version of this run is shown as it is
+pub version_is : (version : ℕ) → version < 2 ^ 32 → version % 2 ^ 32 ≡ version
+version_is version small = omega arith
 
-  pub row_there : (tree : KeptTree) (number : ℕ) (node : KeptNode) → node_of tree number ≡ Some node → row_of (tree_rows contents at tree) number ≡ Some (kept_row contents at number node)
-  row_there tree number node is = row_is tree number ∙ ap (option_map (kept_row contents at number)) is
+module _ (contents : ℕ → Content) (tree : HeldTree) where
+  -- ---- by number
+  pub row_there : (number : ℕ) (node : HeldNode) → node_of tree number ≡ Some node → row_of (live_rows contents tree) number ≡ Some (live_row contents (number, node))
+  row_there number node is = row_is contents tree number ∙ ap (option_map (λ (node : HeldNode). live_row contents (number, node))) is
 
-  pub row_absent : (tree : KeptTree) (number : ℕ) → node_of tree number ≡ None → row_of (tree_rows contents at tree) number ≡ None
-  row_absent tree number is = row_is tree number ∙ ap (option_map (kept_row contents at number)) is
+  pub row_absent : (number : ℕ) → node_of tree number ≡ None → row_of (live_rows contents tree) number ≡ None
+  row_absent number is = row_is contents tree number ∙ ap (option_map (λ (node : HeldNode). live_row contents (number, node))) is
+
+  -- ---- among the rows
+  pub row_in : (number : ℕ) (node : HeldNode) → node_of tree number ≡ Some node → In (live_row contents (number, node)) (live_rows contents tree).nodes
+  row_in number node is = in_map (live_row contents) (number, node) tree.nodes (found_in tree.nodes number node is)
+
+  pub record IsRowOf (row : Row) : Type 0 where
+    pub number : ℕ
+    pub node : HeldNode
+    pub there : node_of tree number ≡ Some node
+    pub is : row ≡ live_row contents (number, node)
+
+  pub in_rows : (row : Row) → IsTree tree → In row (live_rows contents tree).nodes → IsRowOf row
+  in_rows row good h =
+      let entry = map_in (live_row contents) row tree.nodes h in
+      record { number = entry.of.0; node = entry.of.1; there = in_found tree.nodes entry.of.0 entry.of.1 good.ordered entry.there; is = entry.is }
+
+pub not_root : (number : ℕ) → not (number == root) ≡ true → number ≢ root
+not_root number h same = let no : not (number == root) ≡ false = ap not (eq-eqb number root same) in absurd (cc (h, no))
+
+pub below_root : (number : ℕ) → number ≢ root → not (number == root) ≡ true
+below_root number below = ap not (ne_eqb number root below)
+
+-- ---- parents
+
+parent_of_some : (o : Option HeldNode) → IsSome (option_and_then (λ (parent : HeldNode). folder_in parent.kept.what) o) → IsSome o
+parent_of_some None some = absurd cc
+parent_of_some (Some node) some = refl
+
+-- the parent of a node is there
+pub parent_there : (tree : HeldTree) (number : ℕ) (node : HeldNode) → IsTree tree → node_of tree number ≡ Some node → IsSome (node_of tree node.kept.parent)
+parent_there tree number node good there = by (number == root) refl
+  where
+    by : (b : Bool) → (number == root) ≡ b → IsSome (node_of tree node.kept.parent)
+    by true is =
+        let here : number ≡ root = eqb-true number root is in
+        let first : node_of tree root ≡ Some node = ap (node_of tree) (sym here) ∙ there in
+        let same : node ≡ good.first.0 = cc (first, good.first.1.there) in
+        let own : node.kept.parent ≡ root = ap (λ (n : HeldNode). n.kept.parent) same ∙ good.first.1.own in
+        ap (λ (n : ℕ). is_some (node_of tree n)) own ∙ ap is_some first
+    by false is =
+        let below : number ≢ root = λ same. let yes = eq-eqb number root same in absurd (cc (yes, is)) in
+        parent_of_some (node_of tree node.kept.parent) (good.parents number node there below).folder

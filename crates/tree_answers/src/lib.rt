@@ -2,16 +2,19 @@
 //!
 //! ```
 //! let root = tree_answers::look(&tree, 0);
+//! let walked = tree_answers::walk(alloc, &tree, 0, &names)?;
 //! let opened = tree_answers::open_node(&tree, 0, 0);
-//! let stat = tree_answers::stat_of(&tree, 0, unlocked, &mut buffer);
-//! let listed = tree_answers::list(&tree, 0, None, 8192, unlocked, &mut buffer);
+//! let stat = tree_answers::stat_of(&tree, 0, &mut buffer);
+//! let listed = tree_answers::list(alloc, &tree, 0, None, 8192, &mut buffer)?;
 //! ```
 #![tactic(auto)]
 
 mod listing;
 mod nodes;
 mod stats;
+mod walking;
 
 pub use listing::list;
-pub use nodes::{look, open_node, sync};
+pub use nodes::{is_truncating, look, open_node, sync};
 pub use stats::stat_of;
+pub use walking::walk;

@@ -1,22 +1,26 @@
-ghost use Rattle.std.specs.Prelude.{◌≡◌, true, false};
-ghost use Rattle.tree_model.specs.Asked.{look as look_request, open_node as open_request, sync as sync_request, plain_reply, refused};
+ghost use Rattle.std.specs.Prelude.{◌≡◌, ◌<◌, ◌^◌, [], false};
+ghost use Rattle.tree_model.specs.Asked.{look as look_request, open_node as open_request, sync as sync_request, plain_reply, HasCount, IsReplyTo};
 ghost use Rattle.tree_model.specs.Step.{says, truncates, writes as writes_mode};
-ghost use Rattle.clear_tree.specs.Kept.{node_of};
 ghost use Rattle.clear_tree.specs.Built.{kept_what};
-ghost use Rattle.tree_answers.specs.Answers.{IsStepOf, open_fault, qid_in, unbuilt};
+ghost use Rattle.live_tree.specs.Held.{IsTree};
+ghost use Rattle.tree_answers.specs.Answers.{IsOwn, IsStepOf, open_fault, qid_in};
 
-use clear_tree::{Node, Tree, What};
+use clear_tree::What;
+use live_tree::{LiveNode, LiveTree};
 use tree_model::{Qid, Refusal, Reply};
 
-// The bit of an open mode that truncates (OTRUNC, open(5)).
+// The bit of an open mode that truncates.
 const TRUNCATE: u8 = 0x10;
 
 // The open mode that reads (OREAD, open(5)).
 const READ: u8 = 0;
 
 /// The answer to a look at the node of a number: its qid.
-pub fn look(tree: &Tree, number: u64) -> Reply
-    ensures { IsStepOf tree.now (look_request number) (says (plain_reply result)) }
+pub fn look(tree: &LiveTree, number: u64) -> Reply
+    ensures answer { IsStepOf tree.now (look_request number) (says (plain_reply result)) }
+    ensures form { IsReplyTo (look_request number) (plain_reply result) [] }
+    ensures own { IsOwn (plain_reply result) }
+    ensures count { HasCount result }
 {
     match tree.node(number) {
         Some(node) => Reply::Qid(qid(number, node)),
@@ -24,17 +28,24 @@ pub fn look(tree: &Tree, number: u64) -> Reply
     }
 }
 
-/// The answer to opening the node of a number. Nothing is truncated yet: that is refused.
-pub fn open_node(tree: &Tree, number: u64, mode: u8) -> Reply
-    ensures kept { truncates mode ≡ false → IsStepOf tree.now (open_request number mode) (says (plain_reply result)) }
-    ensures truncating { truncates mode ≡ true → plain_reply result ≡ refused (unbuilt (node_of tree.now number)) }
+/// Whether an open mode truncates (OTRUNC, open(5)).
+pub fn is_truncating(mode: u8) -> bool
+    ensures { result ≡ truncates mode }
+{
+    mode & TRUNCATE != 0
+}
+
+/// The answer to opening the node of a number in a mode that doesn't truncate.
+pub fn open_node(tree: &LiveTree, number: u64, mode: u8) -> Reply
+    requires { truncates mode ≡ false }
+    ensures answer { IsStepOf tree.now (open_request number mode) (says (plain_reply result)) }
+    ensures form { IsReplyTo (open_request number mode) (plain_reply result) [] }
+    ensures own { IsOwn (plain_reply result) }
+    ensures count { HasCount result }
 {
     let Some(node) = tree.node(number) else {
         return Reply::Refused(Refusal::Removed);
     };
-    if mode & TRUNCATE != 0 {
-        return Reply::Refused(Refusal::NotPermitted);
-    }
     match open_refusal(node.what(), mode) {
         Some(refusal) => Reply::Refused(refusal),
         None => Reply::Qid(qid(number, node)),
@@ -42,8 +53,11 @@ pub fn open_node(tree: &Tree, number: u64, mode: u8) -> Reply
 }
 
 /// The answer to a sync, where nothing is ever pending.
-pub fn sync(tree: &Tree, number: u64) -> Reply
-    ensures { IsStepOf tree.now (sync_request number) (says (plain_reply result)) }
+pub fn sync(tree: &LiveTree, number: u64) -> Reply
+    ensures answer { IsStepOf tree.now (sync_request number) (says (plain_reply result)) }
+    ensures form { IsReplyTo (sync_request number) (plain_reply result) [] }
+    ensures own { IsOwn (plain_reply result) }
+    ensures count { HasCount result }
 {
     match tree.node(number) {
         Some(_) => Reply::Done,
@@ -51,9 +65,17 @@ pub fn sync(tree: &Tree, number: u64) -> Reply
     }
 }
 
-// The qid of a node.
-pub(crate) fn qid(number: u64, node: &Node) -> Qid
-    ensures { result ≡ qid_in number node.now }
+/// States what each tree is.
+pub(crate) fn is_tree(tree: &LiveTree)
+    ensures { IsTree tree.now }
+{
+    let _count = tree.len();
+}
+
+/// The qid of a node, whose version is below 2^32.
+pub(crate) fn qid(number: u64, node: &LiveNode) -> Qid
+    ensures qid { result ≡ qid_in number node.now }
+    ensures version { node.now.version < 2 ^ 32 }
 {
     let kind = match node.what() {
         What::Dir { .. } => Qid::DIRECTORY,
@@ -61,7 +83,7 @@ pub(crate) fn qid(number: u64, node: &Node) -> Qid
     };
     Qid {
         kind,
-        version: 0,
+        version: node.version(),
         path: number,
     }
 }

@@ -1,15 +1,16 @@
-ghost use Rattle.std.specs.Prelude.{◌≡◌, ◌≤◌, ◌+◌, length};
+ghost use Rattle.std.specs.Prelude.{◌≡◌, ◌<◌, ◌≤◌, ◌+◌, ◌^◌, length};
 ghost use Rattle.std.specs.Str.{IsUtf8};
 ghost use Rattle.tree_model.specs.Wire.{plain_stat, IsTreeStat};
 ghost use Rattle.tree_model.specs.Rows.{mode_of};
-ghost use Rattle.tree_model.specs.Asked.{IsReplyTo, KeepsRest, bytes_put, plain_reply, stat_of as stat_request};
+ghost use Rattle.tree_model.specs.Asked.{HasCount, IsReplyTo, KeepsRest, bytes_put, plain_reply, stat_of as stat_request};
 ghost use Rattle.clear_tree.specs.Kept.{kind_of};
 ghost use Rattle.clear_tree.specs.Built.{kept_what};
-ghost use Rattle.tree_answers.specs.Answers.{IsOfTree, IsSizedStepOf, answer_in, shown_length, stat_in};
+ghost use Rattle.tree_answers.specs.Answers.{IsOwn, IsSizedStepOf, answer_in, shown_length, stat_in};
 
 use crate::nodes::qid;
-use clear_tree::{Node, Tree, What};
+use clear_tree::What;
 use file_chunks::clear_len;
+use live_tree::{LiveNode, LiveTree};
 use ninep_wire::write_stat;
 use tree_model::{Refusal, Reply, Stat};
 
@@ -27,34 +28,36 @@ const READ_ONLY_MODE: u32 = 0x124;
 const UNNAMED_STAT: usize = 64;
 
 /// The answer to a request for the stat of the node of a number, which is put into the front of `buffer`, of at least
-/// 1,088 bytes. A file's length follows from the size of its host file, and its times are the second at which the vault
-/// was unlocked.
-pub fn stat_of(tree: &Tree, number: u64, unlocked: u32, buffer: &mut [u8]) -> Reply
+/// 1,088 bytes. A file's length follows from the size of its host file, and its times are the second of its last change or
+/// the mtime that it was given since.
+pub fn stat_of(tree: &LiveTree, number: u64, buffer: &mut [u8]) -> Reply
     requires { 1088 ≤ length buffer.old }
-    ensures answer { IsSizedStepOf tree.now unlocked (stat_request number) (answer_in (stat_request number) (plain_reply result) buffer.new) }
+    ensures answer { IsSizedStepOf tree.now (stat_request number) (answer_in (stat_request number) (plain_reply result) buffer.new) }
     ensures form { IsReplyTo (stat_request number) (plain_reply result) (bytes_put (stat_request number) (plain_reply result) buffer.new) }
     ensures rest { KeepsRest (stat_request number) (plain_reply result) buffer.old buffer.new }
-    ensures own { IsOfTree (plain_reply result) }
+    ensures own { IsOwn (plain_reply result) }
+    ensures count { HasCount result }
 {
     let Some(node) = tree.node(number) else {
         return Reply::Refused(Refusal::Removed);
     };
-    let stat = stat_at(number, node, unlocked);
+    let stat = stat_at(number, node);
     Reply::Stat(write_stat(&stat, buffer) as u32)
 }
 
 /// What a client sees of a node.
-pub(crate) fn stat_at<'a>(number: u64, node: &'a Node, unlocked: u32) -> Stat<'a>
-    ensures stat { plain_stat result ≡ stat_in number unlocked node.now }
-    ensures form { IsTreeStat (stat_in number unlocked node.now) }
+pub(crate) fn stat_at<'a>(number: u64, node: &'a LiveNode) -> Stat<'a>
+    ensures stat { plain_stat result ≡ stat_in number node.now }
+    ensures form { IsTreeStat (stat_in number node.now) }
+    ensures version { node.now.version < 2 ^ 32 }
 {
     Stat {
         kind: 0,
         device: 0,
         qid: qid(number, node),
         mode: mode(node.what()),
-        accessed: unlocked,
-        modified: unlocked,
+        accessed: node.modified(),
+        modified: node.modified(),
         length: len(node.what()),
         name: name(node),
         owner: OWNER,
@@ -72,12 +75,12 @@ pub(crate) fn stat_size(stat: &Stat<'_>) -> usize
 }
 
 // The name of a node.
-fn name(node: &Node) -> &str
-    ensures bytes { result.now ≡ node.now.name }
-    ensures text { IsUtf8 node.now.name }
-    ensures short { length node.now.name ≤ 1024 }
+fn name(node: &LiveNode) -> &str
+    ensures bytes { result.now ≡ node.now.kept.name }
+    ensures text { IsUtf8 node.now.kept.name }
+    ensures short { length node.now.kept.name ≤ 1024 }
 {
-    match str::from_utf8(node.name()) {
+    match str::from_utf8(node.name().as_bytes()) {
         Ok(name) => name,
         Err(_) => unreachable!(),
     }

@@ -8,22 +8,22 @@ use Rattle.tree_answers.proofs.stats.stat_of.Goals as goal
 
 pub returns-in_default-clause-answer : goal.returns-in_default-clause-answer
 returns-in_default-clause-answer c =
-    sized_removed c.args.tree.now c.args.unlocked (stat_of c.args.number) (sym (rw (none_of c.node.result c.in_default.not-Some) at c.node.ensures.value))
+    sized_removed c.args.tree.now (stat_of c.args.number) (sym (rw (none_of c.node.result c.in_default.not-Some) at c.node.ensures))
 
 pub returns-clause-answer : goal.returns-clause-answer
 returns-clause-answer c =
-    let put = shown c.stat_at-stat.result c.args.number c.args.unlocked c.in-Some.node.now c.write_stat.result c.args.buffer.now c.write_stat.new.out c.stat_at-stat.ensures.stat c.write_stat.ensures.size c.write_stat.ensures.bytes in
-    stat_answered c.args.tree.now c.args.unlocked c.args.number c.in-Some.node.now (sym c.in-Some.ensures.value) c.write_stat.result (take c.write_stat.result c.write_stat.new.out) put.all put.front
+    let put = shown c.stat_at-stat.result c.args.number c.in-Some.node.now c.write_stat.result c.args.buffer.now c.write_stat.new.out c.stat_at-stat.ensures.stat c.write_stat.ensures.size c.write_stat.ensures.bytes in
+    stat_answered c.args.tree.now c.args.number c.in-Some.node.now (sym c.in-Some.ensures) c.stat_at-stat.ensures.version c.write_stat.result (take c.write_stat.result c.write_stat.new.out) put.all put.front
 
 pub returns-clause-form : goal.returns-clause-form
 returns-clause-form c =
-    let put = shown c.stat_at-stat.result c.args.number c.args.unlocked c.in-Some.node.now c.write_stat.result c.args.buffer.now c.write_stat.new.out c.stat_at-stat.ensures.stat c.write_stat.ensures.size c.write_stat.ensures.bytes in (
-      record { stat = stat_in c.args.number c.args.unlocked c.in-Some.node.now; spelled = put.front; good = c.stat_at-stat.ensures.form },
+    let put = shown c.stat_at-stat.result c.args.number c.in-Some.node.now c.write_stat.result c.args.buffer.now c.write_stat.new.out c.stat_at-stat.ensures.stat c.write_stat.ensures.size c.write_stat.ensures.bytes in (
+      record { stat = stat_in c.args.number c.in-Some.node.now; spelled = put.front; good = c.stat_at-stat.ensures.form },
       ap (λ (w : List ℕ). length w) put.front ∙ sym put.all,
     )
 
 pub returns-clause-rest : goal.returns-clause-rest
 returns-clause-rest c =
-    let put = shown c.stat_at-stat.result c.args.number c.args.unlocked c.in-Some.node.now c.write_stat.result c.args.buffer.now c.write_stat.new.out c.stat_at-stat.ensures.stat c.write_stat.ensures.size c.write_stat.ensures.bytes in
+    let put = shown c.stat_at-stat.result c.args.number c.in-Some.node.now c.write_stat.result c.args.buffer.now c.write_stat.new.out c.stat_at-stat.ensures.stat c.write_stat.ensures.size c.write_stat.ensures.bytes in
     let count : length (take c.write_stat.result c.write_stat.new.out) ≡ c.write_stat.result = ap (λ (w : List ℕ). length w) put.front ∙ sym put.all in
     ap (λ (n : ℕ). drop n c.write_stat.new.out) count ∙ put.rest ∙ sym (ap (λ (n : ℕ). drop n c.args.buffer.now) count)

@@ -1,0 +1,37 @@
+use Rattle.std.proofs.Common.{◌<◌, ◌≤◌, ◌≡◌, length, take, arith}
+use Rattle.std.proofs.lemmas.List.{length-set}
+use Rattle.tree_model.specs.Names.{names_in}
+use Rattle.tree_answers.proofs.Ways.{HasName-left, names_after, ends_refused, ends_whole, goes_further}
+use Rattle.tree_answers.proofs.walking.follow.Goals as goal
+
+pub split_name-requires : goal.split_name-requires
+split_name-requires c =
+    let first = HasName-left c.args.names.now.count c.loop-count.count c.loop-count.bytes.now c.loop-count-test.true c.loop-count.invariant.names in
+    (first.head, first.whole)
+
+pub returns-in-Err-clause-way : goal.returns-in-Err-clause-way
+returns-in-Err-clause-way c =
+    ends_refused c.args.tree.now c.args.from (names_in c.args.names.now.count c.args.names.now.bytes.now) c.loop-count.at c.args.names.now.count c.loop-count.count c.loop-count.bytes.now
+    c.split_name.result.0.now c.split_name.result.1.now (take c.loop-count.count c.loop-count.qids) c.in_ok-node.field-0 c.in-Err.refusal
+    c.loop-count-test.true c.loop-count.invariant.names c.split_name.ensures.name c.split_name.ensures.rest c.in_ok-node.ensures.stands c.in-Err.is c.loop-count.invariant.way
+
+pub loop-count-preserved : goal.loop-count-preserved
+loop-count-preserved c =
+    let N = c.args.names.now.count in
+    let k = c.loop-count.count in
+    let qids = c.loop-count.qids in
+    let few : c.args.names.now.count ≤ 16 = c.requires.names.few in
+    let room : length c.loop-count.qids ≡ 16 = c.loop-count.invariant.room in
+    let below : c.loop-count.count < c.args.names.now.count = c.loop-count-test.true in
+    record {
+      room = omega (arith, length-set c.loop-count.qids c.loop-count.count c.qid_of.result);
+      names = names_after N k c.loop-count.bytes.now c.split_name.result.1.now below c.loop-count.invariant.names c.split_name.ensures.rest;
+      way = goes_further c.args.tree.now c.args.from (names_in N c.args.names.now.bytes.now) c.loop-count.at N k c.loop-count.bytes.now
+          c.split_name.result.0.now c.split_name.result.1.now qids c.in_ok-node.field-0 c.in-Ok.node c.qid_of.result
+          c.requires.tree below (omega arith) c.loop-count.invariant.names c.split_name.ensures.name c.split_name.ensures.rest c.in_ok-node.ensures.stands c.in-Ok.is c.qid_of.ensures c.loop-count.invariant.way;
+    }
+
+pub returns-clause-way : goal.returns-clause-way
+returns-clause-way c =
+    ends_whole c.args.tree.now c.args.from (names_in c.args.names.now.count c.args.names.now.bytes.now) c.loop-count.at c.args.names.now.count c.loop-count.count c.loop-count.bytes.now
+    c.loop-count.qids (omega arith) c.loop-count.invariant.way
