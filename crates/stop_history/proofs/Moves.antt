@@ -94,10 +94,10 @@ module _ (Shows : DiskShows) (opened : ℕ) (rows : Rows) where
 
   -- and it is as good as on the disk where nothing is pending
   pub idles_kept : (history : List Entry) (log : Log) (e : Entry) → IsRunning Shows opened rows history [] log
-      → e.made.moment ≡ moment log → e.made.stable ≤ suc (length history) → rows_then (rows_at rows history (length history)) e.made ≡ rows_at rows history (length history)
+      → e.made.moment ≡ moment log → e.made.stable ≤ suc (length history) → Shows (now log) (rows_then (rows_at rows history (length history)) e.made)
       → IsRunning Shows opened rows (history ++ e ∷ []) [] log
-  idles_kept history log e is at stable same =
-      let shows : Shows (now log) (rows_at rows (history ++ e ∷ []) (length (history ++ e ∷ []))) = subst (λ (r : Rows). Shows (now log) r) (sym (rows_end rows history e ∙ same)) (shows_all history log is) in
+  idles_kept history log e is at stable after =
+      let shows : Shows (now log) (rows_at rows (history ++ e ∷ []) (length (history ++ e ∷ []))) = subst (λ (r : Rows). Shows (now log) r) (sym (rows_end rows history e)) after in
       record {
         since = is.since;
         past = safe_more Shows rows opened history log e (moment log) (omega (arith, at)) is.past;

@@ -27,11 +27,11 @@ Idles Shows = (opened : ℕ) (rows : Rows) (history : List Entry) (pending pendi
     → DoesAll (in_order pending') (now log) after → Shows after (rows_then (rows_end rows history) entry.made)
     → IsRunning Shows opened rows (history ++ entry ∷ []) pending' log
 
--- with nothing pending it is as good as on the disk
+-- with nothing pending it is as good as on the disk, which shows the rows after it
 abbrev pub IdlesKept : DiskShows → Type 0
 IdlesKept Shows = (opened : ℕ) (rows : Rows) (history : List Entry) (log : Log) (entry : Entry)
     → IsRunning Shows opened rows history [] log → entry.made.moment ≡ moment log → entry.made.stable ≤ suc (length history)
-    → rows_then (rows_end rows history) entry.made ≡ rows_end rows history
+    → Shows (now log) (rows_then (rows_end rows history) entry.made)
     → IsRunning Shows opened rows (history ++ entry ∷ []) [] log
 
 -- ---- what is pending is committed

@@ -10,7 +10,7 @@ pub fn idles<S: ShowsRows>(shape: &S)
     ensures { Idles (S.shows shape.now) }
 {}
 
-/// The same with nothing pending, as a sync.
+/// The same with nothing pending, as a sync, or an mtime that is kept in memory alone.
 pub fn idles_kept<S: ShowsRows>(shape: &S)
     ensures { IdlesKept (S.shows shape.now) }
 {}
