@@ -4,3 +4,10 @@ pub mod Removals
 pub mod Committing
 pub mod Creations
 pub mod Renames
+pub mod Naming
+pub mod Placing
+pub mod Rows
+pub mod Named
+pub mod Sites
+pub mod Makings
+pub mod Draws

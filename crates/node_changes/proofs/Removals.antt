@@ -38,6 +38,7 @@ use Rattle.name_places.proofs.Lowest.{removing_keeps}
 use Rattle.node_changes.specs.Changed.{StandsOn, MakesStep, LeadsOn, MayRefuse, ShowsRows, IsStepAnswer}
 use Rattle.node_changes.specs.Causes.{RefusalCause}
 use Rattle.node_changes.specs.Removal.{AreRemoval, IsMisplaced, IsRemovalRefusal, IsFolderAbove, IsUnclaimed, place_in}
+use Rattle.node_changes.proofs.Committing.{early_step}
 use Rattle.node_changes.proofs.Nodes.{IsBelow, is_below, place_is}
 use Rattle.node_changes.proofs.Refusing.{IsRemovable, removable, is_there, node_there}
 
@@ -202,12 +203,6 @@ are_repeatable deeds place what e apart = subst IsRepeatable (sym e) (by_what pl
     by_what b (KeptBad text) h = record { apart = tt; beside_journal = tt; beside_new = tt }
 
 -- ---- refusals
-
-early_step : (rows : Rows) (request : PlainRequest) (second : ℕ) (refusal : Refusal) → early_refusal rows request ≡ Some refusal → (step rows request second).answer ≡ refuses refusal
-unfolding step
-early_step rows request second refusal e =
-    ap (λ (o : Option Refusal). (option_map_or (λ refusal. stepped rows (refuses refusal)) o
-    (option_map_or (λ row. work rows row request second) (row_of rows (request_node request)) (stepped rows (refuses refusals.Removed)))).answer) e
 
 module _ (s : Sealing) (live : HeldTree) (claims : List (List ℕ × ℕ)) (number second : ℕ) where
   refused_step : (refusal : Refusal) → IsRemovalRefusal live number (Some refusal) → (d : Disk) → IsStepAnswer s (remove number) second (refuses refusal) d live claims

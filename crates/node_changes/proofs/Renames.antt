@@ -107,7 +107,7 @@ module _ (keys : KeyPair) (texts : AreTexts (sealing_of keys)) (kept : KeptClaim
     pub leads : laws.Leads k d deeds tree'
     leads = subst (λ (ds : List PlainDeed). laws.Leads k d ds tree') same_deeds (by_node it.node refl)
 
-    does : DoesAll (in_order deeds) d leads.after
+    pub does : DoesAll (in_order deeds) d leads.after
     does = subst (λ (ds : List PlainDeed). DoesAll ds d leads.after) (sym leads.ordered) leads.does
 
     pub stands_after : StandsOn k leads.after (renamed live number held.kept.parent m (place_of k i m long).entry long now) claims contents
@@ -123,12 +123,12 @@ module _ (keys : KeyPair) (texts : AreTexts (sealing_of keys)) (kept : KeptClaim
   module _ (deeds_are : deeds ≡ rename_deeds (place_in can.folder held) (place_of (sealing_of keys) i m long) ((sealing_of keys).seal i m) held.kept.what) (live' : HeldTree) (request : PlainRequest)
       (goes_on : (after : Disk) (contents : ℕ → Content) → StandsOn (sealing_of keys) after (renamed live number held.kept.parent m (place_of (sealing_of keys) i m long).entry long now) claims contents
       → StandsOn (sealing_of keys) after live' claims contents)
-      (rows : (contents : ℕ → Content) → wrapped (live_rows contents live') ≡ wrapped (step (live_rows contents live) request now).rows) where
+      (rows : (contents : ℕ → Content) → StandsOn (sealing_of keys) d live claims contents → wrapped (live_rows contents live') ≡ wrapped (step (live_rows contents live) request now).rows) where
     shows : (contents : ℕ → Content) (stands : StandsOn (sealing_of keys) d live claims contents) → ShowsRows k (step (live_rows contents live) request now).rows (leads deeds_are contents stands).after live' claims
     shows contents stands = record {
       contents = contents;
       stands = goes_on (leads deeds_are contents stands).after contents (stands_after deeds_are contents stands);
-      shows = rows contents;
+      shows = rows contents stands;
     }
 
     pub makes : (contents : ℕ → Content) → StandsOn (sealing_of keys) d live claims contents → MakesStep (sealing_of keys) request now deeds d live live' claims claims

@@ -83,10 +83,11 @@ pub record HasChanged (s : Sealing) (request : PlainRequest) (second : ℕ) (ans
   pub any_moment : AnyMoment deeds old new
   pub committed : HasCommitted deeds old new
 
--- its commit failed: at each moment since an image recovers to the disk before or after the deeds
+-- its commit failed, once no refusal of the step had come: at each moment since an image recovers to the disk before or after the deeds
 pub record MayHaveChanged (s : Sealing) (request : PlainRequest) (second : ℕ) (live live' : HeldTree) (claims claims' : List (List ℕ × ℕ)) (old new : Log) : Type 0 where
   pub deeds : List PlainDeed
   pub makes : MakesStep s request second deeds (now old) live live' claims claims'
+  pub late : IsLate s request (now old) live claims
   pub any_moment : AnyMoment deeds old new
 
 -- ---- refusals

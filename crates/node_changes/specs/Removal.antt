@@ -6,7 +6,7 @@ use Rattle.tree_model.specs.declared.refusal.Refusal.{Refusal}
 use Rattle.tree_model.specs.Rows.{Content}
 use Rattle.tree_model.specs.Asked.{remove}
 use Rattle.tree_model.specs.Step.{early_refusal}
-use Rattle.clear_tree.specs.Kept.{folder_in}
+use Rattle.clear_tree.specs.Kept.{KeptDir, folder_in}
 use Rattle.tree_changes.specs.Deeds.{Place, remove_deeds}
 use Rattle.live_tree.specs.Held.{HeldNode, HeldTree, node_of, live_rows}
 use Rattle.name_places.specs.Laws.{Shrinks}
@@ -14,6 +14,12 @@ use Rattle.name_places.specs.Laws.{Shrinks}
 -- the step's refusal of a removal before the work, whatever the contents are
 abbrev pub IsRemovalRefusal : HeldTree → ℕ → Option Refusal → Type 0
 IsRemovalRefusal live number refusal = (contents : ℕ → Content) → early_refusal (live_rows contents live) (remove number) ≡ refusal
+
+-- the node is in a directory of this identifier and this folder
+pub record IsDirectoryAbove (live : HeldTree) (held : HeldNode) (identifier folder : List ℕ) : Type 0 where
+  pub above : HeldNode
+  pub up : node_of live held.kept.parent ≡ Some above
+  pub is : above.kept.what ≡ KeptDir identifier folder
 
 -- the node is in a directory of this folder
 pub record IsFolderAbove (live : HeldTree) (held : HeldNode) (folder : List ℕ) : Type 0 where

@@ -1,16 +1,22 @@
 //! The changes of an open vault's shape: a node is made, removed or gets another name, on the disk by one batch and in memory.
 //!
 //! ```
-//! let mut tree = VaultTree::new(alloc, &keys, live)?;
-//! tree.remove(&mut journal, number, now)?;
+//! let mut tree = VaultTree::new(alloc, &keys, 220, live)?;
+//! let qid = tree.create(&mut journal, &mut entropy, 0, "notes", false, now)?;
+//! tree.rename(&mut journal, qid.path, name, None, now)?;
+//! tree.remove(&mut journal, qid.path, now)?;
 //! ```
 //!
 //! Each change is refused as the plain file tree's step refuses it, or for the cause that its answer names, and then changes
 //! nothing; or it is committed, and the tree in memory goes on to that of the disk after it. All memory is taken before.
 #![tactic(auto)]
 
+mod creating;
 mod error;
+mod places;
 mod removing;
+mod renaming;
+mod site;
 mod tree;
 
 pub use error::ChangeErr;

@@ -23,6 +23,7 @@ ghost use Rattle.node_changes.specs.Causes.{ErrCause, IfBroken, IfRefused, IsUnc
 ghost use Rattle.node_changes.specs.Removal.{AreRemoval, IsFolderAbove, IsMisplaced, IsRemovalRefusal, IsUnclaimed};
 
 use crate::error::ChangeErr;
+use crate::places::{directory_above, is_host_part};
 use crate::tree::VaultTree;
 use change_deeds::{Place, remove_deeds};
 use chunk_journal::Journal;
@@ -33,7 +34,6 @@ use name_places::{Claims, are_texts, entries_are_parts, kept_claims};
 use outside::Folder;
 use std::alloc::Global;
 use tree_model::Refusal;
-use vault_path::VaultPath;
 
 impl VaultTree {
     /// Removes the node of a number at a second since 1970-01-01. It takes memory before anything changes. After `Broken` the
@@ -56,6 +56,7 @@ impl VaultTree {
         ensures cause { IfErr result (ErrCause (remove number) (Rose (D.faults journal.old) (D.faults journal.new)) ⊥) }
         ensures later { D.faults journal.old ≤ D.faults journal.new }
         ensures keys { self.new.keys ≡ self.old.keys }
+        ensures threshold { self.new.threshold ≡ self.old.threshold }
     {
         match self.take_out(number, now) {
             Ok(deeds) => match journal.commit(&deeds) {
@@ -78,6 +79,7 @@ impl VaultTree {
         ensures same_live { OnErr result (self.new.live ≡ self.old.live) }
         ensures same_claims { OnErr result (self.new.claims ≡ self.old.claims) }
         ensures keys { self.new.keys ≡ self.old.keys }
+        ensures threshold { self.new.threshold ≡ self.old.threshold }
     {
         are_texts(&self.keys);
         kept_claims(&self.keys);
@@ -102,6 +104,7 @@ impl VaultTree {
         ensures rows { RowsAreRemoved self.old.live self.new.live number now }
         ensures claims { (held : HeldNode) → node_of self.old.live number ≡ Some held → IsUnclaimed held self.old.claims self.new.claims }
         ensures keys { self.new.keys ≡ self.old.keys }
+        ensures threshold { self.new.threshold ≡ self.old.threshold }
     {
         let folder = folder_of(&self.live, number);
         unclaim(&mut self.claims, folder);
@@ -202,15 +205,7 @@ fn folder_above<'a>(live: &'a LiveTree, node: &LiveNode) -> &'a [u8; 32]
     ensures folder { IsFolderAbove live.now node.now result.now }
     ensures path { IsTrue (is_path (host_folder result.now)) }
 {
-    // for its clause: each node is in a directory
-    let _count = live.len();
-    let Some(above) = live.node(node.parent()) else {
-        unreachable!()
-    };
-    match above.folder() {
-        Some(folder) => folder,
-        None => unreachable!(),
-    }
+    directory_above(live, node).folder
 }
 
 // Whether a node is a directory of this folder.
@@ -222,11 +217,4 @@ fn is_own_folder(node: &LiveNode, folder: &[u8; 32]) -> bool
         Some(own) => own.as_slice() == folder.as_slice(),
         None => false,
     }
-}
-
-// Whether host paths can be made of an entry.
-fn is_host_part(entry: &[u8]) -> bool
-    ensures { result ≡ is_part entry.now }
-{
-    VaultPath::root().join(entry).is_ok()
 }

@@ -1,6 +1,7 @@
-ghost use Rattle.std.specs.Prelude.{◌≡◌, ◌≤◌, IfOk};
+ghost use Rattle.std.specs.Prelude.{◌≡◌, ◌≤◌, Some, IfOk};
 ghost use Rattle.directory_scan.specs.Format.{sealing_of};
-ghost use Rattle.live_tree.specs.Changes.{dated, RowsAreDated};
+ghost use Rattle.live_tree.specs.Changes.{dated, touched, IsFile, RowsAreDated, RowsAreTouched};
+ghost use Rattle.live_tree.specs.Held.{HeldNode, node_of};
 ghost use Rattle.name_places.specs.Claims.{AreClaimsOf};
 
 use live_tree::LiveTree;
@@ -16,11 +17,20 @@ pub struct VaultTree {
     pub(crate) live: LiveTree,
     // Which nodes name which folders.
     pub(crate) claims: Claims,
+    // The most characters of a text that stands at its short place.
+    pub(crate) threshold: u32,
 }
 
 impl VaultTree {
-    /// The tree of a vault with these keys. Fails only where memory runs out.
-    pub fn new(alloc: Global, keys: &VaultKeys, live: LiveTree) -> Result<VaultTree, AllocError>
+    /// The tree of a vault with these keys. `threshold` is the most characters of a sealed name's text that stands at its short
+    /// place, 1 to 250. Fails only where memory runs out.
+    pub fn new(
+        alloc: Global,
+        keys: &VaultKeys,
+        threshold: u32,
+        live: LiveTree,
+    ) -> Result<VaultTree, AllocError>
+        ensures threshold { IfOk result (λ tree. tree.threshold ≡ threshold) }
         ensures keys { IfOk result (λ tree. tree.keys ≡ keys.now) }
         ensures live { IfOk result (λ tree. tree.live ≡ live) }
         ensures claims { IfOk result (λ tree. AreClaimsOf (sealing_of keys.now) tree.live tree.claims) }
@@ -31,6 +41,7 @@ impl VaultTree {
             keys: keys.copied(),
             live,
             claims,
+            threshold,
         })
     }
 
@@ -48,12 +59,26 @@ impl VaultTree {
         &self.keys
     }
 
+    /// Puts another size of a file's host file, in bytes, which is a change of the file at a second since 1970-01-01. It takes no
+    /// memory.
+    pub fn touch(&mut self, number: u64, size: u64, now: u32)
+        requires file { (node : HeldNode) → node_of self.old.live number ≡ Some node → IsFile node.kept.what }
+        ensures live { self.new.live ≡ touched self.old.live number size now }
+        ensures rows { RowsAreTouched self.old.live self.new.live number now }
+        ensures claims { self.new.claims ≡ self.old.claims }
+        ensures keys { self.new.keys ≡ self.old.keys }
+        ensures threshold { self.new.threshold ≡ self.old.threshold }
+    {
+        self.live.touch(number, size, now);
+    }
+
     /// Sets a node's mtime, which is no change of it. It takes no memory.
     pub fn set_modified(&mut self, number: u64, modified: u32)
         ensures live { self.new.live ≡ dated self.old.live number modified }
         ensures rows { RowsAreDated self.old.live self.new.live number modified }
         ensures claims { self.new.claims ≡ self.old.claims }
         ensures keys { self.new.keys ≡ self.old.keys }
+        ensures threshold { self.new.threshold ≡ self.old.threshold }
     {
         self.live.set_modified(number, modified);
     }

@@ -1,4 +1,4 @@
-use Rattle.std.proofs.Common.{List, sym, subst}
+use Rattle.std.proofs.Common.{List, refl, sym, subst}
 use Rattle.deeds.specs.Plain.{plains}
 use Rattle.deeds.specs.declared.deed.Deed.{Deed}
 use Rattle.tree_model.specs.Asked.{remove, done}
@@ -40,5 +40,6 @@ returns-in-Ok-clause-broken g c =
     let deeds = plains c.deref.result.now in
     let log = g.D.Reads.log c.args.journal.now in
     let leads = subst (λ (ds : List Deed). LeadsOn (sealing_of c.args.self.now.keys) (remove c.args.number) c.args.now (says done) c.args.self.now.live c.take_out.new.self.live c.args.self.now.claims c.take_out.new.self.claims (plains ds)) (sym c.deref.ensures.value) c.in-Ok.ensures.made in
-    may_have_changed s (remove c.args.number) c.args.now deeds old.live new.live old.claims new.claims log (g.D.Reads.log c.commit.new.self)
-    (told_makes s (remove c.args.number) c.args.now (says done) deeds old.live new.live old.claims new.claims log leads c.requires.rest) c.in-Err-commit.ensures.any_moment
+    may_have_changed s (remove c.args.number) c.args.now deeds old.live new.live old.claims new.claims log (says done) (g.D.Reads.log c.commit.new.self) refl
+    (told_makes s (remove c.args.number) c.args.now (says done) deeds old.live new.live old.claims new.claims log leads c.requires.rest)
+    (told_answer s (remove c.args.number) c.args.now (says done) deeds old.live new.live old.claims new.claims log leads c.requires.rest) c.in-Err-commit.ensures.any_moment

@@ -1,0 +1,261 @@
+-- What was drawn for a new node, why it was refused, and what its commit made of it.
+use Rattle.std.proofs.Common.{◌≡◌, ◌≤◌, ℕ, Bool, List, [], ◌++◌, Option, Some, None, IfSome, IsTrue, Ok, length, refl, sym, ap, ◌∙◌, subst, inl, inr, ◌⊎◌, false, true≢false, arith, append_assoc}
+use Rattle.std.proofs.lemmas.List.{append-nil}
+use Rattle.std.specs.Prelude.{⊤}
+use Rattle.vault_path.specs.Parts.{is_path}
+use Rattle.outside.specs.Disk.{Disk, Path as HostPath}
+use Rattle.outside.specs.Calls.{Changes, Rose, Told}
+use Rattle.outside.specs.Images.{Log, now, disk_in}
+use Rattle.outside.proofs.Told.{told_then, told_always, unchanged, changed_by}
+use Rattle.deeds.specs.Deeds.{PlainDeed, DoesAll, in_order}
+use Rattle.chunk_journal.specs.Journal.{AnyMoment, HasCommitted}
+use Rattle.siv_mode.specs.Keys.{KeyPair}
+use Rattle.tree_model.specs.declared.refusal.Refusal.{Refusal}
+use Rattle.tree_model.specs.declared.refusal.Refusal.TheVariants as refusals
+use Rattle.tree_model.specs.Names.{clear_name}
+use Rattle.tree_model.specs.Asked.{PlainRequest, create}
+use Rattle.tree_model.specs.Step.{Answer}
+use Rattle.clear_tree.specs.Walk.{Sealing}
+use Rattle.clear_tree.specs.Places.{host_folder}
+use Rattle.directory_scan.specs.Format.{sealing_of}
+use Rattle.tree_changes.specs.Deeds.{Place, create_file_deeds}
+use Rattle.live_tree.specs.Held.{HeldTree, live_rows, IsTree}
+use Rattle.tree_history.specs.History.{is_refusal}
+use Rattle.name_places.specs.declared.directory.NewDirectory.{NewDirectory}
+use Rattle.name_places.specs.New.{identifier_of}
+use Rattle.name_places.specs.Laws.{EntriesAreParts}
+use Rattle.name_places.specs.Asked.{IsTaken}
+use Rattle.name_places.specs.Asked.{identifier_in as drawn_in}
+use Rattle.node_changes.specs.declared.site.Site.{Site}
+use Rattle.node_changes.specs.Causes.{RefusalCause}
+use Rattle.node_changes.specs.Changed.{IsAtRest, MakesStep, MayHaveChanged, MayRefuse}
+use Rattle.node_changes.specs.Placed.{taken_for, DrawsHeader, IsIdentifierOf, GoesOn}
+use Rattle.node_changes.proofs.Committing.{late_by}
+use Rattle.node_changes.specs.Creation.{HasCreated, IsDraw}
+use Rattle.node_changes.specs.Creating.{DrawsHead, DrawsIf, IsPlaceRefusal, IsRefusal, IsSite, IsSiteRefusal, IsUntaken, MakesOn}
+use Rattle.node_changes.proofs.Makings.{told_taken, is_late, is_accepted, never_removed}
+
+-- ---- counts of faults
+
+pub rose_from : (a b c : ℕ) → a ≤ b → Rose b c → Rose a c
+rose_from a b c low (inl more) = inl (omega (arith, low, more))
+rose_from a b c low (inr end) = inr end
+
+-- ---- what was drawn
+
+pub stayed : (drew drew' : Option (List ℕ)) → drew' ≡ drew → Changes drew drew' GoesOn
+stayed drew drew' e = unchanged drew drew' GoesOn e (λ x. ([], sym (append-nil x)))
+
+pub no_draw : (is_dir : Bool) (drew drew' : Option (List ℕ)) → Changes drew drew' GoesOn → IsDraw is_dir None drew drew'
+no_draw is_dir drew drew' changes = record { directory = λ e. absurd (true≢false (sym e)); more = changes; first = changed_by drew drew' GoesOn (λ old new. ⊤) (λ old new more. tt) changes }
+
+pub identifier_drawn : (drew drew' : Option (List ℕ)) (bytes : List ℕ) → length bytes ≡ 16 → Changes drew drew' (λ old new. new ≡ old ++ bytes) → (identifier : List ℕ) → identifier ≡ identifier_of bytes
+    → Changes drew drew' (IsIdentifierOf identifier)
+identifier_drawn drew drew' bytes sixteen extends identifier is =
+    changed_by drew drew' (λ (old new : List ℕ). new ≡ old ++ bytes) (IsIdentifierOf identifier)
+    (λ old new e. record { bytes = bytes; sixteen = sixteen; rest = []; drew = e ∙ sym (append-nil (old ++ bytes)); is = is }) extends
+
+module _ (keys : KeyPair) (is_dir : Bool) where
+  pub drew_directory : (directory : Option NewDirectory) (drew drew' : Option (List ℕ)) → DrawsIf keys is_dir directory drew drew' → IsDraw is_dir (drawn_in directory) drew drew'
+  drew_directory None drew drew' h = no_draw is_dir drew drew' (stayed drew drew' h.1)
+  drew_directory (Some directory) drew drew' h = record { directory = λ e. h.0; more = changed_by drew drew' (IsIdentifierOf directory.identifier) GoesOn (λ old new it. (it.bytes ++ it.rest, it.drew ∙ append_assoc old it.bytes it.rest)) h.1.first; first = h.1.first }
+
+  pub own_folder : (directory : Option NewDirectory) (drew drew' : Option (List ℕ)) → DrawsIf keys is_dir directory drew drew'
+      → IfSome directory (λ (d : NewDirectory). d.folder ≡ (sealing_of keys).folder_of d.identifier)
+  own_folder None drew drew' h = tt
+  own_folder (Some directory) drew drew' h = h.1.is.folder
+
+  pub own_path : (directory : Option NewDirectory) (drew drew' : Option (List ℕ)) → DrawsIf keys is_dir directory drew drew'
+      → IfSome directory (λ (d : NewDirectory). IsTrue (is_path (host_folder d.folder)))
+  own_path None drew drew' h = tt
+  own_path (Some directory) drew drew' h = h.1.is.path
+
+pub header_drawn : (keys : KeyPair) (drew drew' : Option (List ℕ)) (header : List ℕ) → DrawsHead keys drew drew' header → (place : Place) (text : List ℕ) (deeds : List PlainDeed) → deeds ≡ create_file_deeds place text header
+    → Changes drew drew' (DrawsHeader keys deeds)
+header_drawn keys drew drew' header draws place text deeds are =
+    changed_by drew drew' (λ (old new : List ℕ). new ≡ old ++ draws.head.nonce ++ draws.head.key) (DrawsHeader keys deeds)
+    (λ old new e. record { head = draws.head; drew = e; place = place; text = text; are = are ∙ ap (λ (h : List ℕ). create_file_deeds place text h) draws.is }) draws.drawn
+
+pub head_changes : (keys : KeyPair) (drew drew' : Option (List ℕ)) (header : List ℕ) → DrawsHead keys drew drew' header → Changes drew drew' GoesOn
+head_changes keys drew drew' header draws = changed_by drew drew' (λ (old new : List ℕ). new ≡ old ++ draws.head.nonce ++ draws.head.key) GoesOn (λ old new e. (draws.head.nonce ++ draws.head.key, e ∙ append_assoc old draws.head.nonce draws.head.key)) draws.drawn
+
+-- where nothing was drawn before
+pub header_partly : (drew mid drew' : Option (List ℕ)) → mid ≡ drew → Changes mid drew' GoesOn → Changes drew drew' GoesOn
+header_partly drew mid drew' same changes = subst (λ (d : Option (List ℕ)). Changes d drew' GoesOn) same changes
+
+-- ---- refusals
+
+pub cause_more : (request : PlainRequest) (F E : Type 0) (refusal : Refusal) → RefusalCause request ⊥ ⊥ refusal → RefusalCause request F E refusal
+cause_more request F E refusals.Removed h = tt
+cause_more request F E refusals.NotADirectory h = tt
+cause_more request F E refusals.IsADirectory h = tt
+cause_more request F E refusals.BadName h = tt
+cause_more request F E refusals.NameTooLong h = tt
+cause_more request F E refusals.FileDoesNotExist h = tt
+cause_more request F E refusals.FileExists h = tt
+cause_more request F E refusals.NotPermitted h = tt
+cause_more request F E refusals.DirectoryNotEmpty h = tt
+cause_more request F E refusals.CountTooSmall h = tt
+cause_more request F E refusals.FileTooLarge h = tt
+cause_more request F E refusals.GapTooLarge h = tt
+cause_more request F E refusals.OneChangeAtATime h = tt
+cause_more request F E refusals.VaultFull h = tt
+cause_more request F E refusals.Damaged h = tt
+cause_more request F E refusals.Foreign h = tt
+cause_more request F E (refusals.PlaceTaken path) h = h
+cause_more request F E (refusals.Stopped f) h = absurd h
+cause_more request F E (refusals.Exhausted ticket) h = absurd h
+cause_more request F E refusals.DeviceFault h = absurd h
+cause_more request F E refusals.RandomFault h = absurd h
+cause_more request F E refusals.OutOfMemory h = h
+
+module _ (s : Sealing) (live : HeldTree) (claims : List (List ℕ × ℕ)) (parent : ℕ) (name : List ℕ) (is_directory : Bool) (mode second : ℕ) (drawn : Option (List ℕ)) where
+  -- before anything is drawn
+  pub site_refused : (refusal : Refusal) → IsSiteRefusal live parent name refusal → RefusalCause (create parent name is_directory mode) ⊥ ⊥ refusal → (d : Disk)
+      → IsRefusal s (create parent name is_directory mode) second drawn refusal live claims d
+  site_refused refusals.Removed is own d contents stands = λ others more. is others is_directory mode second
+  site_refused refusals.NotADirectory is own d contents stands = λ others more. is others is_directory mode second
+  site_refused refusals.IsADirectory is own d contents stands = λ others more. is others is_directory mode second
+  site_refused refusals.BadName is own d contents stands = λ others more. is others is_directory mode second
+  site_refused refusals.NameTooLong is own d contents stands = λ others more. is others is_directory mode second
+  site_refused refusals.FileDoesNotExist is own d contents stands = λ others more. is others is_directory mode second
+  site_refused refusals.FileExists is own d contents stands = λ others more. is others is_directory mode second
+  site_refused refusals.NotPermitted is own d contents stands = λ others more. is others is_directory mode second
+  site_refused refusals.DirectoryNotEmpty is own d contents stands = λ others more. is others is_directory mode second
+  site_refused refusals.CountTooSmall is own d contents stands = λ others more. is others is_directory mode second
+  site_refused refusals.FileTooLarge is own d contents stands = λ others more. is others is_directory mode second
+  site_refused refusals.GapTooLarge is own d contents stands = λ others more. is others is_directory mode second
+  site_refused refusals.OneChangeAtATime is own d contents stands = λ others more. is others is_directory mode second
+  site_refused refusals.VaultFull is own d contents stands = λ others more. is others is_directory mode second
+  site_refused refusals.Damaged is own d contents stands = λ others more. is others is_directory mode second
+  site_refused refusals.Foreign is own d contents stands = λ others more. is others is_directory mode second
+  site_refused (refusals.PlaceTaken path) is own d contents stands = absurd is
+  site_refused (refusals.Stopped f) is own d contents stands = absurd own
+  site_refused (refusals.Exhausted ticket) is own d contents stands = absurd own
+  site_refused refusals.DeviceFault is own d contents stands = absurd own
+  site_refused refusals.RandomFault is own d contents stands = absurd own
+  site_refused refusals.OutOfMemory is own d contents stands = λ others more. is others is_directory mode second
+
+-- which refusals a check of places gives
+abbrev AreTaken : Site → Option NewDirectory → HeldTree → List (List ℕ × ℕ) → Option Disk → HostPath → Type 0
+AreTaken site drawn live claims disk path = Told disk (IsTaken site.folder site.place drawn live claims (Some path))
+
+place_cases : (site : Site) (drawn : Option NewDirectory) (live : HeldTree) (claims : List (List ℕ × ℕ)) (disk : Option Disk) (failed : Type 0) (refusal : Refusal) → IsPlaceRefusal site drawn live claims disk failed refusal
+    → ((refusal ≡ refusals.DeviceFault) × failed) ⊎ ((path : HostPath) × (refusal ≡ refusals.PlaceTaken path) × AreTaken site drawn live claims disk path)
+place_cases site drawn live claims disk failed refusals.DeviceFault h = inl (refl, h)
+place_cases site drawn live claims disk failed (refusals.PlaceTaken path) h = inr (path, refl, h)
+place_cases site drawn live claims disk failed refusals.Removed h = absurd h
+place_cases site drawn live claims disk failed refusals.NotADirectory h = absurd h
+place_cases site drawn live claims disk failed refusals.IsADirectory h = absurd h
+place_cases site drawn live claims disk failed refusals.BadName h = absurd h
+place_cases site drawn live claims disk failed refusals.NameTooLong h = absurd h
+place_cases site drawn live claims disk failed refusals.FileDoesNotExist h = absurd h
+place_cases site drawn live claims disk failed refusals.FileExists h = absurd h
+place_cases site drawn live claims disk failed refusals.NotPermitted h = absurd h
+place_cases site drawn live claims disk failed refusals.DirectoryNotEmpty h = absurd h
+place_cases site drawn live claims disk failed refusals.CountTooSmall h = absurd h
+place_cases site drawn live claims disk failed refusals.FileTooLarge h = absurd h
+place_cases site drawn live claims disk failed refusals.GapTooLarge h = absurd h
+place_cases site drawn live claims disk failed refusals.OneChangeAtATime h = absurd h
+place_cases site drawn live claims disk failed refusals.VaultFull h = absurd h
+place_cases site drawn live claims disk failed refusals.Damaged h = absurd h
+place_cases site drawn live claims disk failed refusals.Foreign h = absurd h
+place_cases site drawn live claims disk failed (refusals.Stopped f) h = absurd h
+place_cases site drawn live claims disk failed (refusals.Exhausted ticket) h = absurd h
+place_cases site drawn live claims disk failed refusals.RandomFault h = absurd h
+place_cases site drawn live claims disk failed refusals.OutOfMemory h = absurd h
+
+pub place_cause : (site : Site) (drawn : Option NewDirectory) (live : HeldTree) (claims : List (List ℕ × ℕ)) (disk : Option Disk) (failed E : Type 0) (parent : ℕ) (name : List ℕ) (is_directory : Bool) (mode : ℕ) (refusal : Refusal)
+    → IsPlaceRefusal site drawn live claims disk failed refusal → RefusalCause (create parent name is_directory mode) failed E refusal
+place_cause site drawn live claims disk failed E parent name is_directory mode refusal is = go (place_cases site drawn live claims disk failed refusal is)
+  where
+    go : ((refusal ≡ refusals.DeviceFault) × failed) ⊎ ((path : HostPath) × (refusal ≡ refusals.PlaceTaken path) × AreTaken site drawn live claims disk path)
+        → RefusalCause (create parent name is_directory mode) failed E refusal
+    go (inl h) = subst (RefusalCause (create parent name is_directory mode) failed E) (sym h.0) h.1
+    go (inr h) = subst (RefusalCause (create parent name is_directory mode) failed E) (sym h.1) tt
+
+module _ (keys : KeyPair) (parts : EntriesAreParts keys) (live : HeldTree) (claims : List (List ℕ × ℕ)) (parent : ℕ) (site : Site) (at : IsSite (sealing_of keys) live parent site) (is : IsTree live)
+    (name : List ℕ) (clear : clear_name name ≡ Ok site.name) (is_directory : Bool) (mode second : ℕ) where
+  abbrev k : Sealing
+  k = sealing_of keys
+
+  pub late_refused : (drawn : Option (List ℕ)) (d : Disk) → IsRefusal (sealing_of keys) (create parent name is_directory mode) second drawn refusals.DeviceFault live claims d
+  late_refused drawn d contents stands = λ others more. is_late keys live parent site at name clear is_directory mode second others
+
+  pub random_refused : (drawn : Option (List ℕ)) (d : Disk) → IsRefusal (sealing_of keys) (create parent name is_directory mode) second drawn refusals.RandomFault live claims d
+  random_refused drawn d contents stands = λ others more. is_late keys live parent site at name clear is_directory mode second others
+
+  pub memory_refused : (drawn : Option (List ℕ)) (d : Disk) → IsRefusal (sealing_of keys) (create parent name is_directory mode) second drawn refusals.OutOfMemory live claims d
+  memory_refused drawn d contents stands = λ others more. never_removed keys live parent site at name clear is_directory mode second is others
+
+  module _ (disk : Option Disk) (drawn : Option NewDirectory) (own : IfSome drawn (λ (directory : NewDirectory). directory.folder ≡ (sealing_of keys).folder_of directory.identifier)) where
+    pub place_refused : (failed : Type 0) (refusal : Refusal) → IsPlaceRefusal site drawn live claims disk failed refusal
+        → Told disk (IsRefusal (sealing_of keys) (create parent name is_directory mode) second (drawn_in drawn) refusal live claims)
+    place_refused failed refusal it = go (place_cases site drawn live claims disk failed refusal it)
+      where
+        go : ((refusal ≡ refusals.DeviceFault) × failed) ⊎ ((path : HostPath) × (refusal ≡ refusals.PlaceTaken path) × AreTaken site drawn live claims disk path)
+            → Told disk (IsRefusal k (create parent name is_directory mode) second (drawn_in drawn) refusal live claims)
+        go (inl h) = subst (λ (r : Refusal). Told disk (IsRefusal k (create parent name is_directory mode) second (drawn_in drawn) r live claims)) (sym h.0)
+            (told_always disk (IsRefusal k (create parent name is_directory mode) second (drawn_in drawn) refusals.DeviceFault live claims) (late_refused (drawn_in drawn)))
+        go (inr h) = subst (λ (r : Refusal). Told disk (IsRefusal k (create parent name is_directory mode) second (drawn_in drawn) r live claims)) (sym h.1)
+            (told_then disk (IsTaken site.folder site.place drawn live claims (Some h.0)) (IsRefusal k (create parent name is_directory mode) second (drawn_in drawn) (refusals.PlaceTaken h.0) live claims) h.2
+            (λ d taken contents stands. (
+              told_taken keys live parent site at name clear parts drawn own d claims (Some h.0) taken contents stands,
+              λ others more. is_accepted keys live parent site at name clear is_directory mode second is others,
+            )))
+
+    -- and where no place is taken
+    pub untaken : Told disk (IsTaken site.folder site.place drawn live claims None) → Told disk (IsUntaken (sealing_of keys) (create parent name is_directory mode) (drawn_in drawn) live claims)
+    untaken told =
+        told_then disk (IsTaken site.folder site.place drawn live claims None) (IsUntaken k (create parent name is_directory mode) (drawn_in drawn) live claims) told
+        (λ d taken contents stands. told_taken keys live parent site at name clear parts drawn own d claims None taken contents stands)
+
+-- ---- the commit
+
+module _ (keys : KeyPair) (request : PlainRequest) (second : ℕ) (live live' : HeldTree) (claims claims' : List (List ℕ × ℕ)) (drawn : Option (List ℕ)) where
+  abbrev o : Sealing
+  o = sealing_of keys
+
+  module _ (answer : Answer) (deeds : List PlainDeed) (makes : MakesOn (sealing_of keys) request second answer drawn live live' claims claims' deeds) where
+    pub told_makes : (old : Option Log) → Told old (IsAtRest (sealing_of keys) live claims) → Told (disk_in old) (IsUntaken (sealing_of keys) request drawn live claims)
+        → Told old (λ (l : Log). MakesStep (sealing_of keys) request second deeds (now l) live live' claims claims')
+    told_makes None rest free = tt
+    told_makes (Some x) rest free = (makes (now x) rest.contents rest.stands (free rest.contents rest.stands)).0
+
+    pub can_be_done : (old : Option Log) → Told old (IsAtRest (sealing_of keys) live claims) → Told (disk_in old) (IsUntaken (sealing_of keys) request drawn live claims)
+        → Told old (λ (l : Log). (after : Disk) × DoesAll (in_order deeds) (now l) after)
+    can_be_done old rest free =
+        told_then old (λ (l : Log). MakesStep o request second deeds (now l) live live' claims claims') (λ (l : Log). (after : Disk) × DoesAll (in_order deeds) (now l) after) (told_makes old rest free) (λ l m. (m.after, m.does))
+
+    pub has_created : (drew drew' : Option (List ℕ)) → (drawn ≡ None → Changes drew drew' (DrawsHeader keys deeds)) → (old new : Option Log) → Told old (IsAtRest (sealing_of keys) live claims)
+        → Told (disk_in old) (IsUntaken (sealing_of keys) request drawn live claims) → Changes old new (AnyMoment deeds) → Changes old new (HasCommitted deeds)
+        → Changes old new (HasCreated keys request second answer drawn live live' claims claims' drew drew')
+    has_created drew drew' header None None rest free any committed = tt
+    has_created drew drew' header None (Some y) rest free any committed = absurd any
+    has_created drew drew' header (Some x) None rest free any committed = absurd any
+    has_created drew drew' header (Some x) (Some y) rest free any committed =
+        let it = makes (now x) rest.contents rest.stands (free rest.contents rest.stands) in
+        record {
+          changed = record { deeds = deeds; makes = it.0; answer_is = it.1; any_moment = any; committed = committed };
+          untaken = free rest.contents rest.stands;
+          header = header;
+        }
+
+    pub may_have_created : is_refusal answer.reply ≡ false → (old new : Option Log) → Told old (IsAtRest (sealing_of keys) live claims) → Told (disk_in old) (IsUntaken (sealing_of keys) request drawn live claims) → Changes old new (AnyMoment deeds)
+        → Changes old new (MayHaveChanged (sealing_of keys) request second live live' claims claims')
+    may_have_created accepted None None rest free any = tt
+    may_have_created accepted None (Some y) rest free any = absurd any
+    may_have_created accepted (Some x) None rest free any = absurd any
+    may_have_created accepted (Some x) (Some y) rest free any =
+        let it = makes (now x) rest.contents rest.stands (free rest.contents rest.stands) in
+        record {
+          deeds = deeds;
+          makes = it.0;
+          late = λ others more. late_by (live_rows others live) request second answer (it.1 others more) accepted;
+          any_moment = any;
+        }
+
+  pub told_refused : (refusal : Refusal) (old : Option Log) → Told old (IsAtRest (sealing_of keys) live claims) → Told (disk_in old) (IsRefusal (sealing_of keys) request second drawn refusal live claims)
+      → Told (disk_in old) (λ (d : Disk). MayRefuse (sealing_of keys) request second (taken_for (sealing_of keys) d live request drawn) refusal d live claims)
+  told_refused refusal None rest is = tt
+  told_refused refusal (Some x) rest is = is rest.contents rest.stands

@@ -1,0 +1,40 @@
+use Rattle.std.proofs.lemmas.Result.{err_from_is_err_and}
+use Rattle.outside.specs.Images.{disk_in}
+use Rattle.outside.proofs.Told.{told_then, told_always}
+use Rattle.deeds.specs.Plain.{plains}
+use Rattle.directory_scan.specs.Format.{sealing_of}
+use Rattle.node_changes.proofs.Named.{name_refused, memory_refused, place_refused, deeds_refused, can_be_given}
+use Rattle.node_changes.proofs.tree.VaultTree.give_name.Goals as goal
+
+pub returns-in_err-new-clause-refused : goal.returns-in_err-new-clause-refused
+returns-in_err-new-clause-refused g c =
+    let p = err_from_is_err_and c.from_residual.result c.from_residual.ensures.1 in
+    rw (p.1, p.2) (told_always (disk_in (g.R.Reads.log c.args.folder.now)) _
+    (λ d. name_refused (sealing_of c.args.self.now.keys) c.args.self.now.live c.args.self.now.claims c.args.number c.args.name c.args.modified c.args.now d c.in_err-new.field-0.0 c.in_err-new.ensures.refusal))
+
+pub returns-in_err-check_place-clause-refused : goal.returns-in_err-check_place-clause-refused
+returns-in_err-check_place-clause-refused g c =
+    let p = err_from_is_err_and c.from_residual-in_err-check_place.result c.from_residual-in_err-check_place.ensures.1 in
+    rw (p.1, p.2, ← c.in_ok-new.ensures.name)
+    (place_refused c.args.self.now.keys c.entries_are_parts.ensures c.args.self.now.live c.args.self.now.claims c.args.number c.in_ok-new.new c.in_ok-new.ensures.new c.args.modified c.args.now
+    (disk_in (g.R.Reads.log c.args.folder.now)) _ c.in_err-check_place.field-0.0 c.in_err-check_place.ensures.refusal)
+
+pub returns-in_err-deeds-clause-refused : goal.returns-in_err-deeds-clause-refused
+returns-in_err-deeds-clause-refused g c =
+    let p = err_from_is_err_and c.from_residual-in_err-deeds.result c.from_residual-in_err-deeds.ensures.1 in
+    rw (p.1, p.2, ← c.in_ok-new.ensures.name)
+    (deeds_refused c.args.self.now.keys c.entries_are_parts.ensures c.args.self.now.live c.args.self.now.claims c.args.number c.in_ok-new.new c.in_ok-new.ensures.new c.args.modified c.args.now
+    c.are_texts.ensures (disk_in (g.R.Reads.log c.args.folder.now)) c.in_ok-check_place.ensures.untaken c.in_err-deeds.field-0.0 c.in_err-deeds.ensures.refusal)
+
+pub returns-in-Ok-clause-made : goal.returns-in-Ok-clause-made
+returns-in-Ok-clause-made g c =
+    rw (← c.in_ok-new.ensures.name, c.put_name.ensures.claims)
+    (told_then (disk_in (g.R.Reads.log c.args.folder.now)) _ _ c.in_ok-check_place.ensures.untaken (λ d untaken contents stands.
+    can_be_given c.args.self.now.keys c.entries_are_parts.ensures c.args.self.now.live c.args.self.now.claims c.args.number c.in_ok-new.new c.in_ok-new.ensures.new c.args.modified c.args.now
+    c.are_texts.ensures c.kept_claims.ensures c.claims_are_whole.ensures c.put_name.new.self.live (plains c.in_ok-deeds.deeds.items) c.in_ok-deeds.ensures.deeds c.in-Ok.ensures.live c.in-Ok.ensures.rows
+    d untaken contents stands))
+
+pub returns-in-Err-clause-refused : goal.returns-in-Err-clause-refused
+returns-in-Err-clause-refused g c =
+    told_always (disk_in (g.R.Reads.log c.args.folder.now)) _
+    (λ d. memory_refused (sealing_of c.args.self.now.keys) c.args.self.now.live c.args.self.now.claims c.args.number c.args.name c.args.modified c.args.now d)

@@ -1,0 +1,20 @@
+use Rattle.std.proofs.Common.{List, ℕ, ap, ap₂, ◌∙◌}
+use Rattle.clear_tree.specs.Kept.{KeptDir}
+use Rattle.deeds.specs.Plain.{plains}
+use Rattle.live_tree.specs.Changes.{added, new_node}
+use Rattle.tree_changes.specs.Deeds.{create_dir_deeds}
+use Rattle.node_changes.proofs.Makings.{directory_makes, place_by}
+use Rattle.node_changes.proofs.tree.VaultTree.make_directory.Goals as goal
+
+pub returns-clause-makes : goal.returns-clause-makes
+returns-clause-makes c = λ name mode clear.
+    let old = c.args.self.now in
+    let new = c.add.new.self in
+    let site = c.args.site in
+    let directory = c.args.directory.now in
+    directory_makes old.keys c.are_texts.ensures c.kept_claims.ensures old.live new.live old.claims c.in_ok-claims.claims c.args.parent c.args.now site c.requires.site c.len-count.ensures.tree name clear mode
+    (plains c.in_ok-deeds.deeds.items) directory c.requires.directory.0 c.requires.directory.1
+    (c.in_ok-deeds.ensures.deeds ∙ ap₂ (λ (e t : List ℕ). create_dir_deeds (place_by site.folder e site.place.long) t directory.folder directory.identifier) c.as_bytes.ensures c.as_bytes-2.ensures)
+    (c.in_ok-add.ensures.live ∙ ap (λ (i : List ℕ). added old.live (new_node c.args.parent site.name (KeptDir i directory.folder) site.place.entry site.place.long c.args.now) c.args.now)
+    (c.from_vec.ensures ∙ c.in_ok-identifier.ensures.items))
+    c.in_ok-add.ensures.rows c.in_ok-claims.ensures

@@ -1,0 +1,23 @@
+use Rattle.std.proofs.Common.{List, ℕ, ap, ap₂, ◌∙◌}
+use Rattle.tree_changes.specs.Deeds.{create_file_deeds}
+use Rattle.deeds.specs.Plain.{plains}
+use Rattle.node_changes.proofs.Makings.{file_makes, place_by}
+use Rattle.node_changes.proofs.tree.VaultTree.make_file.Goals as goal
+
+pub returns-clause-makes : goal.returns-clause-makes
+returns-clause-makes c = λ name mode clear.
+    let old = c.args.self.now in
+    let new = c.add.new.self in
+    let site = c.args.site in
+    file_makes old.keys c.are_texts.ensures c.kept_claims.ensures old.live new.live old.claims new.claims c.args.parent c.args.now site c.requires.site c.len-count.ensures.tree name clear mode
+    (plains c.in_ok-deeds.deeds.items) c.args.header.now c.told-header c.requires.header
+    (c.in_ok-deeds.ensures.deeds ∙ ap₂ (λ (e t : List ℕ). create_file_deeds (place_by site.folder e site.place.long) t c.in_ok-bytes.bytes.items) c.as_bytes.ensures c.as_bytes-2.ensures
+    ∙ ap (λ (h : List ℕ). create_file_deeds (place_by site.folder site.place.entry site.place.long) site.place.text h) c.in_ok-bytes.ensures.items)
+    c.in_ok-add.ensures.live c.in_ok-add.ensures.rows c.add.ensures.claims
+
+pub returns-clause-deeds : goal.returns-clause-deeds
+returns-clause-deeds c = (
+  place_by c.args.site.folder c.as_bytes.result.now c.args.site.place.long,
+  c.as_bytes-2.result.now,
+  c.in_ok-deeds.ensures.deeds ∙ ap (λ (h : List ℕ). create_file_deeds (place_by c.args.site.folder c.as_bytes.result.now c.args.site.place.long) c.as_bytes-2.result.now h) c.in_ok-bytes.ensures.items,
+)
