@@ -1,0 +1,35 @@
+-- What refuses a write and a truncation early, by what is held of the node.
+use Rattle.std.proofs.Common.{◌≡◌, ℕ, true, length, Option, Some, None, sym, ap, ◌∙◌}
+use Rattle.tree_model.specs.declared.refusal.Refusal.{Refusal}
+use Rattle.tree_model.specs.declared.refusal.Refusal.TheVariants as refusals
+use Rattle.tree_model.specs.Asked.{open_node, write}
+use Rattle.tree_model.specs.Step.{truncates}
+use Rattle.live_tree.specs.Held.{HeldNode, HeldTree, live_row, live_rows, node_of}
+use Rattle.change_plans.specs.Plans.{IsOpenRefusal, IsWriteRefusal}
+use Rattle.change_plans.specs.Deciding.{length_fault, write_fault}
+use Rattle.change_plans.proofs.Deciding.{truncation_is, write_is}
+use Rattle.change_plans.proofs.Rows.{early_by, row_absent, row_there, tells_by}
+
+-- ---- of a number without a node
+
+pub write_removed : (live : HeldTree) (number at len : ℕ) → node_of live number ≡ None → IsWriteRefusal live number at len (Some refusals.Removed)
+write_removed live number at len none contents have bytes long =
+    early_by (live_rows contents live) (write number at bytes) None (row_absent contents live number none)
+
+pub open_removed : (live : HeldTree) (number mode : ℕ) → node_of live number ≡ None → IsOpenRefusal live number mode (Some refusals.Removed)
+open_removed live number mode none contents have =
+    early_by (live_rows contents live) (open_node number mode) None (row_absent contents live number none)
+
+-- ---- of a node
+
+module _ (live : HeldTree) (number : ℕ) (node : HeldNode) (there : node_of live number ≡ Some node) where
+  pub write_refused : (at len : ℕ) (refusal : Option Refusal) → refusal ≡ write_fault node.kept.what at len → IsWriteRefusal live number at len refusal
+  write_refused at len refusal is contents have bytes long =
+      early_by (live_rows contents live) (write number at bytes) (Some (live_row contents (number, node))) (row_there contents live number node there)
+      ∙ write_is node.kept.what (contents number) at (length bytes) (tells_by contents live number node have there)
+      ∙ ap (write_fault node.kept.what at) long ∙ sym is
+
+  pub truncation_refused : (mode : ℕ) (refusal : Option Refusal) → truncates mode ≡ true → refusal ≡ length_fault node.kept.what 0 → IsOpenRefusal live number mode refusal
+  truncation_refused mode refusal truncating is contents have =
+      early_by (live_rows contents live) (open_node number mode) (Some (live_row contents (number, node))) (row_there contents live number node there)
+      ∙ truncation_is node.kept.what (contents number) mode truncating (tells_by contents live number node have there) ∙ sym is

@@ -1,0 +1,26 @@
+//! What a change of a node's attributes (wstat, stat(5)) comes to in the tree of an open vault, or why it is refused, as far as
+//! the node itself tells. Nothing is changed: others make the plan true. Of a write and a truncation likewise what refuses them
+//! before the file's content is looked at.
+//!
+//! ```
+//! match change_plans::plan_change(alloc, &tree, number, &change)? {
+//!     Ok(Plan::Rename(name)) => rename(number, name, change.modified, now),
+//!     Ok(Plan::Resize(length)) => resize(number, length, change.modified, now),
+//!     Ok(Plan::Date) => date(number, change.modified),
+//!     Err(refusal) => Reply::Refused(refusal),
+//! }
+//!
+//! if let Some(refusal) = change_plans::write_refusal(&tree, number, at, bytes.len()) {
+//!     return Reply::Refused(refusal);
+//! }
+//! ```
+#![tactic(auto)]
+
+mod contents;
+mod fixed;
+mod lengths;
+mod names;
+mod planning;
+
+pub use contents::{truncation_refusal, write_refusal};
+pub use planning::{Plan, plan_change};

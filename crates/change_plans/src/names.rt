@@ -1,0 +1,64 @@
+ghost use Rattle.std.specs.Prelude.{◌≡◌, ◌==◌, ◌||◌, IfOk};
+ghost use Rattle.std.specs.List.{list_any};
+ghost use Rattle.tree_model.specs.Names.{clear_name};
+ghost use Rattle.tree_model.specs.Step.{raw_name_refusal};
+ghost use Rattle.tree_answers.specs.Walk.{bad_name_refusal};
+ghost use Rattle.change_plans.specs.Deciding.{has_name, name_or_refusal};
+
+use live_tree::LiveNode;
+use name_cipher::{BadName, Name, clear_name};
+use nfc_text::nfc;
+use std::alloc::{AllocError, Global};
+use tree_model::Refusal;
+
+/// Whether the form NFC of a name is the node's own name.
+pub(crate) fn has_name(alloc: Global, node: &LiveNode, name: &str) -> Result<bool, AllocError>
+    ensures { IfOk result (λ has. has ≡ has_name node.now name.now) }
+{
+    let form = nfc(alloc, name)?;
+    Ok(form.as_bytes() == node.name().as_bytes())
+}
+
+/// What keeps a text from being a name before its form NFC is needed.
+pub(crate) fn raw_name_refusal(name: &str) -> Option<Refusal>
+    ensures { result ≡ raw_name_refusal name.now }
+{
+    if name.is_empty() || name == "." || name == ".." || holds_forbidden(name) {
+        Some(Refusal::BadName)
+    } else {
+        None
+    }
+}
+
+// Whether a name holds `/` or NUL.
+fn holds_forbidden(name: &str) -> bool
+    ensures { result ≡ list_any (λ b. (b == 47) || (b == 0)) name.now }
+{
+    name.bytes().any(|byte| byte == b'/' || byte == 0)
+}
+
+/// The clear name that a text stands for, or what refuses the text.
+pub(crate) fn checked_name(alloc: Global, name: &str) -> Result<Result<Name, Refusal>, AllocError>
+    ensures { IfOk result (λ checked. checked ≡ name_or_refusal (clear_name name.now)) }
+{
+    match clear_name(alloc, name.as_bytes()) {
+        Ok(name) => Ok(Ok(name)),
+        Err(fault) => match name_refusal(fault) {
+            Some(refusal) => Ok(Err(refusal)),
+            None => Err(AllocError),
+        },
+    }
+}
+
+// What refuses a text that is no name, unless memory ran out.
+fn name_refusal(fault: BadName) -> Option<Refusal>
+    ensures { result ≡ bad_name_refusal fault }
+{
+    match fault {
+        BadName::NotUtf8 | BadName::Empty | BadName::Dots | BadName::Forbidden => {
+            Some(Refusal::BadName)
+        }
+        BadName::TooLong(_) => Some(Refusal::NameTooLong),
+        BadName::Memory => None,
+    }
+}
