@@ -1,0 +1,14 @@
+ghost use Rattle.content_deeds.specs.Deeds.{DeedsRewrite};
+ghost use Rattle.content_deeds.specs.Sealed.{CutAgain};
+
+/// The one deed does the change. On a disk where the file has bytes that can be so rewritten it can be done, and again after a
+/// stop, and leaves the file with the rewritten bytes and all else as it was.
+pub fn deeds_rewrite()
+    ensures { DeedsRewrite }
+{}
+
+/// The chunks of a change that can be made, one behind the other and none of them empty, are cut at their borders: so they
+/// are sealed chunks that make the same change.
+pub fn chunks_are_cut()
+    ensures { CutAgain }
+{}

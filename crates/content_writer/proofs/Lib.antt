@@ -1,0 +1,7 @@
+pub mod Growth
+pub mod Patching
+pub mod Pieces
+pub mod Puttable
+pub mod ReadChunks
+pub mod SealedRuns
+pub mod WrittenChunks
