@@ -1,0 +1,6 @@
+pub mod Rows
+pub mod Places
+pub mod Standing
+pub mod Telling
+pub mod Putting
+pub mod Writes

@@ -1,0 +1,5 @@
+pub mod Files
+pub mod Steps
+pub mod Held
+pub mod Rewritten
+pub mod Causes

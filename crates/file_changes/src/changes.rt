@@ -1,0 +1,156 @@
+ghost use Rattle.std.specs.Prelude.{◌≡◌, ◌≤◌, ◌<◌, ◌++◌, ℕ, List, length, None, IfErr, OnOk};
+ghost use Rattle.outside.specs.Calls.{Changes, Rose, Told};
+ghost use Rattle.outside.specs.Images.{disk_in};
+ghost use Rattle.tree_model.specs.Asked.{PlainRequest, write, count};
+ghost use Rattle.tree_model.specs.Step.{Answer, says};
+ghost use Rattle.directory_scan.specs.Format.{sealing_of};
+ghost use Rattle.content_writer.specs.Sealing.{GoesOn};
+ghost use Rattle.node_changes.specs.Changed.{IsAtRest, HasChanged, MayHaveChanged, MayRefuse};
+ghost use Rattle.node_changes.specs.Causes.{ErrCause, IfBroken, IfRefused, IsUnchanged};
+ghost use Rattle.file_changes.specs.Causes.{ContentCause, write_refusal};
+ghost use Rattle.change_plans.specs.Files.{IsResizable, IsWritable};
+ghost use Rattle.file_changes.specs.Rewritten.{HasRewritten};
+ghost use Rattle.file_changes.specs.Steps.{IsResizing};
+
+use crate::file::sealed_file;
+use crate::room::FileChanges;
+use chunk_journal::Journal;
+use content_deeds::deeds_rewrite;
+use content_writer::WriteErr;
+use node_changes::{ChangeErr, VaultTree};
+use outside::{Entropy, Folder};
+use tree_model::Refusal;
+
+impl FileChanges {
+    /// Writes 1 to 65,537 bytes into the file of a number from byte `at` on, at a second since 1970-01-01. A gap of at most
+    /// 1,048,576 bytes between the file's end and `at` is filled with zeros, and the file has at most 2^40 bytes afterwards. It
+    /// takes no memory.
+    ///
+    /// It is refused as `Damaged` where the file's header or a chunk that keeps a byte doesn't open, as `DeviceFault` where the
+    /// folder failed in a read, as `RandomFault` where the random source failed. After `Broken` the folder's count of faults rose,
+    /// and the tree in memory is the one with the write.
+    pub fn write<D: Folder, E: Entropy>(
+        &mut self,
+        tree: &mut VaultTree,
+        journal: &mut Journal<D>,
+        entropy: &mut E,
+        number: u64,
+        at: u64,
+        bytes: &[u8],
+        now: u32,
+    ) -> Result<(), ChangeErr>
+        requires rest { Told (D.log journal.old) (IsAtRest (sealing_of tree.old.keys) tree.old.live tree.old.claims) }
+        requires some { 0 < length bytes.now }
+        requires few { length bytes.now ≤ 65537 }
+        requires file { IsWritable tree.old.live number at (length bytes.now) }
+        ensures changed { OnOk result (Changes (D.log journal.old) (D.log journal.new) (HasChanged (sealing_of tree.old.keys)
+            (write number at bytes.now) now (says (count (length bytes.now))) tree.old.live tree.new.live tree.old.claims tree.new.claims)) }
+        ensures broken { IfErr result (λ error. IfBroken error (Changes (D.log journal.old) (D.log journal.new) (MayHaveChanged (sealing_of tree.old.keys)
+            (write number at bytes.now) now tree.old.live tree.new.live tree.old.claims tree.new.claims))) }
+        ensures refused { IfErr result (λ error. IfRefused error (λ refusal. Told (disk_in (D.log journal.old))
+            (λ d. MayRefuse (sealing_of tree.old.keys) (write number at bytes.now) now None refusal d tree.old.live tree.old.claims))) }
+        ensures unchanged { IfErr result (λ error. IfRefused error (λ refusal.
+            IsUnchanged tree.old.live tree.new.live tree.old.claims tree.new.claims (D.log journal.old) (D.log journal.new))) }
+        ensures cause { IfErr result (ErrCause (write number at bytes.now) (Rose (D.faults journal.old) (D.faults journal.new))
+            (Rose (E.faults entropy.old) (E.faults entropy.new))) }
+        ensures own { IfErr result (λ error. IfRefused error (ContentCause (Rose (D.faults journal.old) (D.faults journal.new))
+            (Rose (E.faults entropy.old) (E.faults entropy.new)))) }
+        ensures drawn { Changes (E.drawn entropy.old) (E.drawn entropy.new) GoesOn }
+        ensures nonces { OnOk result (Changes (D.log journal.old) (D.log journal.new) (HasRewritten (sealing_of tree.old.keys)
+            (write number at bytes.now) now (says (count (length bytes.now))) tree.old.live tree.new.live tree.old.claims tree.new.claims
+            (E.drawn entropy.old) (E.drawn entropy.new))) }
+        ensures later { D.faults journal.old ≤ D.faults journal.new }
+        ensures entropy { E.faults entropy.old ≤ E.faults entropy.new }
+        ensures keys { tree.new.keys ≡ tree.old.keys }
+        ensures threshold { tree.new.threshold ≡ tree.old.threshold }
+    {
+        // for their clauses: what the deeds do, and the length of a key, by which a content's length is known
+        deeds_rewrite();
+        tree.keys().have_32_bytes();
+        let file = sealed_file(tree, number);
+        match self
+            .writer
+            .seal_write(journal, tree.keys(), &file, at, bytes, entropy)
+        {
+            Ok(()) => match self.commit(tree, journal, &file, number, None, now) {
+                Ok(()) => Ok(()),
+                Err(_) => Err(ChangeErr::Broken),
+            },
+            Err(cause) => Err(ChangeErr::Refused(refusal_of(cause))),
+        }
+    }
+
+    /// Gives the file of a number another length in bytes, at a second since 1970-01-01, by a cut or by zeros behind its end, of
+    /// which there are at most 1,048,576; it has at most 2^40 bytes afterwards. `modified` is an mtime that is set besides. It
+    /// takes no memory.
+    ///
+    /// It is refused as `Damaged` where the file's header or a chunk of which a part is kept doesn't open, as `DeviceFault` where
+    /// the folder failed in a read, as `RandomFault` where the random source failed. After `Broken` the folder's count of faults
+    /// rose, and the tree in memory is the one with the other length.
+    pub fn resize<D: Folder, E: Entropy>(
+        &mut self,
+        tree: &mut VaultTree,
+        journal: &mut Journal<D>,
+        entropy: &mut E,
+        number: u64,
+        len: u64,
+        modified: Option<u32>,
+        now: u32,
+    ) -> Result<(), ChangeErr>
+        requires rest { Told (D.log journal.old) (IsAtRest (sealing_of tree.old.keys) tree.old.live tree.old.claims) }
+        requires file { IsResizable tree.old.live number len }
+        // of each request that resizes the file so
+        ensures changed { (request : PlainRequest) (answer : Answer)
+            → IsResizing (sealing_of tree.old.keys) tree.old.live tree.old.claims number len modified now request answer
+            → OnOk result (Changes (D.log journal.old) (D.log journal.new) (HasChanged (sealing_of tree.old.keys)
+            request now answer tree.old.live tree.new.live tree.old.claims tree.new.claims)) }
+        ensures broken { (request : PlainRequest) (answer : Answer)
+            → IsResizing (sealing_of tree.old.keys) tree.old.live tree.old.claims number len modified now request answer
+            → IfErr result (λ error. IfBroken error (Changes (D.log journal.old) (D.log journal.new) (MayHaveChanged (sealing_of tree.old.keys)
+            request now tree.old.live tree.new.live tree.old.claims tree.new.claims))) }
+        ensures refused { (request : PlainRequest) (answer : Answer)
+            → IsResizing (sealing_of tree.old.keys) tree.old.live tree.old.claims number len modified now request answer
+            → IfErr result (λ error. IfRefused error (λ refusal. Told (disk_in (D.log journal.old))
+            (λ d. MayRefuse (sealing_of tree.old.keys) request now None refusal d tree.old.live tree.old.claims))) }
+        ensures unchanged { IfErr result (λ error. IfRefused error (λ refusal.
+            IsUnchanged tree.old.live tree.new.live tree.old.claims tree.new.claims (D.log journal.old) (D.log journal.new))) }
+        ensures cause { (request : PlainRequest) → IfErr result (ErrCause request (Rose (D.faults journal.old) (D.faults journal.new))
+            (Rose (E.faults entropy.old) (E.faults entropy.new))) }
+        ensures own { IfErr result (λ error. IfRefused error (ContentCause (Rose (D.faults journal.old) (D.faults journal.new))
+            (Rose (E.faults entropy.old) (E.faults entropy.new)))) }
+        ensures drawn { Changes (E.drawn entropy.old) (E.drawn entropy.new) GoesOn }
+        ensures nonces { (request : PlainRequest) (answer : Answer)
+            → IsResizing (sealing_of tree.old.keys) tree.old.live tree.old.claims number len modified now request answer
+            → OnOk result (Changes (D.log journal.old) (D.log journal.new) (HasRewritten (sealing_of tree.old.keys)
+            request now answer tree.old.live tree.new.live tree.old.claims tree.new.claims (E.drawn entropy.old) (E.drawn entropy.new))) }
+        ensures later { D.faults journal.old ≤ D.faults journal.new }
+        ensures entropy { E.faults entropy.old ≤ E.faults entropy.new }
+        ensures keys { tree.new.keys ≡ tree.old.keys }
+        ensures threshold { tree.new.threshold ≡ tree.old.threshold }
+    {
+        // for its clause: what the deeds do
+        deeds_rewrite();
+        let file = sealed_file(tree, number);
+        match self
+            .writer
+            .seal_length(journal, tree.keys(), &file, len, entropy)
+        {
+            Ok(()) => match self.commit(tree, journal, &file, number, modified, now) {
+                Ok(()) => Ok(()),
+                Err(_) => Err(ChangeErr::Broken),
+            },
+            Err(cause) => Err(ChangeErr::Refused(refusal_of(cause))),
+        }
+    }
+}
+
+// The refusal of a change whose chunks aren't sealed.
+fn refusal_of(cause: WriteErr) -> Refusal
+    ensures { result ≡ write_refusal cause }
+{
+    match cause {
+        WriteErr::Damaged => Refusal::Damaged,
+        WriteErr::Device => Refusal::DeviceFault,
+        WriteErr::Random => Refusal::RandomFault,
+    }
+}
