@@ -1,0 +1,208 @@
+-- How the history of a store begins: the rows of what its folder recovers to.
+use Rattle.std.proofs.Common.{◌≡◌, ◌↔◌, ℕ, suc, ◌≤◌, [], ◌∷◌, length, Option, Some, None, IsTrue, IsNone, refl, sym, ap, subst, ◌∙◌, inl, inr, arith, true≢false}
+use Rattle.outside.specs.Calls.{Changes, Told}
+use Rattle.outside.specs.Disk.{Disk, Node as Thing, IsTree}
+use Rattle.outside.specs.Images.{Log, Synced, adds, now, moment}
+use Rattle.outside.specs.Views.{FolderView}
+use Rattle.outside.proofs.Moments.{moment_later}
+use Rattle.siv_mode.specs.Keys.{KeyPair}
+use Rattle.deeds.specs.Deeds.{in_order}
+use Rattle.deeds.proofs.Amid.{tree_run}
+use Rattle.chunk_journal.specs.Journal.{IsAlike, IsQuiet, RecoversTo, RecoversLike}
+use Rattle.chunk_journal.specs.Opening.{HasOpened, IsOpening, StaysOpening}
+use Rattle.chunk_journal.specs.Commits.{IsReopenable}
+use Rattle.chunk_journal.proofs.Found.{opening_keeps, stays_found, opened_alike}
+use Rattle.tree_model.specs.Rows.{Content, bad_size, Rows}
+use Rattle.tree_history.specs.History.{Origin}
+use Rattle.clear_tree.specs.Walk.{Sealing, Node}
+use Rattle.clear_tree.specs.Places.{entry_at}
+use Rattle.clear_tree.specs.Kept.{KeptTree, IsKept, TellsRows, is_absent, long_in, long_by, tree_rows}
+use Rattle.clear_tree.specs.Rows.{IsClear}
+use Rattle.clear_tree.proofs.Keeping.{keeping_tells_rows}
+use Rattle.directory_scan.specs.Format.{sealing_of}
+use Rattle.tree_changes.specs.Trees.{Tree, IsTreeOf}
+use Rattle.tree_changes.proofs.Beside.{stays_beside}
+use Rattle.row_versions.specs.Versions.{wrapped}
+use Rattle.live_tree.specs.Held.{HeldTree, live_rows}
+use Rattle.live_tree.proofs.Rows.{rows_loaded}
+use Rattle.held_changes.specs.Holds.{Holds, AreHeldContents}
+use Rattle.held_changes.specs.Loading.{IsLoaded, loaded_tree}
+use Rattle.held_changes.proofs.Loading.{loading_holds}
+use Rattle.name_places.specs.Claims.{AreClaimsOf}
+use Rattle.node_changes.specs.Changed.{StandsOn}
+use Rattle.stop_history.specs.Crash.{DiskShows}
+use Rattle.stop_history.specs.Stands.{IsRunning}
+use Rattle.stop_history.specs.Opening.{StaysFound, IsSoundlyFound}
+use Rattle.stop_history.proofs.Openings.{begins_now}
+use Rattle.store_history.specs.Store.{StoreView, moment_of, shows_under, HasRows, IsStoredIn, IsStoreOf, LogGoesOn}
+use Rattle.store_history.specs.Ends.{IsFoundClear, IsOpened, HasBeenOpened, OpeningsStand}
+use Rattle.store_history.proofs.Shows.{shows_blind, stands_shows}
+use Rattle.store_history.proofs.Placed.{goes_through, leaves_go_on}
+use Rattle.store_history.proofs.Turns.{none_is}
+
+-- ---- what a disk stands for is what one stands for that differs in the journal's two files
+
+absent : (o : Option Thing) → IsTrue (is_absent o) ↔ (o ≡ None)
+absent None = ((λ h. refl), (λ h. refl))
+absent (Some x) = ((λ h. absurd (true≢false (sym h))), (λ h. absurd cc))
+
+abbrev tree_of : (s : Sealing) (d : Disk) (unlocked : ℕ) (rows : Rows) → IsClear s d unlocked rows → Tree
+tree_of s d unlocked rows clear = record { nodes = clear.nodes; marks = clear.marks; long = long_by s d clear.nodes }
+
+is_tree_of : (s : Sealing) (d : Disk) (unlocked : ℕ) (rows : Rows) (clear : IsClear s d unlocked rows) → IsTree d → IsTreeOf s d (tree_of s d unlocked rows clear)
+is_tree_of s d unlocked rows clear host = record {
+  owner = clear.owner;
+  host = host;
+  there = clear.there;
+  first = clear.first;
+  exact = clear.exact;
+  marked = clear.marked;
+  placed = λ n p i x at there. subst (λ (o : Option Node). IsTrue (long_in s d o n) ↔ (entry_at s d (s.folder_of i) (s.seal i n) ≡ None)) (sym at) (absent _);
+}
+
+clear_beside : (s : Sealing) (d d' : Disk) (unlocked : ℕ) (rows : Rows) → IsClear s d unlocked rows → IsTree d → IsTree d' → IsAlike d d' → IsClear s d' unlocked rows
+clear_beside s d d' unlocked rows clear host host' same =
+    let is = stays_beside s d d' (tree_of s d unlocked rows clear) (is_tree_of s d unlocked rows clear host) host' same in
+    record {
+      owner = is.owner;
+      nodes = clear.nodes;
+      marks = clear.marks;
+      there = is.there;
+      first = is.first;
+      exact = is.exact;
+      marked = is.marked;
+      rows_are = clear.rows_are;
+    }
+
+-- what a tree recovers to is one
+recovered_tree : (disk found : Disk) → IsTree disk → RecoversTo disk found → IsTree found
+recovered_tree disk found tree (inl shut) = subst IsTree (sym shut.1) tree
+recovered_tree disk found tree (inr (deeds, held, run)) = tree_run (in_order deeds) disk found tree run
+
+-- ---- what was loaded
+
+reopenable : (disk : Disk) → IsSoundlyFound disk → IsReopenable disk
+reopenable disk sound = record { repeatable = sound.repeatable; no_folder = λ is. sound.clear.no_folder (inr is) }
+
+pub stays_soundly : (old new : Log) → StaysOpening old new → IsSoundlyFound (now old) → StaysFound old new
+stays_soundly old new stays sound = stays_found old new stays (reopenable (now old) sound)
+
+module _ (unlocked : ℕ) (kept : KeptTree) (store : StoreView) (live_is : store.live ≡ loaded_tree unlocked kept) (claimed : AreClaimsOf (sealing_of store.keys) store.live store.claims) where
+  abbrev s : Sealing
+  s = sealing_of store.keys
+
+  abbrev Shows : DiskShows
+  Shows = shows_under store.keys
+
+  abbrev rows_of : (ℕ → Content) → Rows
+  rows_of contents = tree_rows contents unlocked kept
+
+  current : (contents : ℕ → Content) → wrapped (rows_of contents) ≡ wrapped (live_rows contents store.live)
+  current contents = ap wrapped (sym (rows_loaded contents unlocked kept.nodes (length kept.nodes) kept.twice)) ∙ ap (λ (t : HeldTree). wrapped (live_rows contents t)) (sym live_is)
+
+  stands_loaded : (d : Disk) → IsKept s d kept → (tells : TellsRows s d kept) → IsTree d → StandsOn s d store.live store.claims tells.contents
+  stands_loaded d is tells host =
+      let loaded : IsLoaded s d kept unlocked = loading_holds s d kept unlocked is host in
+      record {
+        tree = loaded.tree;
+        is = loaded.is;
+        holds = subst (λ (t : HeldTree). Holds s loaded.tree t) (sym live_is) loaded.holds;
+        claimed = claimed;
+        are = subst (λ (t : HeldTree). AreHeldContents s loaded.tree t tells.contents) (sym live_is) ((loaded.contents tells.contents).0 tells.are);
+      }
+
+  has_rows : (d : Disk) → IsKept s d kept → (tells : TellsRows s d kept) → IsTree d → HasRows store d (rows_of tells.contents) []
+  has_rows d is tells host = record { contents = tells.contents; stands = stands_loaded d is tells host; current = current tells.contents }
+
+  -- ---- the log begins a history
+
+  -- nothing is said of the moments before this one
+  runs_now : (log : Log) (rows : Rows) → IsQuiet log → Shows (now log) rows → IsRunning Shows (moment log) rows [] [] log
+  runs_now log rows at_rest shows = record {
+    since = omega arith;
+    past = λ m since before image here. absurd (omega (arith, since, before));
+    ended = λ i x at. absurd cc;
+    at_rest = at_rest;
+    base = 0;
+    within = omega arith;
+    holds = λ i x at. absurd cc;
+    shows = shows;
+    after = now log;
+    does = refl;
+    shows_after = shows;
+  }
+
+  record Begins (before after : Option Log) : Type 0 where
+    rows : Rows
+    clear : Told before (λ log. IsFoundClear store.keys (now log) unlocked rows)
+    stands : (origin : Origin) → origin.moment ≡ moment_of after → Told after (IsStoredIn before store rows origin [])
+    grown : Changes before after (λ old new. IsSoundlyFound (now old) → LogGoesOn old new)
+
+  opened_later : (old new : Log) → HasOpened old new → IsOpening old new → IsSoundlyFound (now old) → suc (moment old) ≤ moment new
+  opened_later old new opened opening sound = moment_later (adds old Synced) new (RecoversLike opened.disk) (opening_keeps old new opened.disk opening (reopenable (now old) sound) opened.recovers)
+
+  opened_grown : (old new : Log) → HasOpened old new → IsOpening old new → IsSoundlyFound (now old) → LogGoesOn old new
+  opened_grown old new opened opening sound =
+      goes_through old (adds old Synced) new (record { start = refl; later = (Synced ∷ [], refl) })
+      (leaves_go_on (adds old Synced) new (RecoversLike opened.disk) (opening_keeps old new opened.disk opening (reopenable (now old) sound) opened.recovers))
+
+  begins_on : (old new : Log) → HasOpened old new → IsOpening old new → IsKept s (now new) kept → Begins (Some old) (Some new)
+  begins_on old new opened opening is =
+      let tells : TellsRows s (now new) kept = keeping_tells_rows s (now new) kept is in
+      let host : IsTree (now new) = opened.at_rest.steady.tree in
+      let has : HasRows store (now new) (rows_of tells.contents) [] = has_rows (now new) is tells host in
+      let shows : Shows (now new) (rows_of tells.contents) = stands_shows s (now new) store.live store.claims tells.contents (rows_of tells.contents) (stands_loaded (now new) is tells host) (current tells.contents) in
+      let found : IsTree opened.disk = recovered_tree (now old) opened.disk opening.steady.tree opened.recovers in
+      record {
+        rows = rows_of tells.contents;
+        clear = record {
+          found = opened.disk;
+          recovers = opened.recovers;
+          clear = clear_beside s (now new) opened.disk unlocked (rows_of tells.contents) (tells.clear unlocked) host found (λ q not_journal not_new. sym (opened.alike q not_journal not_new));
+        };
+        stands = λ origin at. record {
+          state = λ opened_at from. elim from [
+            | inl here ↦ subst (λ (n : ℕ). IsRunning Shows n (rows_of tells.contents) [] [] new) (sym (here ∙ at)) (runs_now new (rows_of tells.contents) opened.at_rest shows)
+            | inr (sound, there) ↦
+                subst (λ (n : ℕ). IsRunning Shows n (rows_of tells.contents) [] [] new) (sym there)
+                (begins_now Shows (shows_blind store.keys) (rows_of tells.contents) opened.disk old new (stays_soundly old new (inr opening) sound)
+                (record { at_rest = opened.at_rest; since = opened_later old new opened opening sound; found = λ other recovers. opened_alike old new other opened recovers }) opened.recovers shows)
+          ];
+          tree = λ none. has;
+          answered = tt;
+          placed = λ i x there. absurd cc;
+        };
+        grown = opened_grown old new opened opening;
+      }
+
+  begins_told : (before after : Option Log) → Changes before after HasOpened → Changes before after IsOpening → Told after (λ log. IsKept s (now log) kept) → Begins before after
+  begins_told None None opened opening is = record { rows = rows_of (λ n. bad_size); clear = tt; stands = λ origin at. tt; grown = tt }
+  begins_told None (Some new) opened opening is = absurd opened
+  begins_told (Some old) None opened opening is = absurd opened
+  begins_told (Some old) (Some new) opened opening is = begins_on old new opened opening is
+
+  begins_store : (before after : FolderView) (begun : Begins before.log after.log) → IsNone store.stopped → store.entries ≡ 0 → (origin : Origin) → origin.folder_faults ≤ after.faults → origin.moment ≡ moment_of after.log
+      → IsStoreOf before.log store after begun.rows origin []
+  begins_store before after begun running none origin faults at = record {
+    stored = begun.stands origin at;
+    grown = begun.grown;
+    caused = tt;
+    faults = faults;
+    moment = at;
+    stopped = none_is store.stopped running;
+    count = omega (arith, none);
+  }
+
+opened_own : (before after : FolderView) (unlocked : ℕ) (kept : KeptTree) (store : StoreView) → HasBeenOpened before store.keys unlocked kept store after → IsOpened before store.keys unlocked store after
+opened_own before after unlocked kept store is =
+    let begun = begins_told unlocked kept store is.live is.claims before.log after.log is.opened is.any_moment is.loaded in
+    record {
+      keys_are = refl;
+      rows = begun.rows;
+      clear = begun.clear;
+      stands = λ origin faults at. begins_store unlocked kept store is.live is.claims before after begun is.running is.none origin faults at;
+    }
+
+pub openings_stand : OpeningsStand
+openings_stand before after keys unlocked kept store is =
+    subst (λ (k : KeyPair). HasBeenOpened before k unlocked kept store after → IsOpened before k unlocked store after) is.keys_are (λ own. opened_own before after unlocked kept store own) is

@@ -1,0 +1,100 @@
+-- A log that goes on, and the places that entries name on it.
+use Rattle.std.proofs.Common.{◌≡◌, ℕ, zero, suc, ◌-◌, ◌≤◌, List, [], ◌∷◌, ◌++◌, length, take, drop, Option, Some, None, IsNone, refl, sym, ap, subst, ◌∙◌, arith, append_assoc}
+use Rattle.outside.specs.Calls.{Changes}
+use Rattle.outside.specs.Disk.{Disk}
+use Rattle.outside.specs.Images.{Call, Log, log_at, moment, now, LeavesOnly}
+use Rattle.outside.proofs.Moments.{at_since}
+use Rattle.siv_mode.specs.Keys.{KeyPair}
+use Rattle.tree_model.specs.Rows.{Rows}
+use Rattle.tree_history.specs.History.{Entry, Origin, Tally, after, next, entry_at, rows_at, rows_after, tally_at, tally_of, AreCaused}
+use Rattle.stop_history.specs.Opening.{IsSoundlyFound}
+use Rattle.stop_history.proofs.Histories.{at_more, at_within, rows_all, rows_more}
+use Rattle.store_history.specs.Store.{ArePlaced, IsPlacedOn, LogGoesOn}
+
+-- ---- logs that go on
+
+pub goes_nowhere : (log : Log) → LogGoesOn log log
+goes_nowhere log = record { start = refl; later = ([], refl) }
+
+pub leaves_go_on : (old new : Log) (P : Disk → Type 0) → LeavesOnly old new P → LogGoesOn old new
+leaves_go_on old new P all = record { start = all.start; later = all.later }
+
+pub goes_through : (a b c : Log) → LogGoesOn a b → LogGoesOn b c → LogGoesOn a c
+goes_through a b c first second = record {
+  start = second.start ∙ first.start;
+  later = (
+    second.later.0 ++ first.later.0,
+    second.later.1 ∙ ap (λ (l : List Call). second.later.0 ++ l) first.later.1 ∙ sym (append_assoc second.later.0 first.later.0 a.calls),
+  );
+}
+
+pub grows_on : (found old new : Option Log) → Changes found old (λ a b. IsSoundlyFound (now a) → LogGoesOn a b) → Changes old new LogGoesOn → Changes found new (λ a b. IsSoundlyFound (now a) → LogGoesOn a b)
+grows_on None None None so_far more = tt
+grows_on None None (Some c) so_far more = absurd more
+grows_on None (Some b) new so_far more = absurd so_far
+grows_on (Some a) None new so_far more = absurd so_far
+grows_on (Some a) (Some b) None so_far more = absurd more
+grows_on (Some a) (Some b) (Some c) so_far more = λ sound. goes_through a b c (so_far sound) more
+
+-- what reads gave at an earlier moment
+read_then : (a b : Log) (m : ℕ) → LogGoesOn a b → m ≤ moment a → now (log_at a m) ≡ now (log_at b m)
+read_then a b m grown le = ap now (sym (at_since a b grown.later.0 m grown.start grown.later.1 le))
+
+drop_none : (calls : List Call) → drop (length calls - length calls) calls ≡ calls
+drop_none calls = let e : length calls - length calls ≡ 0 = omega arith in ap (λ (k : ℕ). drop k calls) e
+
+at_its_end : (log : Log) → log_at log (moment log) ≡ log
+at_its_end log = λ i. record { start = log.start; calls = drop_none log.calls i }
+
+-- ---- beginnings of a history
+
+moments_rise : (tally : Tally) (history : List Entry) (i : ℕ) → AreCaused tally history → (after tally (take i history)).moment ≤ (after tally history).moment
+moments_rise tally [] zero caused = omega arith
+moments_rise tally [] (suc i) caused = omega arith
+moments_rise tally (y ∷ history) zero caused = omega (arith, caused.0.moment_since, moments_rise (next tally y) history zero caused.1)
+moments_rise tally (y ∷ history) (suc i) caused = moments_rise (next tally y) history i caused.1
+
+take_before : (history : List Entry) (e : Entry) (i : ℕ) → i ≤ length history → take i (history ++ e ∷ []) ≡ take i history
+take_before history e zero le = refl
+take_before [] e (suc i) le = absurd (omega arith)
+take_before (y ∷ history) e (suc i) le = ap (λ (l : List Entry). y ∷ l) (take_before history e i (omega arith))
+
+take_whole : (history : List Entry) → take (length history) history ≡ history
+take_whole [] = refl
+take_whole (y ∷ history) = ap (λ (l : List Entry). y ∷ l) (take_whole history)
+
+-- ---- an entry more
+
+module _ (keys : KeyPair) (rows : Rows) (origin : Origin) (history : List Entry) (entry : Entry) (a b : Log) (grown : LogGoesOn a b) (caused : AreCaused (tally_at origin) history)
+    (at_end : (tally_of origin history).moment ≡ moment a) where
+  abbrev longer : List Entry
+  longer = history ++ entry ∷ []
+
+  abbrev Here : List Entry → Rows → Log → Entry → Type 0
+  Here before r log x = IsPlacedOn keys (now (log_at log (tally_of origin before).moment)) r x.made
+
+  earlier : ArePlaced keys rows origin history a → (i : ℕ) (x : Entry) → entry_at history i ≡ Some x → IsNone (tally_of origin (take i longer)).stopped → Here (take i longer) (rows_at rows longer i) b x
+  earlier placed i x there none =
+      let le : i ≤ length history = omega (arith, at_within history i x there) in
+      let same : take i (history ++ entry ∷ []) ≡ take i history = take_before history entry i le in
+      let was = placed i x there (subst (λ (l : List Entry). IsNone (tally_of origin l).stopped) same none) in
+      let low : (tally_of origin (take i history)).moment ≤ moment a = omega (arith, moments_rise (tally_at origin) history i caused, at_end) in
+      let here : Here (take i history) (rows_at rows history i) b x =
+      subst (λ (d : Disk). IsPlacedOn keys d (rows_at rows history i) x.made) (read_then a b (tally_of origin (take i history)).moment grown low) was in
+      subst (λ (l : List Entry). Here l (rows_at rows longer i) b x) (sym same) (subst (λ (r : Rows). Here (take i history) r b x) (sym (rows_more rows history entry i le)) here)
+
+  last_one : (IsNone (tally_of origin history).stopped → IsPlacedOn keys (now a) (rows_after rows history) entry.made) → (i : ℕ) (x : Entry) → i ≡ length history → entry ≡ x
+      → IsNone (tally_of origin (take i longer)).stopped → Here (take i longer) (rows_at rows longer i) b x
+  last_one last i x is same none =
+      let le : i ≤ length history = omega (arith, is) in
+      let before : take i (history ++ entry ∷ []) ≡ history = take_before history entry i le ∙ ap (λ (k : ℕ). take k history) is ∙ take_whole history in
+      let was = last (subst (λ (l : List Entry). IsNone (tally_of origin l).stopped) before none) in
+      let end : now (log_at b (tally_of origin history).moment) ≡ now a =
+      ap (λ (m : ℕ). now (log_at b m)) at_end ∙ sym (read_then a b (moment a) grown (omega arith)) ∙ ap now (at_its_end a) in
+      let here : Here history (rows_after rows history) b entry = subst (λ (d : Disk). IsPlacedOn keys d (rows_after rows history) entry.made) (sym end) was in
+      let rows_are : rows_at rows (history ++ entry ∷ []) i ≡ rows_after rows history = rows_more rows history entry i le ∙ ap (rows_at rows history) is ∙ sym (rows_all rows history) in
+      subst (λ (l : List Entry). Here l (rows_at rows longer i) b x) (sym before)
+      (subst (λ (r : Rows). Here history r b x) (sym rows_are) (subst (λ (y : Entry). Here history (rows_after rows history) b y) same here))
+
+  pub placed_more : ArePlaced keys rows origin history a → (IsNone (tally_of origin history).stopped → IsPlacedOn keys (now a) (rows_after rows history) entry.made) → ArePlaced keys rows origin longer b
+  placed_more placed last i x there none = at_more history entry i x there (λ before. earlier placed i x before none) (λ is same. last_one last i x is same none)

@@ -1,0 +1,8 @@
+use Rattle.store_history.proofs.Ends.{stores_recover, stores_are_whole}
+use Rattle.store_history.proofs.stores_recover.Goals as goal
+
+pub returns-clause-recover : goal.returns-clause-recover
+returns-clause-recover c = stores_recover
+
+pub returns-clause-whole : goal.returns-clause-whole
+returns-clause-whole c = stores_are_whole

@@ -1,0 +1,67 @@
+-- How a store's history begins, and what its end leaves.
+use Rattle.std.specs.Prelude.{◌≡◌, ℕ, ◌≤◌, List, [], Option, IsNone}
+use Rattle.outside.specs.Calls.{Changes, Told}
+use Rattle.outside.specs.Disk.{Disk}
+use Rattle.outside.specs.Images.{Log, now}
+use Rattle.outside.specs.Views.{FolderView}
+use Rattle.siv_mode.specs.Keys.{KeyPair}
+use Rattle.chunk_journal.specs.Journal.{RecoversTo}
+use Rattle.chunk_journal.specs.Opening.{HasOpened, IsOpening, StaysOpening}
+use Rattle.tree_model.specs.Rows.{Rows}
+use Rattle.tree_history.specs.History.{Entry, Origin, tally_of}
+use Rattle.clear_tree.specs.Kept.{KeptTree, IsKept}
+use Rattle.directory_scan.specs.Format.{sealing_of}
+use Rattle.tree_loading.specs.Clear.{IsClear}
+use Rattle.held_changes.specs.Loading.{loaded_tree}
+use Rattle.name_places.specs.Claims.{AreClaimsOf}
+use Rattle.stop_history.specs.Prefix.{StopsRecover, IsWhole}
+use Rattle.stop_history.specs.Opening.{IsSoundlyFound, OpeningRecovers}
+use Rattle.store_history.specs.Store.{StoreView, IsSaidFrom, IsStoreOf, moment_of, shows_under}
+
+-- the rows of what a found disk recovers to, of a vault that is unlocked at this second
+pub record IsFoundClear (keys : KeyPair) (disk : Disk) (unlocked : ℕ) (rows : Rows) : Type 0 where
+  pub found : Disk
+  pub recovers : RecoversTo disk found
+  pub clear : IsClear keys found unlocked rows
+
+-- A store as it was opened over a folder: it stands for no entries yet, from the rows on of what the folder recovers to, and from any counts on
+-- that are no higher than its folder's and at its moment.
+pub record IsOpened (before : FolderView) (keys : KeyPair) (unlocked : ℕ) (store : StoreView) (after : FolderView) : Type 0 where
+  pub keys_are : store.keys ≡ keys
+  pub rows : Rows
+  pub clear : Told before.log (λ log. IsFoundClear keys (now log) unlocked rows)
+  pub stands : (origin : Origin) → origin.folder_faults ≤ after.faults → origin.moment ≡ moment_of after.log
+      → IsStoreOf before.log store after rows origin []
+
+-- what opening it is made of: the journal was opened, the tree loaded from what reads give then, and nothing changed
+pub record HasBeenOpened (before : FolderView) (keys : KeyPair) (unlocked : ℕ) (kept : KeptTree) (store : StoreView) (after : FolderView) : Type 0 where
+  pub keys_are : store.keys ≡ keys
+  pub live : store.live ≡ loaded_tree unlocked kept
+  pub claims : AreClaimsOf (sealing_of keys) store.live store.claims
+  pub none : store.entries ≡ 0
+  pub running : IsNone store.stopped
+  pub opened : Changes before.log after.log HasOpened
+  pub any_moment : Changes before.log after.log IsOpening
+  pub loaded : Told after.log (λ log. IsKept (sealing_of keys) (now log) kept)
+
+abbrev pub OpeningsStand : Type 0
+OpeningsStand = (before after : FolderView) (keys : KeyPair) (unlocked : ℕ) (kept : KeptTree) (store : StoreView)
+    → HasBeenOpened before keys unlocked kept store after → IsOpened before keys unlocked store after
+
+-- where it wasn't opened, a stop since the first sync recovers to what was found
+abbrev pub FailedOpeningsRecover : Type 0
+FailedOpeningsRecover = (keys : KeyPair) (old new : Log) → StaysOpening old new → IsSoundlyFound (now old) → OpeningRecovers (shows_under keys) old new
+
+-- ---- at its end
+
+-- a stop at any moment recovers to a prefix of the history that holds all that was synced
+abbrev pub StoresRecover : Type 0
+StoresRecover = (found : Option Log) (store : StoreView) (folder : FolderView) (rows : Rows) (origin : Origin) (history : List Entry)
+    → IsStoreOf found store folder rows origin history
+    → Told folder.log (λ log. (opened : ℕ) → IsSaidFrom found origin opened → StopsRecover (shows_under store.keys) opened rows history log)
+
+-- of a store none of whose commits failed, all of it is on the disk
+abbrev pub StoresAreWhole : Type 0
+StoresAreWhole = (found : Option Log) (store : StoreView) (folder : FolderView) (rows : Rows) (origin : Origin) (history : List Entry)
+    → IsStoreOf found store folder rows origin history
+    → IsNone (tally_of origin history).stopped → Told folder.log (λ log. IsWhole (shows_under store.keys) rows history log)

@@ -1,0 +1,98 @@
+-- What an open vault stands for: a legal history of the plain file tree, and what a stop at each moment of it recovers to.
+use Rattle.std.specs.Prelude.{◌≡◌, ◌⊎◌, ℕ, suc, ◌≤◌, ◌^◌, ◌-◌, min, List, [], ◌++◌, length, take, Option, Some, IsNone, IsSomeAnd}
+use Rattle.std.specs.Option.{option_map, option_map_or}
+use Rattle.outside.specs.Calls.{Changes, Told}
+use Rattle.outside.specs.Disk.{Disk}
+use Rattle.outside.specs.Images.{Call, Log, log_at, moment, now}
+use Rattle.outside.specs.Views.{FolderView}
+use Rattle.siv_mode.specs.Keys.{KeyPair}
+use Rattle.tree_model.specs.Rows.{Content, Rows}
+use Rattle.tree_history.specs.History.{Made, Entry, Origin, entry_at, rows_at, tally_at, tally_of, AreCaused, AreAnswered, rows_after}
+use Rattle.row_versions.specs.Versions.{wrapped}
+use Rattle.directory_scan.specs.Format.{sealing_of}
+use Rattle.tree_changes.specs.Shapes.{HasTree}
+use Rattle.live_tree.specs.Held.{HeldTree, live_rows}
+use Rattle.node_changes.specs.Changed.{StandsOn}
+use Rattle.node_changes.specs.Placed.{taken_for}
+use Rattle.stop_history.specs.Crash.{DiskShows}
+use Rattle.stop_history.specs.Stands.{IsInState}
+use Rattle.stop_history.specs.Opening.{IsSoundlyFound}
+
+-- a disk shows rows where they have the shape of its tree
+abbrev pub shows_under : KeyPair → DiskShows
+shows_under keys disk rows = HasTree (sealing_of keys) disk rows
+
+-- an open vault in memory: its keys, its tree and which node names which folder, how many entries its history has, as far as 64 bits go, and
+-- the number that is answered once a commit has failed
+pub record StoreView : Type 0 where
+  pub keys : KeyPair
+  pub live : HeldTree
+  pub claims : List (List ℕ × ℕ)
+  pub entries : ℕ
+  pub stopped : Option ℕ
+
+-- the largest number
+abbrev pub number_limit : ℕ
+number_limit = 2 ^ 64 - 1
+
+abbrev pub bounded : ℕ → ℕ
+bounded n = min n number_limit
+
+-- the moment of a folder: how many changing calls its log has, and 0 where none is told
+abbrev pub moment_of : Option Log → ℕ
+moment_of log = option_map_or (λ l. moment l) log 0
+
+-- ---- a folder's log since it was found
+
+-- its calls go on from the old ones, and change none of them
+pub record LogGoesOn (old new : Log) : Type 0 where
+  pub start : new.start ≡ old.start
+  pub later : (since : List Call) × (new.calls ≡ since ++ old.calls)
+
+-- What a stop recovers to is said from the end of the opening on, where a history begins; and where the disk was found sound, whose journal has no
+-- batch that can't be done again, from the end of the opening's first sync on.
+abbrev pub IsSaidFrom : Option Log → Origin → ℕ → Type 0
+IsSaidFrom found origin opened =
+    (opened ≡ origin.moment) ⊎ IsSomeAnd found (λ log. IsSoundlyFound (now log) × (opened ≡ suc (moment log)))
+
+-- ---- a store's history
+
+-- The tree in memory is that of a disk, and its rows, with the contents that its files have there, are those after the entries, but for
+-- versions past 2^32.
+pub record HasRows (store : StoreView) (disk : Disk) (rows : Rows) (history : List Entry) : Type 0 where
+  pub contents : ℕ → Content
+  pub stands : StandsOn (sealing_of store.keys) disk store.live store.claims contents
+  pub current : wrapped (rows_after rows history) ≡ wrapped (live_rows contents store.live)
+
+-- The place that an entry names as taken is the one that is taken for its request on a disk, by a tree of that disk which has these rows.
+pub record IsPlacedOn (keys : KeyPair) (disk : Disk) (rows : Rows) (made : Made) : Type 0 where
+  pub live : HeldTree
+  pub claims : List (List ℕ × ℕ)
+  pub contents : ℕ → Content
+  pub stands : StandsOn (sealing_of keys) disk live claims contents
+  pub current : wrapped rows ≡ wrapped (live_rows contents live)
+  pub taken : made.taken ≡ taken_for (sealing_of keys) disk live made.asked.request made.drawn
+
+-- It is so of each entry until a commit fails, on the disk as it read at the end of the entry before.
+abbrev pub ArePlaced : KeyPair → Rows → Origin → List Entry → Log → Type 0
+ArePlaced keys rows origin history log = (i : ℕ) (entry : Entry) → entry_at history i ≡ Some entry → IsNone (tally_of origin (take i history)).stopped
+    → IsPlacedOn keys (now (log_at log (tally_of origin (take i history)).moment)) (rows_at rows history i) entry.made
+
+-- A folder's log on which a store stands for a history: a stop at any moment recovers to a prefix of it; until a commit fails the tree in
+-- memory is that of what reads give; each entry is answered in the rows before it, and names the place that is taken.
+pub record IsStoredIn (found : Option Log) (store : StoreView) (rows : Rows) (origin : Origin) (history : List Entry) (log : Log) : Type 0 where
+  pub state : (opened : ℕ) → IsSaidFrom found origin opened → IsInState (shows_under store.keys) opened rows history [] log (tally_of origin history).stopped
+  pub tree : IsNone (tally_of origin history).stopped → HasRows store (now log) rows history
+  pub answered : AreAnswered rows (tally_at origin) history
+  pub placed : ArePlaced store.keys rows origin history log
+
+-- A store stands for a history from given rows and counts on, over a folder that was found with this log: its entries have their causes, and
+-- where the folder tells its log, it stands for them on that.
+pub record IsStoreOf (found : Option Log) (store : StoreView) (folder : FolderView) (rows : Rows) (origin : Origin) (history : List Entry) : Type 0 where
+  pub stored : Told folder.log (IsStoredIn found store rows origin history)
+  pub grown : Changes found folder.log (λ old new. IsSoundlyFound (now old) → LogGoesOn old new)
+  pub caused : AreCaused (tally_at origin) history
+  pub faults : (tally_of origin history).folder_faults ≤ folder.faults
+  pub moment : (tally_of origin history).moment ≡ moment_of folder.log
+  pub stopped : store.stopped ≡ option_map bounded (tally_of origin history).stopped
+  pub count : store.entries ≡ bounded (length history)

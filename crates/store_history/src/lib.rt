@@ -1,0 +1,36 @@
+//! What an open vault stands for: one legal history of the plain file tree, and at each moment of it a prefix of the history to which a
+//! stop recovers. Each turn of a store, read-only, committed, failed or stopped, adds one entry.
+//!
+//! ```
+//! // Of a turn whose change was committed: whatever the store stood for, it stands for that with this entry.
+//! store_history::turns_add_entries();
+//! ```
+//!
+//! Its functions are laws: they do nothing, and their clauses hold.
+#![tactic(auto)]
+
+ghost use Rattle.store_history.specs.Ends.{FailedOpeningsRecover, OpeningsStand, StoresAreWhole, StoresRecover};
+ghost use Rattle.store_history.specs.Turns.{BrokenTurnsAdd, ChangedTurnsAdd, QuietTurnsAdd, StoppedTurnsAdd};
+
+/// Each turn adds an entry to whatever history the store stood for: one that changes nothing on the disk, one whose change is committed,
+/// one whose commit fails, and one of a store that stopped.
+pub fn turns_add_entries()
+    ensures quiet { QuietTurnsAdd }
+    ensures changed { ChangedTurnsAdd }
+    ensures broken { BrokenTurnsAdd }
+    ensures stopped { StoppedTurnsAdd }
+{}
+
+/// A vault whose journal is opened and whose tree is loaded stands for no entries, from the rows on of what its folder recovers to;
+/// where it isn't opened a stop recovers to what was found.
+pub fn openings_stand()
+    ensures stand { OpeningsStand }
+    ensures failed { FailedOpeningsRecover }
+{}
+
+/// A stop at any moment recovers to a prefix of the history that holds all that was synced; and of a store none of whose commits failed
+/// the disk shows all entries.
+pub fn stores_recover()
+    ensures recover { StoresRecover }
+    ensures whole { StoresAreWhole }
+{}
