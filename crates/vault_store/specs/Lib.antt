@@ -1,6 +1,8 @@
-pub mod Store
-pub mod Served
 pub mod Causes
-pub mod Tree
+pub mod Contents
+pub mod Dated
+pub mod Open
+pub mod Outcome
+pub mod Quiet
 pub mod Reading
-pub mod Answers
+pub mod Sizes

@@ -1,23 +1,87 @@
-ghost use Rattle.std.specs.Prelude.{◌≡◌, ◌≤◌, ℕ, Some, length, IfOk, IfErr};
+ghost use Rattle.std.specs.Prelude.{◌≡◌, ◌≤◌, ℕ, List, Some, None, length, IfOk, IfErr};
+ghost use Rattle.std.specs.Option.{option_copied};
+ghost use Rattle.std.specs.Result.{result_unwrap_or};
+ghost use Rattle.outside.specs.Calls.{Told};
 ghost use Rattle.outside.specs.Images.{disk_in};
-ghost use Rattle.tree_model.specs.Asked.{HasCount, plain_reply, read as read_request};
-ghost use Rattle.clear_tree.specs.Kept.{node_of};
-ghost use Rattle.vault_store.specs.Reading.{IsHostOf, read_fault};
-ghost use Rattle.vault_store.specs.Answers.{IsReplied};
+ghost use Rattle.outside.specs.Views.{folder_view};
+ghost use Rattle.directory_scan.specs.Format.{sealing_of};
+ghost use Rattle.tree_model.specs.Asked.{CanAsk, plain_request, read as read_request};
+ghost use Rattle.tree_model.specs.declared.refusal.Refusal.TheVariants as refusals;
+ghost use Rattle.tree_model.specs.declared.reply.Reply.TheVariants as replies;
+ghost use Rattle.tree_model.specs.Step.{IsReading};
+ghost use Rattle.live_tree.specs.Held.{node_of};
+ghost use Rattle.node_changes.specs.Changed.{IsAtRest};
+ghost use Rattle.vault_store.specs.Open.{running, view_of};
+ghost use Rattle.vault_store.specs.Reading.{HasContents, IsHostOf, read_fault};
+ghost use Rattle.vault_store.specs.Quiet.{IsKeptReply};
 
-use crate::walking::is_tree;
-use clear_tree::{Tree, What};
+use crate::answering::Vault;
+use crate::sizes::have_sizes;
+use clear_tree::What;
 use content_reader::{ContentReader, ReadErr, SealedFile, Slice};
 use file_chunks::clear_len;
-use outside::Reads;
+use live_tree::LiveTree;
+use outside::{Folder, Reads};
 use siv_mode::VaultKeys;
-use tree_model::{Refusal, Reply};
+use std::alloc::AllocError;
+use tree_answers::{list, look, open_node, stat_of, sync, walk};
+use tree_model::{Refusal, Reply, Request};
+
+impl<D: Folder> Vault<D> {
+    /// The reply to a request that changes nothing. Only `Walk` and `List` take memory.
+    pub(crate) fn look_up(&mut self, request: &Request<'_>, buffer: &mut [u8]) -> Reply
+        requires form { CanAsk request.now (length buffer.old) }
+        requires reads { IsReading (plain_request request.now) }
+        requires rest { Told (D.log self.old.journal) (IsAtRest (sealing_of self.old.tree.keys) self.old.tree.live self.old.tree.claims) }
+        ensures kept { (entries : ℕ) (second : ℕ) → IsKeptReply (view_of self.old.tree entries None)
+            (folder_view D.log D.faults D.changes self.old.journal) (folder_view D.log D.faults D.changes self.new.journal)
+            (plain_request request.now) second result buffer.old buffer.new }
+        ensures tree { self.new.tree ≡ self.old.tree }
+    {
+        have_sizes(self.tree.keys());
+        let tree = self.tree.live();
+        match request {
+            Request::Look { node } => look(tree, *node),
+            Request::Walk { node, names } => or_lacks_memory(walk(self.alloc, tree, *node, names)),
+            Request::OpenNode { node, mode } => open_node(tree, *node, *mode),
+            Request::Read { node, at, count } => {
+                let slice = Slice {
+                    at: *at,
+                    count: *count,
+                };
+                read(
+                    &mut self.journal,
+                    self.tree.keys(),
+                    tree,
+                    &mut self.reader,
+                    *node,
+                    slice,
+                    buffer,
+                )
+            }
+            Request::List { node, after, count } => or_lacks_memory(list(
+                self.alloc,
+                tree,
+                *node,
+                bytes_of(*after),
+                *count,
+                buffer,
+            )),
+            Request::StatOf { node } => stat_of(tree, *node, buffer),
+            Request::Sync { node } => sync(tree, *node),
+            Request::Write { .. }
+            | Request::Create { .. }
+            | Request::Remove { .. }
+            | Request::Change { .. } => { unreachable!() }
+        }
+    }
+}
 
 /// Reads a slice of a node into the front of `buffer`. It takes no memory.
-pub(crate) fn read<R: Reads>(
+fn read<R: Reads>(
     folder: &mut R,
     keys: &VaultKeys,
-    tree: &Tree,
+    tree: &LiveTree,
     reader: &mut ContentReader,
     node: u64,
     slice: Slice,
@@ -25,14 +89,11 @@ pub(crate) fn read<R: Reads>(
 ) -> Reply
     requires few { slice.count ≤ 65536 }
     requires room { slice.count ≤ length buffer.old }
-    ensures replied { (unlocked : ℕ) → IsReplied (disk_in (R.log folder.old)) keys.now tree.now unlocked (read_request node slice.at slice.count)
-        (R.faults folder.old) (R.faults folder.new) (plain_reply result) buffer.old buffer.new }
-    ensures count { HasCount result }
-    ensures log { R.log folder.new ≡ R.log folder.old }
-    ensures changes { R.changes folder.new ≡ R.changes folder.old }
-    ensures later { R.faults folder.old ≤ R.faults folder.new }
+    requires contents { Told (disk_in (R.log folder.old)) (HasContents (sealing_of keys.now) tree.now) }
+    ensures { (claims : List (List ℕ × ℕ)) (entries second : ℕ) → IsKeptReply (running keys.now tree.now claims entries)
+        (folder_view R.log R.faults R.changes folder.old) (folder_view R.log R.faults R.changes folder.new)
+        (read_request node slice.at slice.count) second result buffer.old buffer.new }
 {
-    is_tree(tree);
     let host = match sealed_file(tree, node) {
         Ok(host) => host,
         Err(refusal) => return Reply::Refused(refusal),
@@ -45,10 +106,12 @@ pub(crate) fn read<R: Reads>(
 }
 
 // The host file of a node, or what refuses that it is read before that file is looked at.
-fn sealed_file(tree: &Tree, number: u64) -> Result<SealedFile, Refusal>
+fn sealed_file(tree: &LiveTree, number: u64) -> Result<SealedFile, Refusal>
     ensures file { IfOk result (λ host. IsHostOf tree.now number host) }
     ensures refused { IfErr result (λ refusal. read_fault (node_of tree.now number) ≡ Some refusal) }
 {
+    // for its clause: what has a size has a host file
+    let _count = tree.len();
     let Some(node) = tree.node(number) else {
         return Err(Refusal::Removed);
     };
@@ -60,9 +123,28 @@ fn sealed_file(tree: &Tree, number: u64) -> Result<SealedFile, Refusal>
     if clear_len(size).is_none() {
         return Err(Refusal::Damaged);
     }
-    is_tree(tree);
     match tree.path(number) {
         Some(path) => Ok(SealedFile { path, size }),
         None => unreachable!(),
+    }
+}
+
+// A reply, or that there was no memory for it.
+fn or_lacks_memory(reply: Result<Reply, AllocError>) -> Reply
+    ensures { result ≡ result_unwrap_or reply (replies.Refused refusals.OutOfMemory) }
+{
+    match reply {
+        Ok(reply) => reply,
+        Err(_) => Reply::Refused(Refusal::OutOfMemory),
+    }
+}
+
+// The bytes of a name, if there is one.
+fn bytes_of(name: Option<&str>) -> Option<&[u8]>
+    ensures { option_copied result ≡ option_copied name.entry }
+{
+    match name {
+        Some(name) => Some(name.as_bytes()),
+        None => None,
     }
 }

@@ -1,24 +1,42 @@
 use Rattle.std.proofs.Common.{refl, arith}
-use Rattle.outside.specs.Images.{disk_in}
-use Rattle.vault_store.proofs.ReadLemmas.{read_refused, read_bytes, read_damaged, read_device}
+use Rattle.outside.specs.Views.{folder_view}
+use Rattle.tree_model.specs.declared.refusal.Refusal.TheVariants as refusals
+use Rattle.tree_model.specs.declared.reply.Reply.TheVariants as replies
+use Rattle.tree_model.specs.Asked.{read}
+use Rattle.vault_store.proofs.Lookups.{kept_reply}
+use Rattle.vault_store.proofs.HostReads.{read_refused, read_bytes, read_damaged, read_device, read_unplaced}
 use Rattle.vault_store.proofs.reading.read.Goals as goal
 
-pub returns-in-Err-clause-replied : goal.returns-in-Err-clause-replied
-returns-in-Err-clause-replied g c = λ unlocked.
-    read_refused (disk_in (g.R.Reads.log c.args.folder.now)) c.args.keys.now c.args.tree.now unlocked c.args.node c.args.slice.at c.args.slice.count (g.R.Reads.faults c.args.folder.now) c.in-Err.refusal c.args.buffer.now
-    c.is_tree.ensures c.in-Err.ensures.refused
+pub returns-in-Err : goal.returns-in-Err
+returns-in-Err g c = λ claims entries second.
+    let before = folder_view g.R.Reads.log g.R.Reads.faults g.R.Reads.changes c.args.folder.now in
+    kept_reply c.args.keys.now c.args.tree.now claims before before (read c.args.node c.args.slice.at c.args.slice.count) entries second (replies.Refused c.in-Err.refusal) c.args.buffer.now c.args.buffer.now
+    (read_refused c.args.keys.now c.args.tree.now claims before before c.args.node c.args.slice.at c.args.slice.count c.in-Err.refusal c.args.buffer.now c.in-Err.ensures.refused)
+    (read_unplaced c.args.node c.args.slice.at c.args.slice.count) (omega arith) refl
 
-pub returns-in-Ok-read-clause-replied : goal.returns-in-Ok-read-clause-replied
-returns-in-Ok-read-clause-replied g c = λ unlocked.
-    read_bytes (disk_in (g.R.Reads.log c.args.folder.now)) c.args.keys.now c.args.tree.now unlocked c.args.node c.args.slice.at c.args.slice.count (g.R.Reads.faults c.args.folder.now) (g.R.Reads.faults c.read.new.folder) c.in-Ok.host
-    c.in-Ok.ensures.file c.in-Ok-read.count c.args.buffer.now c.read.new.buffer c.in-Ok-read.ensures.count (omega (arith, c.requires.room, c.read.auto.buffer)) c.in-Ok-read.ensures.rest c.in-Ok-read.ensures.bytes
+pub returns-in-Ok-read : goal.returns-in-Ok-read
+returns-in-Ok-read g c = λ claims entries second.
+    let before = folder_view g.R.Reads.log g.R.Reads.faults g.R.Reads.changes c.args.folder.now in
+    let after = folder_view g.R.Reads.log g.R.Reads.faults g.R.Reads.changes c.read.new.folder in
+    kept_reply c.args.keys.now c.args.tree.now claims before after (read c.args.node c.args.slice.at c.args.slice.count) entries second (replies.Count c.in-Ok-read.count) c.args.buffer.now c.read.new.buffer
+    (read_bytes c.args.keys.now c.args.tree.now claims before after c.args.node c.args.slice.at c.args.slice.count c.in-Ok.host c.in-Ok.ensures.file
+    c.in-Ok-read.count c.args.buffer.now c.read.new.buffer c.in-Ok-read.ensures.count (omega (arith, c.requires.room, c.read.auto.buffer)) c.in-Ok-read.ensures.rest c.in-Ok-read.ensures.bytes)
+    (read_unplaced c.args.node c.args.slice.at c.args.slice.count) c.in-Ok-read.ensures.later c.in-Ok-read.ensures.log
 
-pub returns-in-Err-Damaged-clause-replied : goal.returns-in-Err-Damaged-clause-replied
-returns-in-Err-Damaged-clause-replied g c = λ unlocked.
-    read_damaged (disk_in (g.R.Reads.log c.args.folder.now)) c.args.keys.now c.args.tree.now unlocked c.args.node c.args.slice.at c.args.slice.count (g.R.Reads.faults c.args.folder.now) (g.R.Reads.faults c.read.new.folder) c.in-Ok.host
-    c.in-Ok.ensures.file c.args.buffer.now c.read.new.buffer c.in-Err-Damaged.ensures.refused (rw c.in-Err-Damaged.field-0-is at c.in-Err-Damaged.ensures.bytes)
+pub returns-in-Err-Damaged : goal.returns-in-Err-Damaged
+returns-in-Err-Damaged g c = λ claims entries second.
+    let before = folder_view g.R.Reads.log g.R.Reads.faults g.R.Reads.changes c.args.folder.now in
+    let after = folder_view g.R.Reads.log g.R.Reads.faults g.R.Reads.changes c.read.new.folder in
+    kept_reply c.args.keys.now c.args.tree.now claims before after (read c.args.node c.args.slice.at c.args.slice.count) entries second (replies.Refused refusals.Damaged) c.args.buffer.now c.read.new.buffer
+    (read_damaged c.args.keys.now c.args.tree.now claims before after c.args.node c.args.slice.at c.args.slice.count c.in-Ok.host c.in-Ok.ensures.file
+    c.args.buffer.now c.read.new.buffer c.in-Err-Damaged.ensures.refused (rw c.in-Err-Damaged.field-0-is at c.in-Err-Damaged.ensures.bytes))
+    (read_unplaced c.args.node c.args.slice.at c.args.slice.count) c.in-Err-Damaged.ensures.later c.in-Err-Damaged.ensures.log
 
-pub returns-in-Err-Device-clause-replied : goal.returns-in-Err-Device-clause-replied
-returns-in-Err-Device-clause-replied g c = λ unlocked.
-    read_device (disk_in (g.R.Reads.log c.args.folder.now)) c.args.keys.now c.args.tree.now unlocked c.args.node c.args.slice.at c.args.slice.count (g.R.Reads.faults c.args.folder.now) (g.R.Reads.faults c.read.new.folder) c.in-Ok.host
-    c.args.buffer.now c.read.new.buffer c.in-Ok.ensures.file c.in-Err-Device.ensures.refused (c.in-Err-Device.ensures.device (rw c.in-Err-Device.field-0-is refl)) (rw c.in-Err-Device.field-0-is at c.in-Err-Device.ensures.bytes)
+pub returns-in-Err-Device : goal.returns-in-Err-Device
+returns-in-Err-Device g c = λ claims entries second.
+    let before = folder_view g.R.Reads.log g.R.Reads.faults g.R.Reads.changes c.args.folder.now in
+    let after = folder_view g.R.Reads.log g.R.Reads.faults g.R.Reads.changes c.read.new.folder in
+    kept_reply c.args.keys.now c.args.tree.now claims before after (read c.args.node c.args.slice.at c.args.slice.count) entries second (replies.Refused refusals.DeviceFault) c.args.buffer.now c.read.new.buffer
+    (read_device c.args.keys.now c.args.tree.now claims before after c.args.node c.args.slice.at c.args.slice.count c.in-Ok.host c.in-Ok.ensures.file
+    c.args.buffer.now c.read.new.buffer c.in-Err-Device.ensures.refused c.requires.contents (c.in-Err-Device.ensures.device (rw c.in-Err-Device.field-0-is refl)) (rw c.in-Err-Device.field-0-is at c.in-Err-Device.ensures.bytes))
+    (read_unplaced c.args.node c.args.slice.at c.args.slice.count) c.in-Err-Device.ensures.later c.in-Err-Device.ensures.log

@@ -1,22 +1,89 @@
-use Rattle.std.proofs.Common.{ℕ, ◌+◌, ◌-◌, ◌^◌, min, ap, ◌∙◌, arith}
-use Rattle.outside.specs.Views.{folder_view}
-use Rattle.tree_model.specs.Asked.{plain_request, plain_reply}
-use Rattle.vault_store.proofs.StoreLemmas.{adds_entry}
+use Rattle.std.proofs.Common.{◌≡◌, ℕ, min, suc, Option, Some, None, sym, ap, subst, ◌∙◌, add-one}
+use Rattle.outside.specs.Views.{entropy_view, folder_view}
+use Rattle.tree_model.specs.declared.refusal.Refusal.TheVariants as refusals
+use Rattle.tree_model.specs.declared.reply.Reply.TheVariants as replies
+use Rattle.tree_model.specs.Asked.{plain_request}
+use Rattle.store_history.specs.Store.{bounded, number_limit}
+use Rattle.vault_store.specs.declared.store.Store.TheInside.{Inside}
+use Rattle.vault_store.specs.Open.{OpenVault, view_of}
+use Rattle.vault_store.proofs.Serving.{IsServed, served_as, served_reply, served_broken, served_stopped}
+use Rattle.vault_store.proofs.store.Store.serve.Given.{Over}
 use Rattle.vault_store.proofs.store.Store.serve.Goals as goal
+use Rattle.vault_store.proofs.store.Store.serve.Goals.{in-Some, in-None+in-Ok, in-None+in-Err}
+
+-- the store after an entry was counted
+counted_is : (g : Over) (c : goal.After-self-2-1 g) (i : Inside g.row.D.Denot) → c.match-self.self-inside ≡ i
+    → view_of c.match-self.self-inside.vault.tree c.saturating_add-self-inside.result c.match-self.self-inside.stopped ≡ view_of i.vault.tree (bounded (suc i.entries)) i.stopped
+counted_is g c i is =
+    ap (λ (n : ℕ). view_of c.match-self.self-inside.vault.tree n c.match-self.self-inside.stopped) (c.saturating_add-self-inside.ensures ∙ ap (λ (n : ℕ). min n number_limit) (add-one c.match-self.self-inside.entries))
+    ∙ ap (λ (i : Inside g.row.D.Denot). view_of i.vault.tree (bounded (suc i.entries)) i.stopped) is
+
+folder_is : (g : Over) (c : goal.After-self-2-1 g) (i : Inside g.row.D.Denot) → c.match-self.self-inside ≡ i → (folder_view g.D.Reads.log g.D.Reads.faults g.D.Reads.changes c.match-self.self-inside.vault.journal) ≡ (folder_view g.D.Reads.log g.D.Reads.faults g.D.Reads.changes i.vault.journal)
+folder_is g c i is = ap (λ (i : Inside g.row.D.Denot). (folder_view g.D.Reads.log g.D.Reads.faults g.D.Reads.changes i.vault.journal)) is
+
+-- what was served, by what the store has inside
+served_inside : (g : Over) (c : goal.After-self-2-1 g)
+    → IsServed (view_of c.self.inside.vault.tree c.self.inside.entries c.self.inside.stopped) (view_of c.match-self.self-inside.vault.tree c.saturating_add-self-inside.result c.match-self.self-inside.stopped)
+    (folder_view g.D.Reads.log g.D.Reads.faults g.D.Reads.changes c.self.inside.vault.journal) (folder_view g.D.Reads.log g.D.Reads.faults g.D.Reads.changes c.match-self.self-inside.vault.journal)
+    (entropy_view g.E.Entropy.drawn g.E.Entropy.faults c.args.entropy.now) (entropy_view g.E.Entropy.drawn g.E.Entropy.faults c.match-self.entropy) (plain_request c.args.request.now) c.args.now c.match-self.reply c.args.buffer.now c.match-self.buffer
+served_inside g c =
+    let old = view_of c.self.inside.vault.tree c.self.inside.entries c.self.inside.stopped in
+    let new = view_of c.match-self.self-inside.vault.tree c.saturating_add-self-inside.result c.match-self.self-inside.stopped in
+    let before = (folder_view g.D.Reads.log g.D.Reads.faults g.D.Reads.changes c.self.inside.vault.journal) in
+    let after = (folder_view g.D.Reads.log g.D.Reads.faults g.D.Reads.changes c.match-self.self-inside.vault.journal) in
+    let source = (entropy_view g.E.Entropy.drawn g.E.Entropy.faults c.args.entropy.now) in
+    let source' = (entropy_view g.E.Entropy.drawn g.E.Entropy.faults c.match-self.entropy) in
+    let request = (plain_request c.args.request.now) in
+    elim c.match-self.branch [
+      | in-Some w ↦
+          served_as old new (view_of c.self.inside.vault.tree (bounded (suc c.self.inside.entries)) c.self.inside.stopped) before after before source source' source request c.args.now c.match-self.reply (replies.Refused (refusals.Stopped w.in-Some.entry))
+          c.args.buffer.now c.match-self.buffer c.args.buffer.now (counted_is g c c.self.inside w.self-inside-is) (folder_is g c c.self.inside w.self-inside-is)
+          (ap (λ (e : g.row.E.Denot). (entropy_view g.E.Entropy.drawn g.E.Entropy.faults e)) w.entropy-is) w.reply-is w.buffer-is
+          (served_stopped old before source request c.args.now w.in-Some.entry c.args.buffer.now w.in-Some.is)
+      | in-None+in-Ok w ↦
+          let inside : Inside g.row.D.Denot = record { vault = w.answer.new.self; entries = c.self.inside.entries; stopped = c.self.inside.stopped } in
+          let after' = (folder_view g.D.Reads.log g.D.Reads.faults g.D.Reads.changes w.answer.new.self.journal) in
+          let entropy' = (entropy_view g.E.Entropy.drawn g.E.Entropy.faults w.answer.new.entropy) in
+          served_as old new (view_of w.answer.new.self.tree (bounded (suc c.self.inside.entries)) c.self.inside.stopped) before after after' source source' entropy' request c.args.now c.match-self.reply w.in-Ok.reply
+          c.args.buffer.now c.match-self.buffer w.answer.new.buffer (counted_is g c inside w.self-inside-is) (folder_is g c inside w.self-inside-is)
+          (ap (λ (e : g.row.E.Denot). (entropy_view g.E.Entropy.drawn g.E.Entropy.faults e)) w.entropy-is) w.reply-is w.buffer-is
+          (subst (λ (o : Option ℕ). IsServed (view_of c.self.inside.vault.tree c.self.inside.entries o) (view_of w.answer.new.self.tree (bounded (suc c.self.inside.entries)) o)
+          (folder_view g.D.Reads.log g.D.Reads.faults g.D.Reads.changes c.self.inside.vault.journal) (folder_view g.D.Reads.log g.D.Reads.faults g.D.Reads.changes w.answer.new.self.journal) (entropy_view g.E.Entropy.drawn g.E.Entropy.faults c.args.entropy.now) (entropy_view g.E.Entropy.drawn g.E.Entropy.faults w.answer.new.entropy) (plain_request c.args.request.now) c.args.now w.in-Ok.reply c.args.buffer.now w.answer.new.buffer) (sym w.in-None.is)
+          (served_reply (view_of c.self.inside.vault.tree c.self.inside.entries None) (view_of w.answer.new.self.tree c.self.inside.entries None) before after' source entropy' request c.args.now w.in-Ok.reply c.args.buffer.now w.answer.new.buffer
+          (w.in-Ok.ensures.outcome c.self.inside.entries)))
+      | in-None+in-Err w ↦
+          let inside : Inside g.row.D.Denot = record { vault = w.answer.new.self; entries = c.self.inside.entries; stopped = Some c.self.inside.entries } in
+          let after' = (folder_view g.D.Reads.log g.D.Reads.faults g.D.Reads.changes w.answer.new.self.journal) in
+          let entropy' = (entropy_view g.E.Entropy.drawn g.E.Entropy.faults w.answer.new.entropy) in
+          served_as old new (view_of w.answer.new.self.tree (bounded (suc c.self.inside.entries)) (Some c.self.inside.entries)) before after after' source source' entropy' request c.args.now c.match-self.reply (replies.Refused refusals.DeviceFault)
+          c.args.buffer.now c.match-self.buffer w.answer.new.buffer (counted_is g c inside w.self-inside-is) (folder_is g c inside w.self-inside-is)
+          (ap (λ (e : g.row.E.Denot). (entropy_view g.E.Entropy.drawn g.E.Entropy.faults e)) w.entropy-is) w.reply-is w.buffer-is
+          (subst (λ (o : Option ℕ). IsServed (view_of c.self.inside.vault.tree c.self.inside.entries o) (view_of w.answer.new.self.tree (bounded (suc c.self.inside.entries)) (Some c.self.inside.entries))
+          (folder_view g.D.Reads.log g.D.Reads.faults g.D.Reads.changes c.self.inside.vault.journal) (folder_view g.D.Reads.log g.D.Reads.faults g.D.Reads.changes w.answer.new.self.journal) (entropy_view g.E.Entropy.drawn g.E.Entropy.faults c.args.entropy.now) (entropy_view g.E.Entropy.drawn g.E.Entropy.faults w.answer.new.entropy) (plain_request c.args.request.now) c.args.now (replies.Refused refusals.DeviceFault) c.args.buffer.now w.answer.new.buffer) (sym w.in-None.is)
+          (served_broken (view_of c.self.inside.vault.tree c.self.inside.entries None) (view_of w.answer.new.self.tree c.self.inside.entries None) before after' source entropy' request c.args.now c.args.buffer.now w.answer.new.buffer
+          (w.in-Err.ensures.outcome c.self.inside.entries)))
+    ]
+
+served : (g : Over) (c : goal.After-self-2-1 g)
+    → IsServed c.args.self.now.store (view_of c.match-self.self-inside.vault.tree c.saturating_add-self-inside.result c.match-self.self-inside.stopped)
+    (folder_view g.D.Reads.log g.D.Reads.faults g.D.Reads.changes c.args.self.now.folder) (folder_view g.D.Reads.log g.D.Reads.faults g.D.Reads.changes c.match-self.self-inside.vault.journal)
+    (entropy_view g.E.Entropy.drawn g.E.Entropy.faults c.args.entropy.now) (entropy_view g.E.Entropy.drawn g.E.Entropy.faults c.match-self.entropy) (plain_request c.args.request.now) c.args.now c.match-self.reply c.args.buffer.now c.match-self.buffer
+served g c =
+    subst (λ (v : OpenVault g.row.D.Denot). IsServed v.store (view_of c.match-self.self-inside.vault.tree c.saturating_add-self-inside.result c.match-self.self-inside.stopped)
+    (folder_view g.D.Reads.log g.D.Reads.faults g.D.Reads.changes v.folder) (folder_view g.D.Reads.log g.D.Reads.faults g.D.Reads.changes c.match-self.self-inside.vault.journal)
+    (entropy_view g.E.Entropy.drawn g.E.Entropy.faults c.args.entropy.now) (entropy_view g.E.Entropy.drawn g.E.Entropy.faults c.match-self.entropy) (plain_request c.args.request.now) c.args.now c.match-self.reply c.args.buffer.now c.match-self.buffer) c.self.view_is (served_inside g c)
 
 pub returns-clause-entry : goal.returns-clause-entry
-returns-clause-entry g c =
-    let kept = c.reply-reply.ensures.kept in
-    adds_entry (folder_view g.D.Reads.log g.D.Reads.faults g.D.Reads.changes) c.args.self.now (record c.reply-reply.new.self { entries = c.saturating_add-self.result }) (plain_request c.args.request.now) c.args.now
-    (plain_reply c.reply-reply.result) c.args.buffer.now c.reply-reply.new.buffer (g.E.Entropy.faults c.args.entropy.now) (g.E.Entropy.faults c.args.entropy.now)
-    (record { log = c.reply-reply.ensures.log; changes = c.reply-reply.ensures.changes; faults = c.reply-reply.ensures.later }) (omega arith) kept.keys kept.tree kept.opened_at
-    (c.saturating_add-self.ensures ∙ ap (λ (n : ℕ). min (n + 1) (2 ^ 64 - 1)) kept.entries) c.reply-reply.ensures.replied
+returns-clause-entry g c = (served g c).entry
 
 pub returns-clause-form : goal.returns-clause-form
-returns-clause-form g c = c.reply-reply.ensures.replied.form
+returns-clause-form g c = (served g c).formed.form
+
+pub returns-clause-count : goal.returns-clause-count
+returns-clause-count g c = (served g c).formed.count
 
 pub returns-clause-enters : goal.returns-clause-enters
-returns-clause-enters g c = c.reply-reply.ensures.replied.enters
+returns-clause-enters g c = (served g c).formed.enters
 
 pub returns-clause-rest : goal.returns-clause-rest
-returns-clause-rest g c = c.reply-reply.ensures.replied.rest
+returns-clause-rest g c = (served g c).formed.rest

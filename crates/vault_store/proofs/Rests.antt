@@ -1,0 +1,79 @@
+-- After a reply a vault is at rest again.
+use Rattle.std.proofs.Common.{◌≡◌, ◌⊎◌, ℕ, List, OnOk, Option, Result, Ok, Err, sym, subst, inl, inr}
+use Rattle.outside.specs.Calls.{Told}
+use Rattle.outside.specs.Disk.{Disk}
+use Rattle.outside.specs.Images.{Log, now}
+use Rattle.outside.specs.Views.{FolderView, EntropyView}
+use Rattle.outside.proofs.Told.{told_both, told_new, changed_from}
+use Rattle.siv_mode.specs.Keys.{KeyPair}
+use Rattle.tree_model.specs.declared.reply.Reply.{Reply}
+use Rattle.tree_model.specs.Rows.{Content}
+use Rattle.tree_model.specs.Asked.{PlainRequest}
+use Rattle.tree_model.specs.Step.{Answer}
+use Rattle.tree_history.specs.History.{rows_then, answer_of}
+use Rattle.clear_tree.specs.Walk.{Sealing}
+use Rattle.directory_scan.specs.Format.{sealing_of}
+use Rattle.live_tree.specs.Held.{HeldTree, live_rows}
+use Rattle.node_changes.specs.Changed.{IsAtRest, StandsOn, ShowsRows, HasChanged}
+use Rattle.store_history.specs.Store.{StoreView}
+use Rattle.store_history.specs.Turns.{Turn, IsQuietTurn, IsChangedTurn, made_of}
+use Rattle.store_history.proofs.Shows.{stands_beside}
+use Rattle.vault_store.specs.declared.answering.Broken.{Broken}
+use Rattle.vault_store.specs.Open.{running, counted}
+use Rattle.vault_store.specs.Outcome.{IsOutcome}
+use Rattle.vault_store.proofs.Turns.{told_log}
+
+-- a committed change leaves it so
+rests_changed : (s : Sealing) (request : PlainRequest) (second : ℕ) (answer : Answer) (live live' : HeldTree) (claims claims' : List (List ℕ × ℕ)) (a b : Log) → IsAtRest s live claims a
+    → HasChanged s request second answer live live' claims claims' a b → IsAtRest s live' claims' b
+rests_changed s request second answer live live' claims claims' a b rest is =
+    let shown : ShowsRows s _ is.makes.after live' claims' = is.makes.stepped rest.contents rest.stands in
+    record {
+      quiet = is.committed.at_rest;
+      contents = shown.contents;
+      stands = stands_beside s is.makes.after (now b) live' claims' shown.contents shown.stands is.committed.at_rest.steady.tree (is.committed.after is.makes.after is.makes.does);
+    }
+
+module _ (keys keys' : KeyPair) (live live' : HeldTree) (claims claims' : List (List ℕ × ℕ)) (entries : ℕ) (before after : FolderView) (source source' : EntropyView) where
+  abbrev s : Sealing
+  s = sealing_of keys
+
+  abbrev old : StoreView
+  old = running keys live claims entries
+
+  abbrev new : StoreView
+  new = running keys' live' claims' entries
+
+  module _ (turn : Turn) (rest : Told before.log (IsAtRest s live claims)) where
+    abbrev ShownOn : Disk → Type 0
+    ShownOn d = (contents : ℕ → Content) → StandsOn s d live claims contents → ShowsRows s (rows_then (live_rows contents live) (made_of turn before after source source')) d live' claims'
+
+    rests_quiet : IsQuietTurn old (counted new) before after source source' turn → Told after.log (IsAtRest s live' claims')
+    rests_quiet is =
+        subst (λ (o : Option Log). Told o (IsAtRest s live' claims')) (sym is.log)
+        (told_both before.log (IsAtRest s live claims) (λ log. ShownOn (now log)) (IsAtRest s live' claims') rest (told_log before.log ShownOn is.shown)
+        (λ log rest shown.
+        let shows = shown rest.contents rest.stands in
+        record { quiet = rest.quiet; contents = shows.contents; stands = shows.stands }))
+
+    abbrev ChangedTo : Log → Log → Type 0
+    ChangedTo a b = HasChanged s turn.asked.request turn.asked.second (answer_of (made_of turn before after source source')) live live' claims claims' a b
+
+    abbrev RestsAfter : Log → Log → Type 0
+    RestsAfter a b = IsAtRest s live' claims' b
+
+    rests_after : IsChangedTurn old (counted new) before after source source' turn → Told after.log (IsAtRest s live' claims')
+    rests_after is =
+        told_new before.log after.log RestsAfter (IsAtRest s live' claims') (λ a b is. is)
+        (changed_from before.log after.log (IsAtRest s live claims) ChangedTo RestsAfter
+        (λ a b rest is. rests_changed s turn.asked.request turn.asked.second (answer_of (made_of turn before after source source')) live live' claims claims' a b rest is) rest is.changed)
+
+    rests_turn : IsQuietTurn old (counted new) before after source source' turn ⊎ IsChangedTurn old (counted new) before after source source' turn → Told after.log (IsAtRest s live' claims')
+    rests_turn (inl quiet) = rests_quiet quiet
+    rests_turn (inr changed) = rests_after changed
+
+  pub rests : (request : PlainRequest) (second : ℕ) (result : Result Reply Broken) (buffer buffer' : List ℕ) → keys' ≡ keys → Told before.log (IsAtRest (sealing_of keys) live claims)
+      → IsOutcome old new before after source source' request second result buffer buffer' → OnOk result (Told after.log (IsAtRest (sealing_of keys') live' claims'))
+  rests request second (Ok reply) buffer buffer' same rest is =
+      subst (λ (k : KeyPair). Told after.log (IsAtRest (sealing_of k) live' claims')) (sym same) (rests_turn is.turn.turn rest is.turn.is)
+  rests request second (Err broken) buffer buffer' same rest is = tt

@@ -1,0 +1,48 @@
+-- An open vault as clauses see it.
+use Rattle.std.specs.Prelude.{◌≡◌, ℕ, ◌≤◌, suc, List, Option, Some, None, IsNone}
+use Rattle.outside.specs.Calls.{Told}
+use Rattle.outside.specs.Images.{Log, now}
+use Rattle.siv_mode.specs.Keys.{KeyPair}
+use Rattle.clear_tree.specs.Kept.{KeptTree, IsKept}
+use Rattle.directory_scan.specs.Format.{sealing_of}
+use Rattle.live_tree.specs.Held.{HeldTree}
+use Rattle.held_changes.specs.Loading.{loaded_tree}
+use Rattle.name_places.specs.Claims.{AreClaimsOf}
+use Rattle.node_changes.specs.Changed.{IsAtRest}
+use Rattle.node_changes.specs.declared.tree.VaultTree.{VaultTree}
+use Rattle.store_history.specs.Store.{StoreView, bounded}
+
+-- what it is in memory, and its folder
+pub record OpenVault (D : Type 0) : Type 0 where
+  pub store : StoreView
+  pub folder : D
+
+abbrev pub view_of : VaultTree → ℕ → Option ℕ → StoreView
+view_of tree entries stopped = record { keys = tree.keys; live = tree.live; claims = tree.claims; entries = entries; stopped = stopped }
+
+-- one that runs
+abbrev pub running : KeyPair → HeldTree → List (List ℕ × ℕ) → ℕ → StoreView
+running keys live claims entries = record { keys = keys; live = live; claims = claims; entries = entries; stopped = None }
+
+-- what was kept of a disk, in memory
+pub record IsLoadedTree (keys : KeyPair) (unlocked threshold : ℕ) (log : Option Log) (tree : VaultTree) : Type 0 where
+  pub keys_are : tree.keys ≡ keys
+  pub threshold_is : tree.threshold ≡ threshold
+  pub kept : KeptTree
+  pub live : tree.live ≡ loaded_tree unlocked kept
+  pub claims : AreClaimsOf (sealing_of keys) tree.live tree.claims
+  pub loaded : Told log (λ log. IsKept (sealing_of keys) (now log) kept)
+
+-- a vault whose names have places by this threshold, and that is at rest between requests, until a commit fails
+pub record IsResting (log : Option Log) (threshold : ℕ) (store : StoreView) : Type 0 where
+  pub least : 1 ≤ threshold
+  pub most : threshold ≤ 250
+  pub rests : IsNone store.stopped → Told log (IsAtRest (sealing_of store.keys) store.live store.claims)
+
+-- with one entry more
+abbrev pub counted : StoreView → StoreView
+counted store = record store { entries = bounded (suc store.entries) }
+
+-- and stopped in that entry
+abbrev pub stopped_in : StoreView → StoreView
+stopped_in store = record store { entries = bounded (suc store.entries); stopped = Some store.entries }

@@ -1,0 +1,38 @@
+-- What a request comes to, before it is counted as an entry.
+use Rattle.std.specs.Prelude.{◌≡◌, ◌⊎◌, ℕ, List, false, Result, Ok, Err}
+use Rattle.outside.specs.Views.{FolderView, EntropyView}
+use Rattle.tree_model.specs.declared.reply.Reply.{Reply}
+use Rattle.tree_model.specs.declared.refusal.Refusal.TheVariants as refusals
+use Rattle.tree_model.specs.Asked.{Asked, PlainRequest, plain_reply, refused, asked_of, bytes_put, is_exhausted, HasCount, IsReplyTo, KeepsRest}
+use Rattle.store_history.specs.Store.{StoreView}
+use Rattle.store_history.specs.Turns.{Turn, IsQuietTurn, IsChangedTurn, IsBrokenTurn}
+use Rattle.vault_store.specs.declared.answering.Broken.{Broken}
+use Rattle.vault_store.specs.Open.{counted, stopped_in}
+
+-- the turn of a request that was asked and answered so
+pub record IsTurnOf (asked : Asked) (P : Turn → Type 0) : Type 0 where
+  pub turn : Turn
+  pub same : turn.asked ≡ asked
+  pub is : P turn
+
+-- the form of a reply, with the bytes that it puts into the buffer
+pub record IsFormed (request : PlainRequest) (reply : Reply) (old new : List ℕ) : Type 0 where
+  pub form : IsReplyTo request (plain_reply reply) (bytes_put request (plain_reply reply) new)
+  pub count : HasCount reply
+  pub enters : is_exhausted (plain_reply reply) ≡ false
+  pub rest : KeepsRest request (plain_reply reply) old new
+
+-- a reply: nothing was changed on the disk, or a change was committed
+pub record HasReply (old new : StoreView) (before after : FolderView) (source source' : EntropyView) (request : PlainRequest) (second : ℕ) (reply : Reply) (buffer buffer' : List ℕ) : Type 0 where
+  pub formed : IsFormed request reply buffer buffer'
+  pub turn : IsTurnOf (asked_of request second (plain_reply reply) buffer') (λ turn.
+      IsQuietTurn old (counted new) before after source source' turn ⊎ IsChangedTurn old (counted new) before after source source' turn)
+
+-- a commit failed
+pub record HasBroken (old new : StoreView) (before after : FolderView) (source source' : EntropyView) (request : PlainRequest) (second : ℕ) (buffer buffer' : List ℕ) : Type 0 where
+  pub turn : IsTurnOf (asked_of request second (refused refusals.DeviceFault) buffer') (λ turn. IsBrokenTurn old (stopped_in new) before after source source' turn)
+  pub buffer_is : buffer' ≡ buffer
+
+abbrev pub IsOutcome : StoreView → StoreView → FolderView → FolderView → EntropyView → EntropyView → PlainRequest → ℕ → Result Reply Broken → List ℕ → List ℕ → Type 0
+IsOutcome old new before after source source' request second (Ok reply) buffer buffer' = HasReply old new before after source source' request second reply buffer buffer'
+IsOutcome old new before after source source' request second (Err broken) buffer buffer' = HasBroken old new before after source source' request second buffer buffer'

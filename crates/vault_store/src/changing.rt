@@ -1,0 +1,129 @@
+ghost use Rattle.std.specs.Prelude.{◌≡◌, ◌≤◌, ℕ, List, None, Ok, IsErr};
+ghost use Rattle.outside.specs.Calls.{Told};
+ghost use Rattle.outside.specs.Views.{EntropyView, entropy_view, folder_view};
+ghost use Rattle.directory_scan.specs.Format.{sealing_of};
+ghost use Rattle.tree_model.specs.declared.reply.Reply.TheVariants as replies;
+ghost use Rattle.tree_model.specs.Asked.{create as create_request, remove as remove_request, change as change_request, plain_change};
+ghost use Rattle.node_changes.specs.Changed.{IsAtRest};
+ghost use Rattle.node_changes.specs.Causes.{IfBroken, IfRefused};
+ghost use Rattle.vault_store.specs.Dated.{IsDated};
+ghost use Rattle.vault_store.specs.Open.{view_of};
+ghost use Rattle.vault_store.specs.Outcome.{IsOutcome};
+
+use crate::answering::{Broken, Vault};
+use crate::sizes::have_sizes;
+use change_plans::{Plan, plan_change};
+use node_changes::{ChangeErr, VaultTree};
+use outside::{Entropy, Folder};
+use tree_model::{Refusal, Reply, StatChange};
+
+impl<D: Folder> Vault<D> {
+    /// Makes a file or a directory.
+    pub(crate) fn create<E: Entropy>(
+        &mut self,
+        parent: u64,
+        name: &str,
+        is_dir: bool,
+        now: u32,
+        entropy: &mut E,
+    ) -> Result<Reply, Broken>
+        requires rest { Told (D.log self.old.journal) (IsAtRest (sealing_of self.old.tree.keys) self.old.tree.live self.old.tree.claims) }
+        requires threshold { (1 ≤ self.old.tree.threshold) × (self.old.tree.threshold ≤ 250) }
+        ensures outcome { (entries mode : ℕ) (buffer : List ℕ) → IsOutcome (view_of self.old.tree entries None) (view_of self.new.tree entries None)
+            (folder_view D.log D.faults D.changes self.old.journal) (folder_view D.log D.faults D.changes self.new.journal)
+            (entropy_view E.drawn E.faults entropy.old) (entropy_view E.drawn E.faults entropy.new)
+            (create_request parent name.now is_dir mode) now result buffer buffer }
+        ensures threshold { self.new.tree.threshold ≡ self.old.tree.threshold }
+        ensures keys { self.new.tree.keys ≡ self.old.tree.keys }
+        ensures faults { D.faults self.old.journal ≤ D.faults self.new.journal }
+        ensures entropy { E.faults entropy.old ≤ E.faults entropy.new }
+    {
+        match self
+            .tree
+            .create(&mut self.journal, entropy, parent, name, is_dir, now)
+        {
+            Ok(qid) => Ok(Reply::Qid(qid)),
+            Err(error) => refused(error),
+        }
+    }
+
+    /// Removes a node.
+    pub(crate) fn remove(&mut self, number: u64, now: u32) -> Result<Reply, Broken>
+        requires rest { Told (D.log self.old.journal) (IsAtRest (sealing_of self.old.tree.keys) self.old.tree.live self.old.tree.claims) }
+        requires threshold { (1 ≤ self.old.tree.threshold) × (self.old.tree.threshold ≤ 250) }
+        ensures outcome { (entries : ℕ) (source : EntropyView) (buffer : List ℕ) → IsOutcome (view_of self.old.tree entries None) (view_of self.new.tree entries None)
+            (folder_view D.log D.faults D.changes self.old.journal) (folder_view D.log D.faults D.changes self.new.journal)
+            source source (remove_request number) now result buffer buffer }
+        ensures threshold { self.new.tree.threshold ≡ self.old.tree.threshold }
+        ensures keys { self.new.tree.keys ≡ self.old.tree.keys }
+        ensures faults { D.faults self.old.journal ≤ D.faults self.new.journal }
+    {
+        match self.tree.remove(&mut self.journal, number, now) {
+            Ok(()) => Ok(Reply::Done),
+            Err(error) => refused(error),
+        }
+    }
+
+    /// Changes attributes of a node: its name or its length, and its mtime.
+    pub(crate) fn change<E: Entropy>(
+        &mut self,
+        number: u64,
+        change: &StatChange<'_>,
+        now: u32,
+        entropy: &mut E,
+    ) -> Result<Reply, Broken>
+        requires rest { Told (D.log self.old.journal) (IsAtRest (sealing_of self.old.tree.keys) self.old.tree.live self.old.tree.claims) }
+        requires threshold { (1 ≤ self.old.tree.threshold) × (self.old.tree.threshold ≤ 250) }
+        ensures outcome { (entries : ℕ) (buffer : List ℕ) → IsOutcome (view_of self.old.tree entries None) (view_of self.new.tree entries None)
+            (folder_view D.log D.faults D.changes self.old.journal) (folder_view D.log D.faults D.changes self.new.journal)
+            (entropy_view E.drawn E.faults entropy.old) (entropy_view E.drawn E.faults entropy.new)
+            (change_request number (plain_change change.now)) now result buffer buffer }
+        ensures threshold { self.new.tree.threshold ≡ self.old.tree.threshold }
+        ensures keys { self.new.tree.keys ≡ self.old.tree.keys }
+        ensures faults { D.faults self.old.journal ≤ D.faults self.new.journal }
+        ensures entropy { E.faults entropy.old ≤ E.faults entropy.new }
+    {
+        have_sizes(self.tree.keys());
+        match plan_change(self.alloc, self.tree.live(), number, change) {
+            Ok(Ok(Plan::Rename(name))) => {
+                match self
+                    .tree
+                    .rename(&mut self.journal, number, name, change.modified, now)
+                {
+                    Ok(()) => Ok(Reply::Done),
+                    Err(error) => refused(error),
+                }
+            }
+            Ok(Ok(Plan::Date)) => {
+                set_mtime(&mut self.tree, number, change.modified);
+                Ok(Reply::Done)
+            }
+            Ok(Ok(Plan::Resize(len))) => self.resize(number, len, change.modified, now, entropy),
+            Ok(Err(refusal)) => Ok(Reply::Refused(refusal)),
+            Err(_) => Ok(Reply::Refused(Refusal::OutOfMemory)),
+        }
+    }
+}
+
+// Sets the mtime that a change asks for, if it asks for one.
+fn set_mtime(tree: &mut VaultTree, number: u64, modified: Option<u32>)
+    ensures dated { IsDated tree.old.live tree.new.live number modified }
+    ensures claims { tree.new.claims ≡ tree.old.claims }
+    ensures keys { tree.new.keys ≡ tree.old.keys }
+    ensures threshold { tree.new.threshold ≡ tree.old.threshold }
+{
+    if let Some(modified) = modified {
+        tree.set_modified(number, modified);
+    }
+}
+
+/// A change that was refused, or whose commit failed.
+pub(crate) fn refused(error: ChangeErr) -> Result<Reply, Broken>
+    ensures refused { IfRefused error (λ refusal. result ≡ Ok (replies.Refused refusal)) }
+    ensures broken { IfBroken error (IsErr result) }
+{
+    match error {
+        ChangeErr::Refused(refusal) => Ok(Reply::Refused(refusal)),
+        ChangeErr::Broken => Err(Broken),
+    }
+}

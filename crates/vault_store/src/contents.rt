@@ -1,0 +1,153 @@
+ghost use Rattle.std.specs.Prelude.{◌≡◌, ◌≤◌, ℕ, List, None, true, length};
+ghost use Rattle.outside.specs.Calls.{Told};
+ghost use Rattle.outside.specs.Views.{entropy_view, folder_view};
+ghost use Rattle.directory_scan.specs.Format.{sealing_of};
+ghost use Rattle.tree_model.specs.Asked.{PlainChange, change as change_request, open_node as open_request, write as write_request};
+ghost use Rattle.tree_model.specs.Step.{truncates};
+ghost use Rattle.change_plans.specs.declared.planning.Plan.TheVariants.{Resize};
+ghost use Rattle.change_plans.specs.Files.{IsResizable};
+ghost use Rattle.change_plans.specs.Plans.{IsPlanned};
+ghost use Rattle.node_changes.specs.Changed.{IsAtRest};
+ghost use Rattle.vault_store.specs.Contents.{IsChangedQid};
+ghost use Rattle.vault_store.specs.Open.{view_of};
+ghost use Rattle.vault_store.specs.Outcome.{IsOutcome};
+
+use crate::answering::{Broken, Vault};
+use crate::changing::refused;
+use crate::sizes::have_sizes;
+use change_plans::{truncation_refusal, write_refusal};
+use live_tree::LiveTree;
+use outside::{Entropy, Folder};
+use tree_model::{Qid, Reply};
+
+impl<D: Folder> Vault<D> {
+    /// Writes at most 65,537 bytes into a file from the byte `at` on. A write of no byte changes nothing.
+    pub(crate) fn write<E: Entropy>(
+        &mut self,
+        number: u64,
+        at: u64,
+        bytes: &[u8],
+        now: u32,
+        entropy: &mut E,
+    ) -> Result<Reply, Broken>
+        requires few { length bytes.now ≤ 65537 }
+        requires rest { Told (D.log self.old.journal) (IsAtRest (sealing_of self.old.tree.keys) self.old.tree.live self.old.tree.claims) }
+        ensures outcome { (entries : ℕ) (buffer : List ℕ) → IsOutcome (view_of self.old.tree entries None) (view_of self.new.tree entries None)
+            (folder_view D.log D.faults D.changes self.old.journal) (folder_view D.log D.faults D.changes self.new.journal)
+            (entropy_view E.drawn E.faults entropy.old) (entropy_view E.drawn E.faults entropy.new)
+            (write_request number at bytes.now) now result buffer buffer }
+        ensures threshold { self.new.tree.threshold ≡ self.old.tree.threshold }
+        ensures keys { self.new.tree.keys ≡ self.old.tree.keys }
+        ensures faults { D.faults self.old.journal ≤ D.faults self.new.journal }
+        ensures entropy { E.faults entropy.old ≤ E.faults entropy.new }
+    {
+        have_sizes(self.tree.keys());
+        if let Some(refusal) = write_refusal(self.tree.live(), number, at, bytes.len()) {
+            return Ok(Reply::Refused(refusal));
+        }
+        if bytes.is_empty() {
+            return Ok(Reply::Count(0));
+        }
+        match self.files.write(
+            &mut self.tree,
+            &mut self.journal,
+            entropy,
+            number,
+            at,
+            bytes,
+            now,
+        ) {
+            Ok(()) => Ok(Reply::Count(bytes.len() as u32)),
+            Err(error) => refused(error),
+        }
+    }
+
+    /// Opens a node in a mode that truncates: gives a file the length 0.
+    pub(crate) fn truncate<E: Entropy>(
+        &mut self,
+        number: u64,
+        mode: u8,
+        now: u32,
+        entropy: &mut E,
+    ) -> Result<Reply, Broken>
+        requires cuts { truncates mode ≡ true }
+        requires rest { Told (D.log self.old.journal) (IsAtRest (sealing_of self.old.tree.keys) self.old.tree.live self.old.tree.claims) }
+        ensures outcome { (entries : ℕ) (buffer : List ℕ) → IsOutcome (view_of self.old.tree entries None) (view_of self.new.tree entries None)
+            (folder_view D.log D.faults D.changes self.old.journal) (folder_view D.log D.faults D.changes self.new.journal)
+            (entropy_view E.drawn E.faults entropy.old) (entropy_view E.drawn E.faults entropy.new)
+            (open_request number mode) now result buffer buffer }
+        ensures threshold { self.new.tree.threshold ≡ self.old.tree.threshold }
+        ensures keys { self.new.tree.keys ≡ self.old.tree.keys }
+        ensures faults { D.faults self.old.journal ≤ D.faults self.new.journal }
+        ensures entropy { E.faults entropy.old ≤ E.faults entropy.new }
+    {
+        have_sizes(self.tree.keys());
+        if let Some(refusal) = truncation_refusal(self.tree.live(), number, mode) {
+            return Ok(Reply::Refused(refusal));
+        }
+        let qid = changed_qid(self.tree.live(), number);
+        match self.files.resize(
+            &mut self.tree,
+            &mut self.journal,
+            entropy,
+            number,
+            0,
+            None,
+            now,
+        ) {
+            Ok(()) => Ok(Reply::Qid(qid)),
+            Err(error) => refused(error),
+        }
+    }
+
+    /// Gives a file another length in bytes, and an mtime, if one is asked for, as a change that was planned so asks.
+    pub(crate) fn resize<E: Entropy>(
+        &mut self,
+        number: u64,
+        len: u64,
+        modified: Option<u32>,
+        now: u32,
+        entropy: &mut E,
+    ) -> Result<Reply, Broken>
+        requires file { IsResizable self.old.tree.live number len }
+        requires rest { Told (D.log self.old.journal) (IsAtRest (sealing_of self.old.tree.keys) self.old.tree.live self.old.tree.claims) }
+        ensures outcome { (entries : ℕ) (buffer : List ℕ) (c : PlainChange) → c.modified ≡ modified → IsPlanned self.old.tree.live number c (Resize len)
+            → IsOutcome (view_of self.old.tree entries None) (view_of self.new.tree entries None)
+            (folder_view D.log D.faults D.changes self.old.journal) (folder_view D.log D.faults D.changes self.new.journal)
+            (entropy_view E.drawn E.faults entropy.old) (entropy_view E.drawn E.faults entropy.new)
+            (change_request number c) now result buffer buffer }
+        ensures threshold { self.new.tree.threshold ≡ self.old.tree.threshold }
+        ensures keys { self.new.tree.keys ≡ self.old.tree.keys }
+        ensures faults { D.faults self.old.journal ≤ D.faults self.new.journal }
+        ensures entropy { E.faults entropy.old ≤ E.faults entropy.new }
+    {
+        have_sizes(self.tree.keys());
+        match self.files.resize(
+            &mut self.tree,
+            &mut self.journal,
+            entropy,
+            number,
+            len,
+            modified,
+            now,
+        ) {
+            Ok(()) => Ok(Reply::Done),
+            Err(error) => refused(error),
+        }
+    }
+}
+
+// The qid that the file of a number has once its content changed.
+fn changed_qid(tree: &LiveTree, number: u64) -> Qid
+    requires { (len : ℕ) × IsResizable tree.now number len }
+    ensures { IsChangedQid tree.now number result }
+{
+    match tree.node(number) {
+        Some(node) => Qid {
+            kind: Qid::FILE,
+            version: node.version().wrapping_add(1),
+            path: number,
+        },
+        None => unreachable!(),
+    }
+}
