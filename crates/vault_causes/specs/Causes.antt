@@ -1,5 +1,5 @@
 -- Why a job isn't done: its status, its line of the report, and the errors that it comes from.
-use Rattle.std.specs.Prelude.{ℕ, List, ◌++◌, codes}
+use Rattle.std.specs.Prelude.{ℕ, List, ◌++◌, codes, decimal}
 use Rattle.vault_keys.specs.Errors as keys
 use Rattle.vault_keys.specs.declared.errors.UnlockErr.{UnlockErr}
 use Rattle.vault_keys.specs.declared.errors.UnlockErr.TheVariants as unlock_errs
@@ -10,7 +10,7 @@ use Rattle.vault_unlock.specs.declared.refusal.Refusal.TheVariants as refusals
 use Rattle.vault_make.specs.declared.error.MakeErr.{MakeErr}
 use Rattle.vault_make.specs.declared.error.MakeErr.TheVariants as make_errs
 use Rattle.vault_causes.specs.declared.cause.Cause.{Cause}
-use Rattle.vault_causes.specs.declared.cause.Cause.TheVariants.{Words, Secret, KeyFiles, TooManyNodes, NoRoot, NotEmpty, FolderFault, SecretFault, RandomFault, Memory}
+use Rattle.vault_causes.specs.declared.cause.Cause.TheVariants.{Words, Secret, KeyFiles, TooManyNodes, NoRoot, JournalDamaged, NotEmpty, FolderFault, SecretFault, RandomFault, Memory}
 
 -- the line of the report, without its LF
 abbrev pub text_of : Cause → List ℕ
@@ -19,6 +19,7 @@ text_of Secret = codes "bad secret"
 text_of (KeyFiles error) = keys.error_text error
 text_of TooManyNodes = codes "vault refused: too many nodes"
 text_of NoRoot = codes "vault refused: no root"
+text_of (JournalDamaged at) = codes "journal damaged at " ++ decimal at
 text_of (NotEmpty name) = codes "not empty: " ++ name
 text_of FolderFault = codes "device fault: folder"
 text_of SecretFault = codes "device fault: secret"
@@ -32,6 +33,7 @@ status_of Secret = 2
 status_of (KeyFiles error) = keys.status_of error
 status_of TooManyNodes = 3
 status_of NoRoot = 3
+status_of (JournalDamaged at) = 6
 status_of (NotEmpty name) = 8
 status_of FolderFault = 4
 status_of SecretFault = 4

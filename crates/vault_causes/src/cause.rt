@@ -23,6 +23,8 @@ pub enum Cause {
     TooManyNodes,
     /// The folder of the vault's root is absent.
     NoRoot,
+    /// The journal that a stop left in the folder is damaged, at this place of its file in bytes.
+    JournalDamaged(u64),
     /// The folder isn't empty, in which a vault was to be made: this is its first entry, by the order of the names' bytes.
     NotEmpty(Text),
     /// The folder's count of faults rose.
@@ -85,8 +87,8 @@ impl From<MakeErr> for Cause {
 }
 
 impl Cause {
-    /// The program's exit status: 1 for the words, 2 for the secret and the password, 3 for the vault, 4 for a fault, 5 for memory, and
-    /// 8 for a folder that isn't empty.
+    /// The program's exit status: 1 for the words, 2 for the secret and the password, 3 for the vault, 4 for a fault, 5 for memory,
+    /// 6 for a damaged journal, and 8 for a folder that isn't empty.
     pub fn status(&self) -> u8
         ensures { result ≡ status_of self.now }
     {
@@ -97,6 +99,7 @@ impl Cause {
             Cause::TooManyNodes | Cause::NoRoot => 3,
             Cause::FolderFault | Cause::SecretFault | Cause::RandomFault => 4,
             Cause::Memory => 5,
+            Cause::JournalDamaged(_) => 6,
             Cause::NotEmpty(_) => 8,
         }
     }
@@ -111,6 +114,10 @@ impl Cause {
             Cause::KeyFiles(error) => key_files_line(*error, digits),
             Cause::TooManyNodes => whole("vault refused: too many nodes"),
             Cause::NoRoot => whole("vault refused: no root"),
+            Cause::JournalDamaged(at) => Line {
+                head: "journal damaged at ",
+                detail: digits.format(*at).as_bytes(),
+            },
             Cause::NotEmpty(name) => Line {
                 head: "not empty: ",
                 detail: name.as_bytes(),

@@ -1,15 +1,13 @@
 -- What each caller has in the one history of all workers' sessions.
 use Rattle.std.proofs.Common.{◌≡◌, ℕ, zero, suc, ◌+◌, ◌≤◌, Bool, true, false, eqb, cond, List, [], ◌∷◌, length, map, refl, sym, ap, subst, ◌∙◌, arith}
-use Rattle.std.specs.List.{AllByRecursion}
-use Rattle.outside.specs.Views.{EntropyView}
 use Rattle.tree_model.specs.Asked.{entered}
-use Rattle.tree_history.specs.History.{Made, Entry, entries_of, Tally, next, after, Origin, tally_of}
+use Rattle.tree_history.specs.History.{Entry, entries_of, Tally, next, after, Origin, tally_of}
 use Rattle.shared_vault.specs.Clients.{AreDrawnFor}
 use Rattle.shared_sessions.specs.Joined.{AreSince, AreCallers}
 use Rattle.shared_sessions.specs.declared.workers.Worker.{Worker}
 use Rattle.vault_top.specs.Span.{Views, WorkerSpan, worker_spans}
-use Rattle.vault_top.specs.Served.{Share, asked_by, entropy_before, entropy_after}
-use Rattle.vault_top.specs.Sharing.{is_undrawn}
+use Rattle.store_history.specs.Turns.{draws_for}
+use Rattle.vault_top.specs.Served.{Share, AreAllDrawn, asked_by, entropy_before, entropy_after}
 
 -- ---- one caller
 
@@ -28,21 +26,20 @@ faults_stay j tally (entry ∷ entries) none =
     let other = not_own j entry entries (eqb entry.caller j) refl none in
     faults_stay j (next tally entry) entries other.1 ∙ ap (λ (b : Bool). cond b entry.made.entropy.after (tally.entropy_faults j)) (eqb_sym j entry.caller ∙ other.0)
 
-undrawn_of : (before after : EntropyView) (made : List Made) → AreDrawnFor is_undrawn before after made → after.drawn ≡ before.drawn
-undrawn_of before after [] h = ap (λ (v : EntropyView). v.drawn) h
-undrawn_of before after (made ∷ others) h = undrawn_of h.next after others h.rest ∙ h.source.drawn
-
 -- ---- all callers
 
 module _ {C : Type 0} (origin : Origin) (entries : List Entry) where
-  pub all_undrawn : (k : ℕ) (workers : List (WorkerSpan C)) (shares : List (Share C)) → AreCallers is_undrawn origin entries k workers shares
-      → AllByRecursion (λ worker. worker.entropy.after.drawn ≡ worker.entropy.before.drawn) workers
-  all_undrawn k [] shares h = tt
-  all_undrawn k (worker ∷ workers) [] h = absurd h
-  all_undrawn k (worker ∷ workers) (share ∷ shares) h = (undrawn_of worker.entropy.before worker.entropy.after _ h.0.drawn, all_undrawn (k + 1) workers shares h.1)
+  -- each one's random source gave what its entries drew
+  pub all_drawn : (k n : ℕ) (workers : List (WorkerSpan C)) (shares : List (Share C)) → k ≡ n → AreCallers draws_for origin entries k workers shares → AreAllDrawn entries n workers
+  all_drawn k n [] shares same h = tt
+  all_drawn k n (worker ∷ workers) [] same h = absurd h
+  all_drawn k n (worker ∷ workers) (share ∷ shares) same h = (
+    subst (λ (m : ℕ). AreDrawnFor draws_for worker.entropy.before worker.entropy.after (map (λ entry. entry.made) (entries_of m entries))) same h.0.drawn,
+    all_drawn (k + 1) (suc n) workers shares (omega arith) h.1,
+  )
 
   -- what the caller of a number was asked, where none past the last was asked anything
-  pub callers_at : (n k i : ℕ) (workers : List (WorkerSpan C)) (shares : List (Share C)) → n ≡ k + i → AreCallers is_undrawn origin entries k workers shares
+  pub callers_at : (n k i : ℕ) (workers : List (WorkerSpan C)) (shares : List (Share C)) → n ≡ k + i → AreCallers draws_for origin entries k workers shares
       → ((j : ℕ) → k + length workers ≤ j → entries_of j entries ≡ []) → map (λ entry. entry.made.asked) (entries_of n entries) ≡ entered (asked_by shares i)
   callers_at n k i [] [] is h none = ap (λ (es : List Entry). map (λ entry. entry.made.asked) es) (none n (omega arith))
   callers_at n k i [] (share ∷ shares) is h none = absurd h
@@ -52,7 +49,7 @@ module _ {C : Type 0} (origin : Origin) (entries : List Entry) where
   callers_at n k (suc i) (worker ∷ workers) (share ∷ shares) is h none = callers_at n (k + 1) i workers shares (omega arith) h.1 (λ j past. none j (omega arith))
 
   -- the faults of its random source, where past the last there are none
-  pub faults_at : (n k i : ℕ) (workers : List (WorkerSpan C)) (shares : List (Share C)) → n ≡ k + i → AreCallers is_undrawn origin entries k workers shares
+  pub faults_at : (n k i : ℕ) (workers : List (WorkerSpan C)) (shares : List (Share C)) → n ≡ k + i → AreCallers draws_for origin entries k workers shares
       → ((j : ℕ) → k + length workers ≤ j → (tally_of origin entries).entropy_faults j ≤ 0) → (tally_of origin entries).entropy_faults n ≤ entropy_after workers i
   faults_at n k i [] [] is h none = none n (omega arith)
   faults_at n k i [] (share ∷ shares) is h none = absurd h

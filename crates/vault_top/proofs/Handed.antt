@@ -1,9 +1,9 @@
 -- What is handed back after serving.
-use Rattle.std.proofs.Common.{◌≡◌, ℕ, List, length, min, Option, Some, None, Result, refl, sym, subst, ◌∙◌, inl}
-use Rattle.std.specs.Prelude.{IfSome, IsErr}
+use Rattle.std.proofs.Common.{◌≡◌, ℕ, List, [], length, min, Option, Some, None, Result, refl, sym, subst, inl}
+use Rattle.std.specs.Prelude.{IfSome, option_map}
 use Rattle.outside.specs.declared.stream.Failed.{Failed}
-use Rattle.outside.specs.Calls.{Rose}
 use Rattle.outside.specs.Views.{FolderView}
+use Rattle.siv_mode.specs.Keys.{KeyPair}
 use Rattle.tree_model.specs.Rows.{Rows}
 use Rattle.tree_history.specs.History.{Entry, Origin}
 use Rattle.session_server.specs.declared.ending.SessionEnd.{SessionEnd}
@@ -13,34 +13,31 @@ use Rattle.session_workers.specs.Workers.{MayStop}
 use Rattle.shared_sessions.specs.Workers as spans
 use Rattle.shared_sessions.specs.Joined.{IsJoined}
 use Rattle.shared_sessions.specs.declared.workers.Worker.{Worker}
-use Rattle.vault_store.specs.Store.{IsOnlyRead, folder_in}
-use Rattle.vault_store.specs.declared.store.Store.{Store}
+use Rattle.shared_vault.specs.Turns.{StandsFor}
+use Rattle.store_history.specs.Turns.{draws_for}
+use Rattle.vault_store.specs.Open.{OpenVault}
 use Rattle.vault_top.specs.Span.{Views}
-use Rattle.vault_top.specs.Sharing.{is_undrawn, IsSharedStore}
-use Rattle.vault_top.specs.Serving.{HasOutcome, HasServed}
+use Rattle.vault_top.specs.Sharing.{IsSharedStore}
+use Rattle.vault_top.specs.Serving.{HasOutcome, HasServed, IsUnasked}
 use Rattle.vault_top.specs.declared.serving.HandedBack.{HandedBack}
-use Rattle.vault_top.specs.declared.serving.Outcome.{Outcome}
-use Rattle.vault_top.specs.declared.serving.Outcome.TheVariants.{Served, ListenerFault, FolderFault, NoMemory}
 use Rattle.vault_top.specs.declared.task.Service.{Service}
 
-pub some_then : {X : Type 0} (contents : Option X) (P Q : X → Type 0) → ((x : X) → P x → Q x) → IfSome contents P → IfSome contents Q
-some_then None P Q f h = tt
-some_then (Some x) P Q f h = f x h
-
--- an outcome of the same counts, where what failed has a cause
-pub outcome_as : (counts counts' : Result SessionCounts Failed) (F G : Type 0) (outcome : Outcome) → counts ≡ counts' → (F → G) → HasOutcome counts F outcome → HasOutcome counts' G outcome
-outcome_as counts counts' F G (Served c) same cause h = sym same ∙ h
-outcome_as counts counts' F G ListenerFault same cause h = subst (λ (r : Result SessionCounts Failed). IsErr r) same h
-outcome_as counts counts' F G FolderFault same cause h = cause h
-outcome_as counts counts' F G NoMemory same cause h = h
+-- the folder of a store that stood for no entries, if it is left
+pub unasked : {V D : Type 0} (store_of : V → OpenVault D) (view : D → FolderView) (start : Rows → Origin → Type 0) (since : FolderView → KeyPair → Rows → Type 0) (left : Option V) (folder : Option D)
+    → folder ≡ option_map (λ vault. (store_of vault).folder) left
+    → IfSome left (λ vault. StandsFor start (λ v rows origin history. IsSharedStore view since (store_of v) rows origin history) vault [])
+    → IfSome folder (IsUnasked view start since)
+unasked store_of view start since None folder same h = subst (λ (o : Option _). IfSome o (IsUnasked view start since)) (sym same) tt
+unasked store_of view start since (Some vault) folder same h = subst (λ (o : Option _). IfSome o (IsUnasked view start since)) (sym same)
+    (record { rows = h.rows; origin = h.origin; begins = h.begins; store = (store_of vault).store; shared = h.right })
 
 -- a tree that stands for what a store does was served, and the store was closed
-pub served_all : {T D N C E : Type 0} (stands : T → Rows → Origin → List Entry → Type 0) (start : Rows → Origin → Type 0) (since : FolderView → Type 0) (views : Views D N C E) (second : Option ℕ) (service : Service) (workers workers' : List (Worker N E))
-    (tree : T) (store : Store D) (counts : Result SessionCounts Failed) (back : HandedBack D) (folder : D) (at_once : ℕ) → at_once ≡ min service.at_once (length workers)
-    → (rows : Rows) × (origin : Origin) × start rows origin × IsJoined stands is_undrawn views.listener views.entropy views.link second service.sessions at_once rows origin tree workers workers' counts
+pub served_all : {T D N C E : Type 0} (stands : T → Rows → Origin → List Entry → Type 0) (start : Rows → Origin → Type 0) (since : FolderView → KeyPair → Rows → Type 0) (views : Views D N C E) (second : Option ℕ) (service : Service) (workers workers' : List (Worker N E))
+    (tree : T) (store : OpenVault D) (counts : Result SessionCounts Failed) (back : HandedBack D) (folder : D) (at_once : ℕ) → at_once ≡ min service.at_once (length workers)
+    → (rows : Rows) × (origin : Origin) × start rows origin × IsJoined stands draws_for views.listener views.entropy views.link second service.sessions at_once rows origin tree workers workers' counts
     → ((rows : Rows) (origin : Origin) (history : List Entry) → stands tree rows origin history → IsSharedStore views.folder since store rows origin history)
-    → back.folder ≡ Some folder → IsOnlyRead (views.folder (folder_in store)) (views.folder folder)
-    → HasOutcome counts (Rose (views.folder (folder_in store)).faults (views.folder folder).faults) back.outcome
+    → back.folder ≡ Some folder → folder ≡ store.folder
+    → HasOutcome counts store.store.stopped back.outcome
     → (ends : List SessionEnd) × HasServed start since views second service workers workers' ends back
 served_all stands start since views second service workers workers' tree store counts back folder at_once few h right is closed outcome =
     let j = h.3 in (

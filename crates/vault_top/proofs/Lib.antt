@@ -5,9 +5,11 @@ pub mod Written
 pub mod Outcomes
 pub mod Opened
 pub mod Begun
+pub mod Left
 pub mod Handed
 pub mod Reasons
 pub mod Asked
 pub mod Numbers
+pub mod Faults
 pub mod Soundness
 pub mod SoundMaking

@@ -1,28 +1,60 @@
 -- Why an unlocked vault isn't opened.
-use Rattle.std.proofs.Common.{◌≡◌, ℕ, Option, refl, subst}
-use Rattle.outside.specs.Calls.{Rose, Told}
-use Rattle.outside.specs.Disk.{IsFolder}
-use Rattle.outside.specs.Images.{Log, disk_in}
+use Rattle.std.proofs.Common.{◌≡◌, ◌⊎◌, ℕ, Option, Some, None, refl, subst}
+use Rattle.outside.specs.Calls.{Rose, Told, Changes}
+use Rattle.outside.specs.Disk.{Disk, IsFolder}
+use Rattle.outside.specs.Images.{Log, disk_in, now}
 use Rattle.outside.specs.Views.{FolderView}
+use Rattle.outside.proofs.Told.{changed_by}
+use Rattle.siv_mode.specs.Keys.{KeyPair}
 use Rattle.session_server.proofs.Links.{rose_later}
+use Rattle.chunk_journal.specs.Opening.{HasOpened, IsDamagedAt, LeavesFolder, StaysOpening}
+use Rattle.stop_history.specs.Opening.{IsSoundlyFound, OpeningRecovers}
+use Rattle.store_history.specs.Store.{shows_under}
+use Rattle.store_history.proofs.Ends.{failed_openings_recover}
 use Rattle.vault_keys.specs.Unlock.{UnlockedVault}
 use Rattle.tree_loading.specs.Clear.{HasTooMany, root_folder}
-use Rattle.vault_store.specs.Store.{IsOnlyRead}
 use Rattle.vault_store.specs.declared.opening.OpenErr.{OpenErr}
-use Rattle.vault_store.specs.declared.opening.OpenErr.TheVariants.{Device, TooMany, NoRoot, Memory}
-use Rattle.vault_top.specs.Span.{Course, SourceView, given_of}
+use Rattle.vault_store.specs.declared.opening.OpenErr.TheVariants.{Device, JournalDamaged, TooMany, NoRoot, Memory}
+use Rattle.vault_top.specs.Span.{Course, SourceView, given_of, IsOnlyRead}
 use Rattle.vault_top.specs.Opening.{IsClosedBy}
 
--- over the folder as unlocking left it
+-- ---- what was told of the disk that the journal's opening left
+
+with_many : (keys : KeyPair) (n : ℕ) (a b : Option Log) → Changes a b HasOpened → HasTooMany keys (disk_in b) n → Changes a b (λ old new. HasOpened old new × HasTooMany keys (Some (now new)) n)
+with_many keys n None None opened many = tt
+with_many keys n None (Some new) opened many = absurd opened
+with_many keys n (Some old) None opened many = absurd opened
+with_many keys n (Some old) (Some new) opened many = (opened, many)
+
+with_disk : (P : Disk → Type 0) (a b : Option Log) → Changes a b HasOpened → Told (disk_in b) P → Changes a b (λ old new. HasOpened old new × P (now new))
+with_disk P None None opened is = tt
+with_disk P None (Some new) opened is = absurd opened
+with_disk P (Some old) None opened is = absurd opened
+with_disk P (Some old) (Some new) opened is = (opened, is)
+
+-- ---- over the folder as unlocking left it
+
+-- what Store::open says of an error
+pub record IsErrorOf (keys : KeyPair) (before after : FolderView) (error : OpenErr) : Type 0 where
+  pub damaged : (at : ℕ) → error ≡ JournalDamaged at → Told before.log (λ log. IsDamagedAt (now log) at ⊎ LeavesFolder (now log) at)
+  pub too_many : (n : ℕ) → error ≡ TooMany n → HasTooMany keys (disk_in after.log) n
+  pub no_root : error ≡ NoRoot → Told (disk_in after.log) (λ d. ¬ (IsFolder d (root_folder keys)))
+  pub many_opened : (n : ℕ) → error ≡ TooMany n → Changes before.log after.log HasOpened
+  pub bare_opened : error ≡ NoRoot → Changes before.log after.log HasOpened
+  pub rose : error ≡ Device → Rose before.faults after.faults
+
 pub closed_by : {D : Type 0} (view : D → FolderView) (secret : Course SourceView) (second : Option ℕ) (folder looked kept : D) (vault : UnlockedVault) (error : OpenErr)
-    → IsOnlyRead (view folder) (view looked)
-    → (error ≡ NoRoot → Told (disk_in (view looked).log) (λ d. ¬ (IsFolder d (root_folder vault.keys))))
-    → ((n : ℕ) → error ≡ TooMany n → HasTooMany vault.keys (disk_in (view looked).log) n)
-    → (error ≡ Device → Rose (view looked).faults (view kept).faults)
+    → IsOnlyRead (view folder) (view looked) → IsErrorOf vault.keys (view looked) (view kept) error
     → IsClosedBy (given_of view secret second folder kept) vault error
-closed_by view secret second folder looked kept vault Device read no_root too_many rose = rose_later _ _ _ read.faults (rose refl)
-closed_by view secret second folder looked kept vault (TooMany n) read no_root too_many rose =
-    subst (λ (log : Option Log). HasTooMany vault.keys (disk_in log) n) read.log (too_many n refl)
-closed_by view secret second folder looked kept vault NoRoot read no_root too_many rose =
-    subst (λ (log : Option Log). Told (disk_in log) (λ d. ¬ (IsFolder d (root_folder vault.keys)))) read.log (no_root refl)
-closed_by view secret second folder looked kept vault Memory read no_root too_many rose = tt
+closed_by view secret second folder looked kept vault Device read is = rose_later _ _ _ read.faults (is.rose refl)
+closed_by view secret second folder looked kept vault (JournalDamaged at) read is =
+    subst (λ (l : Option Log). Told l (λ log. IsDamagedAt (now log) at ⊎ LeavesFolder (now log) at)) read.log (is.damaged at refl)
+closed_by view secret second folder looked kept vault (TooMany n) read is =
+    with_many vault.keys n (view folder).log (view kept).log (subst (λ (l : Option Log). Changes l (view kept).log HasOpened) read.log (is.many_opened n refl)) (is.too_many n refl)
+closed_by view secret second folder looked kept vault NoRoot read is =
+    with_disk (λ d. ¬ (IsFolder d (root_folder vault.keys))) (view folder).log (view kept).log (subst (λ (l : Option Log). Changes l (view kept).log HasOpened) read.log (is.bare_opened refl)) (is.no_root refl)
+closed_by view secret second folder looked kept vault Memory read is = tt
+
+-- a stop recovers to what was found
+pub recovers : (keys : KeyPair) (a b : Option Log) → Changes a b StaysOpening → Changes a b (λ old new. IsSoundlyFound (now old) → OpeningRecovers (shows_under keys) old new)
+recovers keys a b stays = changed_by a b StaysOpening (λ old new. IsSoundlyFound (now old) → OpeningRecovers (shows_under keys) old new) (λ old new h. failed_openings_recover keys old new h) stays

@@ -14,6 +14,7 @@ use Rattle.shared_sessions.specs.declared.workers.Worker.{Worker}
 use Rattle.tree_model.specs.Rows.{Rows}
 use Rattle.tree_history.specs.History.{Origin}
 use Rattle.outside.specs.Views.{FolderView}
+use Rattle.siv_mode.specs.Keys.{KeyPair}
 use Rattle.outside.specs.declared.stream.Failed.{Failed}
 use Rattle.vault_top.specs.declared.task.Service.{Service}
 use Rattle.vault_top.specs.declared.serving.HandedBack.{HandedBack}
@@ -27,15 +28,15 @@ counts_of ends outcome counts e h = subst (λ o. AreCounted ends o) e h
 pub may_end : (ends : List SessionEnd) (outcome other : Outcome) (ending : Ending) → outcome ≡ other → MayEnd ends other ending → MayEnd ends outcome ending
 may_end ends outcome other ending e h = subst (λ o. MayEnd ends o ending) (sym e) h
 
-counted_as : (counts : Result SessionCounts Failed) (F : Type 0) (all ends : List SessionEnd) (outcome : Outcome) → HasOutcome counts F outcome → IfOk counts (λ c. AreCounts c all) → all ≡ ends → AreCounted ends outcome
-counted_as counts F all ends (Served c) h counted same =
-    let counted' : AreCounts c all = subst (λ (r : Result SessionCounts Failed). IfOk r (λ c. AreCounts c all)) h counted in
+counted_as : (counts : Result SessionCounts Failed) (stopped : Option ℕ) (all ends : List SessionEnd) (outcome : Outcome) → HasOutcome counts stopped outcome → IfOk counts (λ c. AreCounts c all) → all ≡ ends → AreCounted ends outcome
+counted_as counts stopped all ends (Served c) h counted same =
+    let counted' : AreCounts c all = subst (λ (r : Result SessionCounts Failed). IfOk r (λ c. AreCounts c all)) h.0 counted in
     subst (λ (l : List SessionEnd). AreCounts c l) same counted'
-counted_as counts F all ends ListenerFault h counted same = tt
-counted_as counts F all ends FolderFault h counted same = tt
-counted_as counts F all ends NoMemory h counted same = tt
+counted_as counts stopped all ends ListenerFault h counted same = tt
+counted_as counts stopped all ends FolderFault h counted same = tt
+counted_as counts stopped all ends NoMemory h counted same = tt
 
-pub counted_in : {D N C E : Type 0} (start : Rows → Origin → Type 0) (since : FolderView → Type 0) (views : Views D N C E) (second : Option ℕ) (service : Service) (workers workers' : List (Worker N E)) (ends : List SessionEnd) (back : HandedBack D)
+pub counted_in : {D N C E : Type 0} (start : Rows → Origin → Type 0) (since : FolderView → KeyPair → Rows → Type 0) (views : Views D N C E) (second : Option ℕ) (service : Service) (workers workers' : List (Worker N E)) (ends : List SessionEnd) (back : HandedBack D)
     → HasServed start since views second service workers workers' ends back → AreCounted ends back.outcome
 counted_in start since views second service workers workers' ends back (inl h) = counted_as h.counts _ (all_ends h.joined.shares) ends back.outcome h.outcome h.joined.counted h.ended
 counted_in start since views second service workers workers' ends back (inr h) = subst (λ (o : Outcome). AreCounted ends o) (sym h.outcome) tt

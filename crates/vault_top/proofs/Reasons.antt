@@ -1,23 +1,23 @@
 -- Why the program ends as it does.
-use Rattle.std.proofs.Common.{◌≡◌, ◌⊎◌, ℕ, List, [], ◌∷◌, length, min, Option, Some, None, Result, Ok, refl, sym, ap, subst, ◌∙◌, inl, inr, arith}
-use Rattle.std.specs.Prelude.{IfSome}
+use Rattle.std.proofs.Common.{◌≡◌, ◌⊎◌, ℕ, suc, ◌≤◌, List, [], ◌∷◌, length, min, Option, Some, None, Result, Ok, refl, sym, ap, subst, ◌∙◌, inl, inr, arith}
+use Rattle.std.specs.Prelude.{IfSome, option_map}
 use Rattle.outside.specs.declared.stream.Failed.{Failed}
-use Rattle.outside.specs.Calls.{Rose, Told, Changes}
-use Rattle.outside.specs.Images.{Log, disk_in}
+use Rattle.outside.specs.Calls.{Told, Changes}
+use Rattle.outside.specs.Images.{Log, disk_in, now}
 use Rattle.outside.specs.Views.{FolderView, EntropyView}
-use Rattle.outside.proofs.Told.{told_then}
+use Rattle.siv_mode.specs.Keys.{KeyPair}
 use Rattle.tree_model.specs.Rows.{Rows}
-use Rattle.tree_history.specs.History.{Origin, tally_at, IsLegal}
+use Rattle.tree_history.specs.History.{Entry, Origin, tally_at, tally_of}
 use Rattle.session_server.specs.declared.ending.SessionEnd.{SessionEnd}
 use Rattle.session_workers.specs.declared.counts.SessionCounts.{SessionCounts}
 use Rattle.session_workers.specs.Workers.{MayStop, ListenerFailed, SomeFailed}
 use Rattle.shared_sessions.specs.declared.workers.Worker.{Worker}
-use Rattle.vault_keys.specs.Unlock.{UnlockedVault}
+use Rattle.store_history.specs.Store.{bounded, moment_of}
+use Rattle.store_history.specs.Ends.{IsFoundClear}
 use Rattle.vault_unlock.specs.Secret.{IsAfterLine}
 use Rattle.vault_unlock.specs.Unlock.{IsUnlocking}
 use Rattle.vault_unlock.specs.declared.unlocking.SecretKind.{SecretKind}
-use Rattle.vault_store.specs.Store.{IsOnlyRead, folder_in, moment_of}
-use Rattle.vault_store.specs.declared.store.Store.{Store}
+use Rattle.vault_store.specs.Open.{OpenVault}
 use Rattle.vault_words.specs.Jobs.{Serving, serve, make}
 use Rattle.vault_causes.specs.declared.cause.Cause.{Cause}
 use Rattle.vault_causes.specs.declared.cause.Cause.TheVariants.{Words, Memory}
@@ -25,17 +25,17 @@ use Rattle.vault_top.specs.Words.{Ask, AreRefused, kind_of, sharers}
 use Rattle.vault_top.specs.Tasks.{IsServiceOf}
 use Rattle.vault_top.specs.Span.{Course, SourceView, SinkView, Views, WorkerSpan, worker_spans, given_of, span_of}
 use Rattle.vault_top.specs.Served.{AreShares}
-use Rattle.vault_top.specs.Sharing.{IsReadSince, AreBeginnings, IsAlone}
+use Rattle.vault_top.specs.Sharing.{IsSharedStore, AreBeginnings, IsBegun, IsAlone}
 use Rattle.vault_top.specs.Opening.{IsUnlocked, IsUnopened, IsUnlockedStore}
-use Rattle.vault_top.specs.Ending.{Ending, refused, no_memory_to_serve, AreIdle, IsUntouched, IsMaking, DrawsAlone, IsServed, Never, HasReason, IsReported, HasRun}
-use Rattle.vault_top.specs.Serving.{HasOutcome, HasServedAll, HasServed, HasServedVault, MayEnd}
+use Rattle.vault_top.specs.Ending.{Ending, refused, no_memory_to_serve, AreIdle, IsUntouched, IsMaking, DrawsAlone, IsServed, IsUnshared, Never, HasReason, IsReported, HasRun}
+use Rattle.vault_top.specs.Serving.{HasOutcome, HasServedAll, HasServed, HasServedVault, IsUnasked, MayEnd}
 use Rattle.vault_top.specs.declared.program.Ended.{Ended}
 use Rattle.vault_top.specs.declared.serving.HandedBack.{HandedBack}
 use Rattle.vault_top.specs.declared.serving.Outcome.{Outcome}
 use Rattle.vault_top.specs.declared.serving.Outcome.TheVariants.{Served, ListenerFault, FolderFault, NoMemory}
 use Rattle.vault_top.specs.declared.task.Service.{Service}
-use Rattle.vault_top.proofs.Begun.{read_none, read_alone}
-use Rattle.vault_top.proofs.Callers.{faults_stay, all_undrawn, callers_at, faults_at, spans_count, before_same, none_past}
+use Rattle.vault_top.proofs.Left.{Leaves, left_by, none_stopped, some_stopped, stops_nowhere}
+use Rattle.vault_top.proofs.Callers.{faults_stay, all_drawn, callers_at, faults_at, spans_count, before_same, none_past}
 use Rattle.vault_top.proofs.Shares.{shares_as, may_stop, on_error}
 
 -- ---- workers that did nothing
@@ -46,94 +46,120 @@ idle views (worker ∷ workers) = ((refl, refl), idle views workers)
 
 -- ---- a vault that was served
 
-served_of : {D N C E : Type 0} (start : Rows → Origin → Type 0) (since : FolderView → Type 0) (views : Views D N C E) (words : List (List ℕ)) (secret : Course SourceView) (second : Option ℕ) (folder : D) (serving : Serving) (service : Service)
-    (workers workers' : List (Worker N E)) (ends : List SessionEnd) (back : HandedBack D) (P : WorkerSpan C → Type 0) → Ask words (serve serving) → IsServiceOf serving service
-    → AreBeginnings start views service.kind folder workers secret.before second → IsAlone since (views.folder folder)
-    → Changes secret.before.left secret.after.left IsAfterLine
-    → (h : HasServedAll start since views second service workers workers' ends back) → ((worker : WorkerSpan C) → MayStop h.counts worker → P worker)
-    → IsServed views (span_of views words secret second folder h.folder workers workers') P ends
-served_of start since views words secret second folder serving service workers workers' ends back P asked same starts alone line h only =
-    let joined = h.joined in
-    let right = joined.right in
-    let begins = starts.only h.rows h.origin h.begins in
-    let spans = worker_spans views workers workers' in
-    let many : length spans ≡ length workers = spans_count views workers workers' joined.count in
-    let many' : length (worker_spans views workers workers) ≡ length workers = spans_count views workers workers refl in
-    let read : IsOnlyRead (views.folder folder) (views.folder (folder_in h.store)) = read_alone since (views.folder folder) (views.folder (folder_in h.store)) alone right.folder in
-    let folder_is = ap (λ (o : Origin). o.folder_faults) begins.origin_is in
-    let moment_is = ap (λ (o : Origin). o.moment) begins.origin_is in
-    let now_log = ap moment_of h.closed.log in
-    let stood = right.stands in
-    let shares : AreShares views.link second (MayStop h.counts) service.sessions (min service.at_once (length workers)) 0 spans joined.shares = joined.are in
-    let shares' : AreShares views.link second (MayStop h.counts) serving.sessions (sharers serving (length spans)) 0 spans joined.shares =
-    subst (λ (p : ℕ × ℕ). AreShares views.link second (MayStop h.counts) p.0 p.1 0 spans joined.shares) (λ i. (same.sessions i, min (same.at_once i) (sym many i))) shares
-    in
-    record {
-      serving = serving;
-      words = asked;
-      vault = begins.vault;
-      unlocked = record { gave = subst (λ (k : SecretKind). IsUnlocking k secret.before.left (disk_in (views.folder folder).log) (λ found. found ≡ Ok begins.vault)) same.kind begins.gave; line = line };
-      shares = joined.shares;
-      are = shares_as views.link second (MayStop h.counts) P serving.sessions (sharers serving (length spans)) 0 spans joined.shares only shares';
-      history = record {
-        rows = h.rows;
-        origin = h.origin;
-        entries = joined.entries;
-        store = h.store;
-        stands = stood;
-        legal = subst (λ (log : Option Log). Told (disk_in log) (λ disk. IsLegal h.rows h.origin joined.entries)) read.log
-            (told_then (disk_in (views.folder (folder_in h.store)).log) _ _ stood.tree (λ disk tree. record { caused = stood.caused; answered = tree.answered }));
-        callers = λ j. callers_at h.origin joined.entries j 0 j spans joined.shares (omega arith) joined.callers (λ i past. joined.no_others i (omega arith));
-        in_time = joined.in_time;
-        since = record {
-          folder = omega arith;
-          entropy = λ j. (let e = ap (λ (o : Origin). o.entropy_faults j) begins.origin_is in let b = before_same views workers workers' j joined.count in omega arith);
-          moment = omega arith;
-        };
-        up_to = record {
-          folder = omega (arith, stood.folder, h.closed.faults);
-          entropy = λ j. faults_at h.origin joined.entries j 0 j spans joined.shares (omega arith) joined.callers (λ i past.
-              let stays = faults_stay i (tally_at h.origin) joined.entries (joined.no_others i (omega arith)) in
-              let e = ap (λ (o : Origin). o.entropy_faults i) begins.origin_is in
-              let none = none_past (worker_spans views workers workers) i (omega arith) in omega arith);
-          moment = omega (arith, stood.moment, now_log);
-        };
-        unlocked = begins.unlocked;
-        clear = begins.clear;
-        second = begins.at_second;
-        read = read;
-        closed = h.closed;
-      };
-      undrawn = all_undrawn h.origin joined.entries 0 spans joined.shares joined.callers;
-      ended = h.ended;
-    }
+-- where a store's history begins is the folder as it was, under the keys that were unlocked
+module _ {D : Type 0} (since : FolderView → KeyPair → Rows → Type 0) (view : D → FolderView) (kind : SecretKind) (secret : SourceView) (second : Option ℕ) (folder : D) (store : OpenVault D) (kept : D) (rows : Rows) (origin : Origin) (entries : List Entry)
+    (right : IsSharedStore view since store rows origin entries) (closed : kept ≡ store.folder) (begun : IsBegun kind (view folder) secret second right.start store.store.keys rows) where
+  leaves : Leaves begun.vault.keys rows origin entries (view folder) (view kept)
+  leaves =
+      subst (λ (d : D). Leaves begun.vault.keys rows origin entries (view folder) (view d)) (sym closed)
+      (subst (λ (keys : KeyPair). Leaves keys rows origin entries (view folder) (view store.folder)) (sym begun.keys_are)
+      (subst (λ (v : FolderView). Leaves store.store.keys rows origin entries v (view store.folder)) begun.folder_is
+      (left_by right.start (view store.folder) store.store rows origin entries right.stands)))
 
-reason_of : {D N C E : Type 0} (start : Rows → Origin → Type 0) (since : FolderView → Type 0) (views : Views D N C E) (words : List (List ℕ)) (secret : Course SourceView) (second : Option ℕ) (folder : D) (serving : Serving) (service : Service)
-    (workers workers' : List (Worker N E)) (ends : List SessionEnd) (back : HandedBack D) (outcome : Outcome) (ending : Ending) → Ask words (serve serving) → IsServiceOf serving service
-    → AreBeginnings start views service.kind folder workers secret.before second → IsAlone since (views.folder folder)
-    → Changes secret.before.left secret.after.left IsAfterLine
-    → (h : HasServedAll start since views second service workers workers' ends back)
-    → HasOutcome h.counts (Rose (views.folder (folder_in h.store)).faults (views.folder h.folder).faults) outcome → MayEnd ends outcome ending
-    → HasReason views (span_of views words secret second folder h.folder workers workers') ending
-unfolding served_of
-reason_of start since views words secret second folder serving service workers workers' ends back (Served c) ending asked same starts alone line h is (inl e) =
-    subst (λ (x : Ending). HasReason views (span_of views words secret second folder h.folder workers workers') x) (sym e)
-    (served_of start since views words secret second folder serving service workers workers' ends back Never asked same starts alone line h
-    (λ worker stop. subst (λ (r : Result SessionCounts Failed). MayStop r worker) is stop))
-reason_of start since views words secret second folder serving service workers workers' ends back (Served c) ending asked same starts alone line h is (inr e) =
-    subst (λ (x : Ending). HasReason views (span_of views words secret second folder h.folder workers workers') x) (sym e)
-    (served_of start since views words secret second folder serving service workers workers' ends back ListenerFailed asked same starts alone line h (may_stop h.counts))
-reason_of start since views words secret second folder serving service workers workers' ends back ListenerFault ending asked same starts alone line h is e =
-    subst (λ (x : Ending). HasReason views (span_of views words secret second folder h.folder workers workers') x) (sym e) (
-      served_of start since views words secret second folder serving service workers workers' ends back ListenerFailed asked same starts alone line h (may_stop h.counts),
-      on_error h.counts (SomeFailed (worker_spans views workers workers')) is h.joined.failed,
-    )
-reason_of start since views words secret second folder serving service workers workers' ends back FolderFault ending asked same starts alone line h is e =
-    subst (λ (x : Ending). HasReason views (span_of views words secret second folder h.folder workers workers') x) (sym e) (
-      served_of start since views words secret second folder serving service workers workers' ends back ListenerFailed asked same starts alone line h (may_stop h.counts),
-      is,
-    )
-reason_of start since views words secret second folder serving service workers workers' ends back NoMemory ending asked same starts alone line h is e = absurd is
+  later : (view folder).faults ≤ (view kept).faults
+  later =
+      subst (λ (d : D). (view folder).faults ≤ (view d).faults) (sym closed)
+      (subst (λ (v : FolderView). v.faults ≤ (view store.folder).faults) begun.folder_is right.faults)
+
+unlocked_by : {D : Type 0} (view : D → FolderView) (secret : Course SourceView) (second : Option ℕ) (folder kept : D) (serving : Serving) (service : Service) (keys : KeyPair) (was : FolderView) (rows : Rows) → IsServiceOf serving service
+    → Changes secret.before.left secret.after.left IsAfterLine → (begun : IsBegun service.kind (view folder) secret.before second was keys rows)
+    → IsUnlocked (given_of view secret second folder kept) (kind_of serving) begun.vault
+unlocked_by view secret second folder kept serving service keys was rows same line begun = record {
+  gave = subst (λ (k : SecretKind). IsUnlocking k secret.before.left (disk_in (view folder).log) (λ found. found ≡ Ok begun.vault)) same.kind begun.gave;
+  line = line;
+}
+
+clear_by : (kind : SecretKind) (folder : FolderView) (secret : SourceView) (second : Option ℕ) (keys : KeyPair) (was : FolderView) (rows : Rows) (begun : IsBegun kind folder secret second was keys rows)
+    → Told folder.log (λ log. IsFoundClear begun.vault.keys (now log) begun.unlocked rows)
+clear_by kind folder secret second keys was rows begun =
+    subst (λ (k : KeyPair). Told folder.log (λ log. IsFoundClear k (now log) begun.unlocked rows)) (sym begun.keys_are) begun.clear
+
+module _ {D N C E : Type 0} (start : Rows → Origin → Type 0) (since : FolderView → KeyPair → Rows → Type 0) (views : Views D N C E) (words : List (List ℕ)) (secret : Course SourceView) (second : Option ℕ) (folder : D) (serving : Serving) (service : Service)
+    (workers workers' : List (Worker N E)) (ends : List SessionEnd) (back : HandedBack D) (asked : Ask words (serve serving)) (same : IsServiceOf serving service)
+    (starts : AreBeginnings start views folder workers) (alone : IsAlone since service.kind (views.folder folder) secret.before second)
+    (line : Changes secret.before.left secret.after.left IsAfterLine) where
+  served_of : (P : WorkerSpan C → Type 0) (h : HasServedAll start since views second service workers workers' ends back) → ((worker : WorkerSpan C) → MayStop h.counts worker → P worker)
+      → IsServed views (span_of views words secret second folder h.folder workers workers') P ends
+  served_of P h only =
+      let joined = h.joined in
+      let begins = starts.only h.rows h.origin h.begins in
+      let begun = alone.only joined.right.start h.store.store.keys h.rows joined.right.begins in
+      let left = leaves since views.folder service.kind secret.before second folder h.store h.folder h.rows h.origin joined.entries joined.right h.closed begun in
+      let spans = worker_spans views workers workers' in
+      let many : length spans ≡ length workers = spans_count views workers workers' joined.count in
+      let many' : length (worker_spans views workers workers) ≡ length workers = spans_count views workers workers refl in
+      let shares : AreShares views.link second (MayStop h.counts) service.sessions (min service.at_once (length workers)) 0 spans joined.shares = joined.are in
+      let shares' : AreShares views.link second (MayStop h.counts) serving.sessions (sharers serving (length spans)) 0 spans joined.shares =
+      subst (λ (p : ℕ × ℕ). AreShares views.link second (MayStop h.counts) p.0 p.1 0 spans joined.shares) (λ i. (same.sessions i, min (same.at_once i) (sym many i))) shares
+      in
+      record {
+        serving = serving;
+        words = asked;
+        vault = begun.vault;
+        unlocked = unlocked_by views.folder secret second folder h.folder serving service h.store.store.keys joined.right.start h.rows same line begun;
+        shares = joined.shares;
+        are = shares_as views.link second (MayStop h.counts) P serving.sessions (sharers serving (length spans)) 0 spans joined.shares only shares';
+        history = record {
+          rows = h.rows;
+          origin = h.origin;
+          entries = joined.entries;
+          caused = left.caused;
+          legal = left.legal;
+          placed = left.placed;
+          callers = λ j. callers_at h.origin joined.entries j 0 j spans joined.shares (omega arith) joined.callers (λ i past. joined.no_others i (omega arith));
+          drawn = all_drawn h.origin joined.entries 0 0 spans joined.shares refl joined.callers;
+          in_time = joined.in_time;
+          since = record {
+            folder = (let e = begins.folder_faults in omega arith);
+            entropy = λ j. (let e = ap (λ (faults : ℕ → ℕ). faults j) begins.entropy_faults in let b = before_same views workers workers' j joined.count in omega arith);
+            moment = begins.moment;
+          };
+          up_to = record {
+            folder = left.faults;
+            entropy = λ j. faults_at h.origin joined.entries j 0 j spans joined.shares (omega arith) joined.callers (λ i past.
+                let stays = faults_stay i (tally_at h.origin) joined.entries (joined.no_others i (omega arith)) in
+                let e = ap (λ (faults : ℕ → ℕ). faults i) begins.entropy_faults in
+                let none = none_past (worker_spans views workers workers) i (omega arith) in omega arith);
+            moment = omega (arith, left.moment);
+          };
+          unlocked = begun.unlocked;
+          clear = clear_by service.kind (views.folder folder) secret.before second h.store.store.keys joined.right.start h.rows begun;
+          second = begun.at_second;
+          stops = left.stops;
+          whole = left.whole;
+        };
+        ended = h.ended;
+      }
+
+  -- whether a commit failed in an entry is what the store says
+  stopped_is : (h : HasServedAll start since views second service workers workers' ends back) → h.store.store.stopped ≡ option_map bounded (tally_of h.origin h.joined.entries).stopped
+  stopped_is h = h.joined.right.stands.stopped
+
+  reason_of : (outcome : Outcome) (ending : Ending) (h : HasServedAll start since views second service workers workers' ends back) → HasOutcome h.counts h.store.store.stopped outcome → MayEnd ends outcome ending
+      → HasReason views (span_of views words secret second folder h.folder workers workers') ending
+  unfolding served_of
+  reason_of (Served c) ending h is (inl e) =
+      subst (λ (x : Ending). HasReason views (span_of views words secret second folder h.folder workers workers') x) (sym e) (
+        served_of Never h (λ worker stop. subst (λ (r : Result SessionCounts Failed). MayStop r worker) is.0 stop),
+        none_stopped _ _ (stopped_is h) is.1,
+      )
+  reason_of (Served c) ending h is (inr e) =
+      subst (λ (x : Ending). HasReason views (span_of views words secret second folder h.folder workers workers') x) (sym e) (
+        served_of ListenerFailed h (may_stop h.counts),
+        none_stopped _ _ (stopped_is h) is.1,
+      )
+  reason_of ListenerFault ending h is e =
+      subst (λ (x : Ending). HasReason views (span_of views words secret second folder h.folder workers workers') x) (sym e) (
+        served_of ListenerFailed h (may_stop h.counts),
+        on_error h.counts (SomeFailed (worker_spans views workers workers')) is.0 h.joined.failed,
+        none_stopped _ _ (stopped_is h) is.1,
+      )
+  reason_of FolderFault ending h is e =
+      subst (λ (x : Ending). HasReason views (span_of views words secret second folder h.folder workers workers') x) (sym e) (
+        served_of ListenerFailed h (may_stop h.counts),
+        some_stopped _ _ (stopped_is h) is,
+      )
+  reason_of NoMemory ending h is e = absurd is
 
 -- ---- a run
 
@@ -143,61 +169,102 @@ run_as {N = N} {E = E} views words secret second folder a b a' b' sink ended e f
     subst (λ (w : List (Worker N E)). HasRun views words secret second folder w a' sink ended) (sym e)
     (subst (λ (w : List (Worker N E)). HasRun views words secret second folder b w sink ended) (sym f) h)
 
--- there was no memory to serve: the folder is left, or not
-run_unshared : {D N C E : Type 0} (views : Views D N C E) (words : List (List ℕ)) (secret : Course SourceView) (second : Option ℕ) (folder : D) (serving : Serving) (vault : UnlockedVault) (workers : List (Worker N E))
-    (sink : Course SinkView) (ended : Ended D) (ending : Ending) (left : Option D) → Ask words (serve serving)
-    → IsUnlocked (given_of views.folder secret second folder folder) (kind_of serving) vault → ending ≡ no_memory_to_serve → ended.folder ≡ left
-    → IfSome left (λ kept. IsOnlyRead (views.folder folder) (views.folder kept)) → IsReported sink ending ended.status
+-- there was no memory to serve, and the folder is left
+unshared_kept : {D N C E : Type 0} (start : Rows → Origin → Type 0) (since : FolderView → KeyPair → Rows → Type 0) (views : Views D N C E) (words : List (List ℕ)) (secret : Course SourceView) (second : Option ℕ) (folder kept : D) (serving : Serving) (service : Service)
+    (workers : List (Worker N E)) → Ask words (serve serving) → IsServiceOf serving service → AreBeginnings start views folder workers → IsAlone since service.kind (views.folder folder) secret.before second
+    → Changes secret.before.left secret.after.left IsAfterLine → IsUnasked views.folder start since kept
+    → IsUnshared (span_of views words secret second folder kept workers workers)
+unshared_kept start since views words secret second folder kept serving service workers asked same starts alone line h =
+    let store : OpenVault _ = record { store = h.store; folder = kept } in
+    let begun = alone.only h.shared.start h.store.keys h.rows h.shared.begins in
+    let left = leaves since views.folder service.kind secret.before second folder store kept h.rows h.origin [] h.shared refl begun in
+    record {
+      serving = serving;
+      words = asked;
+      vault = begun.vault;
+      unlocked = unlocked_by views.folder secret second folder kept serving service h.store.keys h.shared.start h.rows same line begun;
+      rows = h.rows;
+      origin = h.origin;
+      opened = begun.unlocked;
+      clear = clear_by service.kind (views.folder folder) secret.before second h.store.keys h.shared.start h.rows begun;
+      second = begun.at_second;
+      stops = left.stops;
+      later = later since views.folder service.kind secret.before second folder store kept h.rows h.origin [] h.shared refl begun;
+      idle = idle views workers;
+    }
+
+-- and where it isn't, nothing is said of it
+unshared_lost : {D N C E : Type 0} (views : Views D N C E) (words : List (List ℕ)) (secret : Course SourceView) (second : Option ℕ) (folder : D) (serving : Serving) (store : OpenVault D)
+    (workers : List (Worker N E)) → Ask words (serve serving) → IsUnlockedStore views.folder (given_of views.folder secret second folder folder) (kind_of serving) folder store
+    → IsUnshared (span_of views words secret second folder folder workers workers)
+unshared_lost views words secret second folder serving store workers asked unlocked =
+    let origin : Origin = record { folder_faults = 0; entropy_faults = λ j. 0; moment = suc (moment_of (views.folder folder).log) } in
+    record {
+      serving = serving;
+      words = asked;
+      vault = unlocked.vault;
+      unlocked = unlocked.unlocked;
+      rows = unlocked.opened.rows;
+      origin = origin;
+      opened = unlocked.now;
+      clear = subst (λ (l : Option Log). Told l (λ log. IsFoundClear unlocked.vault.keys (now log) unlocked.now unlocked.opened.rows)) unlocked.read.log unlocked.opened.clear;
+      second = unlocked.second;
+      stops = stops_nowhere unlocked.vault.keys unlocked.opened.rows origin (views.folder folder) refl;
+      later = omega arith;
+      idle = idle views workers;
+    }
+
+run_unshared : {D N C E : Type 0} (start : Rows → Origin → Type 0) (since : FolderView → KeyPair → Rows → Type 0) (views : Views D N C E) (words : List (List ℕ)) (secret : Course SourceView) (second : Option ℕ) (folder : D) (serving : Serving) (service : Service) (store : OpenVault D)
+    (workers : List (Worker N E)) (sink : Course SinkView) (ended : Ended D) (ending : Ending) (left : Option D) → Ask words (serve serving) → IsServiceOf serving service
+    → AreBeginnings start views folder workers → IsAlone since service.kind (views.folder folder) secret.before second
+    → IsUnlockedStore views.folder (given_of views.folder secret second folder folder) (kind_of serving) folder store → ending ≡ no_memory_to_serve → ended.folder ≡ left
+    → IfSome left (λ kept. IsUnasked views.folder start since kept) → IsReported sink ending ended.status
     → HasRun views words secret second folder workers workers sink ended
-run_unshared views words secret second folder serving vault workers sink ended ending (Some kept) asked unlocked is left read reported = record {
+run_unshared start since views words secret second folder serving service store workers sink ended ending (Some kept) asked same starts alone unlocked is left h reported = record {
   ending = ending;
   kept = kept;
   folder_is = inl left;
   count = refl;
   reason = subst (λ (x : Ending). HasReason views (span_of views words secret second folder kept workers workers) x) (sym is)
-      (record { serving = serving; words = asked; vault = vault; unlocked = record { gave = unlocked.gave; line = unlocked.line }; read = read; idle = idle views workers });
+      (unshared_kept start since views words secret second folder kept serving service workers asked same starts alone unlocked.unlocked.line h);
   reported = reported;
 }
-run_unshared views words secret second folder serving vault workers sink ended ending None asked unlocked is left read reported = record {
+run_unshared start since views words secret second folder serving service store workers sink ended ending None asked same starts alone unlocked is left h reported = record {
   ending = ending;
   kept = folder;
   folder_is = inr (left, is);
   count = refl;
   reason = subst (λ (x : Ending). HasReason views (span_of views words secret second folder folder workers workers) x) (sym is)
-      (record { serving = serving; words = asked; vault = vault; unlocked = record { gave = unlocked.gave; line = unlocked.line }; read = read_none (views.folder folder); idle = idle views workers });
+      (unshared_lost views words secret second folder serving store workers asked unlocked);
   reported = reported;
 }
 
-left_alone : {D : Type 0} (view : D → FolderView) (since : FolderView → Type 0) (folder : D) (left : Option D) → IsAlone since (view folder) → IfSome left (λ kept. IsReadSince since (view kept)) → IfSome left (λ kept. IsOnlyRead (view folder) (view kept))
-left_alone view since folder None alone h = tt
-left_alone view since folder (Some kept) alone h = read_alone since (view folder) (view kept) alone h
-
-run_by : {D N C E : Type 0} (start : Rows → Origin → Type 0) (since : FolderView → Type 0) (views : Views D N C E) (words : List (List ℕ)) (secret : Course SourceView) (second : Option ℕ) (folder : D) (serving : Serving) (service : Service) (vault : UnlockedVault)
+run_by : {D N C E : Type 0} (start : Rows → Origin → Type 0) (since : FolderView → KeyPair → Rows → Type 0) (views : Views D N C E) (words : List (List ℕ)) (secret : Course SourceView) (second : Option ℕ) (folder : D) (serving : Serving) (service : Service) (store : OpenVault D)
     (workers workers' : List (Worker N E)) (sink : Course SinkView) (ended : Ended D) (ends : List SessionEnd) (back : HandedBack D) (ending : Ending) → Ask words (serve serving) → IsServiceOf serving service
-    → AreBeginnings start views service.kind folder workers secret.before second → IsAlone since (views.folder folder)
-    → IsUnlocked (given_of views.folder secret second folder folder) (kind_of serving) vault
+    → AreBeginnings start views folder workers → IsAlone since service.kind (views.folder folder) secret.before second
+    → IsUnlockedStore views.folder (given_of views.folder secret second folder folder) (kind_of serving) folder store
     → HasServed start since views second service workers workers' ends back → MayEnd ends back.outcome ending → ended.folder ≡ back.folder → IsReported sink ending ended.status
     → HasRun views words secret second folder workers workers' sink ended
-run_by start since views words secret second folder serving service vault workers workers' sink ended ends back ending asked same starts alone unlocked (inl h) may is reported = record {
+run_by start since views words secret second folder serving service store workers workers' sink ended ends back ending asked same starts alone unlocked (inl h) may is reported = record {
   ending = ending;
   kept = h.folder;
   folder_is = inl (is ∙ h.folder_is);
   count = h.joined.count;
-  reason = reason_of start since views words secret second folder serving service workers workers' ends back back.outcome ending asked same starts alone unlocked.line h h.outcome may;
+  reason = reason_of start since views words secret second folder serving service workers workers' ends back asked same starts alone unlocked.unlocked.line back.outcome ending h h.outcome may;
   reported = reported;
 }
-run_by start since views words secret second folder serving service vault workers workers' sink ended ends back ending asked same starts alone unlocked (inr h) may is reported =
+run_by start since views words secret second folder serving service store workers workers' sink ended ends back ending asked same starts alone unlocked (inr h) may is reported =
     run_as views words secret second folder workers workers workers' workers sink ended refl h.same
-    (run_unshared views words secret second folder serving vault workers sink ended ending back.folder asked unlocked (subst (λ (o : Outcome). MayEnd ends o ending) h.outcome may) is
-    (left_alone views.folder since folder back.folder alone h.folder) reported)
+    (run_unshared start since views words secret second folder serving service store workers sink ended ending back.folder asked same starts alone unlocked (subst (λ (o : Outcome). MayEnd ends o ending) h.outcome may) is
+    h.folder reported)
 
-pub run_served : {D N C E : Type 0} (start : Rows → Origin → Type 0) (since : FolderView → Type 0) (views : Views D N C E) (words : List (List ℕ)) (secret : Course SourceView) (second : Option ℕ) (folder : D) (serving : Serving) (service : Service) (store : Store D)
+pub run_served : {D N C E : Type 0} (start : Rows → Origin → Type 0) (since : FolderView → KeyPair → Rows → Type 0) (views : Views D N C E) (words : List (List ℕ)) (secret : Course SourceView) (second : Option ℕ) (folder : D) (serving : Serving) (service : Service) (store : OpenVault D)
     (workers workers' : List (Worker N E)) (sink : Course SinkView) (ended : Ended D) → Ask words (serve serving) → IsServiceOf serving service
-    → AreBeginnings start views service.kind folder workers secret.before second → IsAlone since (views.folder folder)
+    → AreBeginnings start views folder workers → IsAlone since service.kind (views.folder folder) secret.before second
     → IsUnlockedStore views.folder (given_of views.folder secret second folder folder) (kind_of serving) folder store
     → HasServedVault start since views second service workers workers' sink ended → HasRun views words secret second folder workers workers' sink ended
 run_served start since views words secret second folder serving service store workers workers' sink ended asked same starts alone unlocked h =
-    run_by start since views words secret second folder serving service unlocked.vault workers workers' sink ended h.ends h.back h.ending asked same starts alone unlocked.unlocked h.served h.may h.folder_is h.reported
+    run_by start since views words secret second folder serving service store workers workers' sink ended h.ends h.back h.ending asked same starts alone unlocked h.served h.may h.folder_is h.reported
 
 pub run_unserved : {D N C E : Type 0} (views : Views D N C E) (words : List (List ℕ)) (secret : Course SourceView) (second : Option ℕ) (folder kept : D) (serving : Serving) (workers : List (Worker N E))
     (sink : Course SinkView) (ended : Ended D) (cause : Cause) → Ask words (serve serving) → ended.folder ≡ Some kept

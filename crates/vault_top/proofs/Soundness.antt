@@ -1,8 +1,12 @@
 -- A sound vault is served.
-use Rattle.std.proofs.Common.{◌≡◌, ◌⊎◌, ℕ, List, Option, Some, None, Result, Ok, IsSomeAnd, refl, sym, subst, ◌∙◌, inl, inr}
-use Rattle.outside.specs.Calls.{Rose, Told}
+use Rattle.std.proofs.Common.{◌≡◌, ◌⊎◌, ℕ, List, Option, Some, None, Result, Ok, IsSome, IsSomeAnd, refl, sym, subst, ◌∙◌, inl, inr}
+use Rattle.outside.specs.Calls.{Rose, Told, Changes}
 use Rattle.outside.specs.Disk.{Disk, IsFolder}
-use Rattle.outside.specs.Images.{disk_in}
+use Rattle.outside.specs.Images.{Log, disk_in, now}
+use Rattle.siv_mode.specs.Keys.{KeyPair}
+use Rattle.chunk_journal.specs.Journal.{IsAlike, RecoversTo}
+use Rattle.chunk_journal.specs.Opening.{HasOpened, IsDamagedAt, LeavesFolder}
+use Rattle.tree_history.specs.History.{tally_at, tally_of}
 use Rattle.vault_keys.specs.Unlock.{UnlockedVault}
 use Rattle.vault_keys.specs.Unlock as unlock
 use Rattle.vault_keys.specs.Errors.{IsOf, IsCause, key_fault, config_fault}
@@ -22,12 +26,13 @@ use Rattle.vault_causes.specs.Causes.{of_refusal, of_unlock}
 use Rattle.vault_causes.specs.declared.cause.Cause.{Cause}
 use Rattle.vault_causes.specs.declared.cause.Cause.TheVariants.{Memory}
 use Rattle.vault_top.specs.Words.{Ask, kind_of}
-use Rattle.vault_top.specs.Span.{Views, Span, Given}
+use Rattle.vault_top.specs.Span.{Views, Span, Given, IsOnlyRead}
+use Rattle.vault_top.specs.Served.{Share, HasHistory}
 use Rattle.vault_top.specs.Opening.{IsLocked, IsClosedBy, FailsToUnlock, FailsToOpen, of_opening}
-use Rattle.vault_top.specs.Ending.{Ending, refused, usage_said, version_said, made, no_memory_to_serve, served, listener_fault, closing_fault, no_memory_to_report, IsRefused, HasReason}
+use Rattle.vault_top.specs.Ending.{Ending, refused, usage_said, version_said, made, no_memory_to_serve, served, listener_fault, closing_fault, no_memory_to_report, IsRefused, HasReason, stopped_in}
 use Rattle.vault_top.specs.Sound.{IsVaultFor, IsSound, IsFaultless, IsServedOrFull}
-use Rattle.session_server.proofs.Links.{rose_later}
 use Rattle.vault_top.proofs.Asked.{AskPlainly, one_job, not_refused}
+use Rattle.vault_top.proofs.Faults.{faults_rise, rose_within, stopped_rose}
 
 plainly : (words : List Text) (s : Serving) → Ask words (serve s) → AskPlainly words (serve s)
 plainly words s h = record { taken = h.asks.0; named = h.asks.1 }
@@ -54,21 +59,35 @@ no_cause x unlock_errs.Memory h = refl
 abbrev Unlocks : SecretKind → Option (List ℕ) → Option Disk → Type 0
 Unlocks kind secret disk = IsSomeAnd secret (λ bytes. IsSomeAnd disk (IsVaultFor kind bytes))
 
+-- a disk of which a vault that was unlocked can be opened
+pub record IsOpenable (vault : UnlockedVault) (disk : Disk) : Type 0 where
+  pub undamaged : (at : ℕ) → IsDamagedAt disk at ⊎ LeavesFolder disk at → ⊥
+  pub root : (found after : Disk) → RecoversTo disk found → IsAlike found after → IsFolder after (root_folder vault.keys)
+  pub few : (found after : Disk) (n : ℕ) → RecoversTo disk found → IsAlike found after → HasTooMany vault.keys (Some after) n → ⊥
+
 -- what a sound vault unlocks, of which P holds
 pub unlocks : (kind : SecretKind) (secret : Option (List ℕ)) (disk : Option Disk) (P : Result UnlockedVault unlock.Cause → Type 0) → Unlocks kind secret disk → IsUnlocking kind secret disk P
-    → (vault : UnlockedVault) × P (Ok vault) × IsSomeAnd disk (λ d. IsFolder d (root_folder vault.keys)) × ((n : ℕ) → HasTooMany vault.keys disk n → ⊥)
+    → (vault : UnlockedVault) × P (Ok vault) × IsSomeAnd disk (IsOpenable vault)
 unlocks kind None disk P sound is = absurd sound
 unlocks kind (Some bytes) None P sound is = absurd sound
 unlocks kind (Some bytes) (Some d) P sound is = (
   sound.vault,
   subst P (subst (λ files. unlocking.unlock kind bytes files ≡ Ok sound.vault) (sym is.1) sound.unlocks) is.2,
-  sound.root,
-  sound.few,
+  record { undamaged = sound.undamaged; root = sound.root; few = sound.few },
 )
 
-no_root : (P : Disk → Type 0) (disk : Option Disk) → IsSomeAnd disk P → Told disk (λ d. ¬ (P d)) → ⊥
-no_root P None some none = some
-no_root P (Some d) some none = none some
+-- ---- such a disk is opened
+
+undamaged : (vault : UnlockedVault) (log : Option Log) (at : ℕ) → IsSomeAnd (disk_in log) (IsOpenable vault) → Told log (λ l. IsDamagedAt (now l) at ⊎ LeavesFolder (now l) at) → ⊥
+undamaged vault None at openable damaged = openable
+undamaged vault (Some l) at openable damaged = openable.undamaged at damaged
+
+-- of what its journal's opening left P doesn't hold
+not_left : (vault : UnlockedVault) (P : Disk → Type 0) (a b : Option Log) → ((disk found after : Disk) → IsOpenable vault disk → RecoversTo disk found → IsAlike found after → P after → ⊥)
+    → IsSomeAnd (disk_in a) (IsOpenable vault) → Changes a b (λ old new. HasOpened old new × P (now new)) → ⊥
+not_left vault P None b never openable left = openable
+not_left vault P (Some old) None never openable left = left
+not_left vault P (Some old) (Some new) never openable left = never (now old) left.0.disk (now new) openable left.0.recovers left.0.alike left.1
 
 locked_sound : (given : Given) (kind : SecretKind) (refusal : Refusal) → Unlocks kind given.secret.before.left (disk_in given.folder.before.log)
     → (Rose given.secret.before.faults given.secret.after.faults → ⊥) → (Rose given.folder.before.faults given.folder.after.faults → ⊥)
@@ -82,22 +101,26 @@ locked_sound given kind refusals.FolderFault sound secret folder h = absurd (fol
 same_vault : (P : UnlockedVault → Type 0) (v w : UnlockedVault) (found : Result UnlockedVault unlock.Cause) → found ≡ Ok v → found ≡ Ok w → P v → P w
 same_vault P v w found e f h = let same : v ≡ w = cc in subst P same h
 
-closed_sound : (given : Given) (vault : UnlockedVault) (error : OpenErr) → IsSomeAnd (disk_in given.folder.before.log) (λ d. IsFolder d (root_folder vault.keys))
-    → ((n : ℕ) → HasTooMany vault.keys (disk_in given.folder.before.log) n → ⊥)
+closed_sound : (given : Given) (vault : UnlockedVault) (error : OpenErr) → IsSomeAnd (disk_in given.folder.before.log) (IsOpenable vault)
     → (Rose given.folder.before.faults given.folder.after.faults → ⊥) → IsClosedBy given vault error → of_opening error ≡ Memory
-closed_sound given vault open_errs.Device root few folder h = absurd (folder h)
-closed_sound given vault (open_errs.TooMany n) root few folder h = absurd (few n h)
-closed_sound given vault open_errs.NoRoot root few folder h = absurd (no_root (λ d. IsFolder d (root_folder vault.keys)) (disk_in given.folder.before.log) root h)
-closed_sound given vault open_errs.Memory root few folder h = refl
+closed_sound given vault open_errs.Device openable folder h = absurd (folder h)
+closed_sound given vault (open_errs.JournalDamaged at) openable folder h = absurd (undamaged vault given.folder.before.log at openable h)
+closed_sound given vault (open_errs.TooMany n) openable folder h =
+    absurd (not_left vault (λ disk. HasTooMany vault.keys (Some disk) n) given.folder.before.log given.folder.after.log
+    (λ disk found after is recovers alike many. is.few found after n recovers alike many) openable h)
+closed_sound given vault open_errs.NoRoot openable folder h =
+    absurd (not_left vault (λ disk. ¬ (IsFolder disk (root_folder vault.keys))) given.folder.before.log given.folder.after.log
+    (λ disk found after is recovers alike bare. bare (is.root found after recovers alike)) openable h)
+closed_sound given vault open_errs.Memory openable folder h = refl
 
 unopened_sound : (given : Given) (kind : SecretKind) (cause : Cause) → Unlocks kind given.secret.before.left (disk_in given.folder.before.log)
     → (Rose given.secret.before.faults given.secret.after.faults → ⊥) → (Rose given.folder.before.faults given.folder.after.faults → ⊥)
-    → FailsToUnlock given kind cause ⊎ FailsToOpen given kind cause → cause ≡ Memory
-unopened_sound given kind cause sound secret folder (inl h) = h.is ∙ locked_sound given kind h.refusal sound secret folder h.locked
+    → (FailsToUnlock given kind cause × IsOnlyRead given.folder.before given.folder.after) ⊎ FailsToOpen given kind cause → cause ≡ Memory
+unopened_sound given kind cause sound secret folder (inl h) = h.0.is ∙ locked_sound given kind h.0.refusal sound secret folder h.0.locked
 unopened_sound given kind cause sound secret folder (inr h) =
     let u = unlocks kind given.secret.before.left (disk_in given.folder.before.log) (λ found. found ≡ Ok h.vault) sound h.unlocked.gave in
-    let same = same_vault (λ v. IsSomeAnd (disk_in given.folder.before.log) (λ d. IsFolder d (root_folder v.keys)) × ((n : ℕ) → HasTooMany v.keys (disk_in given.folder.before.log) n → ⊥)) u.0 h.vault (Ok u.0) refl u.1 (u.2, u.3) in
-    h.is ∙ closed_sound given h.vault h.error same.0 same.1 folder h.closed
+    let openable = same_vault (λ v. IsSomeAnd (disk_in given.folder.before.log) (IsOpenable v)) u.0 h.vault (Ok u.0) refl u.1 u.2 in
+    h.is ∙ closed_sound given h.vault h.error openable folder h.closed
 
 refused_sound : {C : Type 0} (span : Span C) (cause : Cause) → IsSound span → IsFaultless span → IsRefused span cause → cause ≡ Memory
 refused_sound span cause is faultless (inl h) = elim h.why [
@@ -112,6 +135,15 @@ refused_sound span cause is faultless (inr (inl h)) =
 refused_sound span cause is faultless (inr (inr h)) =
     let e : make h.dir ≡ serve is.serving = one_job span.words (serve is.serving) (make h.dir) (plainly span.words is.serving is.words) h.words.asks in absurd cc
 
+-- ---- a commit that failed
+
+-- the folder's count rose
+commit_rose : {C : Type 0} (span : Span C) (keys : KeyPair) (shares : List (Share C)) (history : HasHistory span keys shares) → IsSome (stopped_in history) → Rose span.given.folder.before.faults span.given.folder.after.faults
+commit_rose span keys shares history stopped =
+    let rise = faults_rise (tally_at history.origin) history.entries history.caused in
+    rose_within span.given.folder.before.faults history.origin.folder_faults (tally_of history.origin history.entries).folder_faults span.given.folder.after.faults
+    history.since.folder rise history.up_to.folder (stopped_rose (tally_at history.origin) history.entries refl history.caused stopped)
+
 pub sound : {D N C E : Type 0} (views : Views D N C E) (span : Span C) (ending : Ending) → IsSound span → IsFaultless span → HasReason views span ending → IsServedOrFull ending
 sound views span (refused cause) is faultless h = refused_sound span cause is faultless h
 sound views span usage_said is faultless h =
@@ -124,5 +156,5 @@ sound views span no_memory_to_serve is faultless h = tt
 sound views span (served ends) is faultless h = tt
 sound views span (listener_fault ends) is faultless h = absurd (faultless.listeners h.1)
 sound views span (closing_fault ends) is faultless h =
-    absurd (faultless.folder (rose_later _ _ _ h.0.history.read.faults h.1))
+    absurd (faultless.folder (commit_rose span h.0.vault.keys h.0.shares h.0.history h.1))
 sound views span (no_memory_to_report ends) is faultless h = tt

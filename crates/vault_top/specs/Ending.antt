@@ -1,14 +1,18 @@
 -- How the program ends: what each ending's cause is, its report and its status.
-use Rattle.std.specs.Prelude.{◌≡◌, ◌⊎◌, ℕ, List, [], ◌∷◌, ◌++◌, length, codes, Option, Some, None}
+use Rattle.std.specs.Prelude.{◌≡◌, ◌⊎◌, ℕ, ◌≤◌, List, [], ◌∷◌, ◌++◌, length, codes, Option, Some, None, IsSome, IsNone}
 use Rattle.std.specs.List.{AllByRecursion}
-use Rattle.outside.specs.Calls.{Rose, Changes}
+use Rattle.outside.specs.Calls.{Rose, Told, Changes}
+use Rattle.outside.specs.Images.{now}
 use Rattle.outside.specs.Views.{EntropyView}
 use Rattle.session_server.specs.declared.ending.SessionEnd.{SessionEnd}
 use Rattle.clap.specs.Words.{Text}
 use Rattle.vault_keys.specs.Unlock.{UnlockedVault}
 use Rattle.vault_words.specs.Jobs.{Serving, serve, make, help, version}
 use Rattle.vault_words.specs.declared.job.TheConstants.{USAGE, VERSION}
-use Rattle.vault_store.specs.Store.{IsOnlyRead, folder_in}
+use Rattle.siv_mode.specs.Keys.{KeyPair}
+use Rattle.store_history.specs.Ends.{IsFoundClear}
+use Rattle.tree_model.specs.Rows.{Rows}
+use Rattle.tree_history.specs.History.{Origin, tally_of}
 pub use Rattle.session_workers.specs.Workers.{ListenerFailed, SomeFailed}
 use Rattle.vault_causes.specs.Causes.{text_of}
 use Rattle.vault_causes.specs.Causes as causes
@@ -17,7 +21,7 @@ use Rattle.vault_causes.specs.declared.cause.Cause.TheVariants.{Words, Memory}
 use Rattle.vault_top.specs.Words.{Ask, AreRefused, kind_of, sharers}
 use Rattle.vault_top.specs.Report.{line, sessions_line, TakesPart}
 use Rattle.vault_top.specs.Span.{Course, SourceView, SinkView, Views, WorkerSpan, Span, span_of}
-use Rattle.vault_top.specs.Served.{Share, AreShares, all_ends, HasHistory}
+use Rattle.vault_top.specs.Served.{Share, AreShares, all_ends, HasHistory, HasStops}
 use Rattle.vault_top.specs.Opening.{IsUnlocked, IsUnopened}
 use Rattle.vault_top.specs.Making.{IsMade, IsNotMade}
 use Rattle.shared_sessions.specs.declared.workers.Worker.{Worker}
@@ -71,18 +75,24 @@ pub record IsMaking {C : Type 0} (span : Span C) (P : Course EntropyView → Typ
   pub words : Ask span.words (make dir)
   pub drawn : DrawsAlone P span.workers
 
--- A vault was unlocked under these keys, and there was no memory to share it among workers: the folder was only read, and no worker did
--- anything.
+-- A vault was unlocked under these keys and opened, and there was no memory to share it among workers: nothing was asked, and no worker did anything. Of a folder that is
+-- left a stop recovers to what was found.
 pub record IsUnshared {C : Type 0} (span : Span C) : Type 0 where
   pub serving : Serving
   pub words : Ask span.words (serve serving)
   pub vault : UnlockedVault
   pub unlocked : IsUnlocked span.given (kind_of serving) vault
-  pub read : IsOnlyRead span.given.folder.before span.given.folder.after
+  pub rows : Rows
+  pub origin : Origin
+  pub opened : ℕ
+  pub clear : Told span.given.folder.before.log (λ log. IsFoundClear vault.keys (now log) opened rows)
+  pub second : Told span.given.second (λ second. opened ≡ second)
+  pub stops : HasStops vault.keys rows origin [] span.given.folder.before span.given.folder.after
+  pub later : span.given.folder.before.faults ≤ span.given.folder.after.faults
   pub idle : AreIdle span.workers
 
 -- The vault was served under the keys that were unlocked: each worker its share of the sessions, which ended so, and what was asked in them is
--- one legal history, for which the store that was closed stands. `MayStop` is what may have kept a worker from its share. Nothing was drawn.
+-- one legal history, whatever the interleaving, of which a stop leaves a prefix. `MayStop` is what may have kept a worker from its share.
 pub record IsServed {D N C E : Type 0} (views : Views D N C E) (span : Span C) (MayStop : WorkerSpan C → Type 0) (ends : List SessionEnd) : Type 0 where
   pub serving : Serving
   pub words : Ask span.words (serve serving)
@@ -90,9 +100,12 @@ pub record IsServed {D N C E : Type 0} (views : Views D N C E) (span : Span C) (
   pub unlocked : IsUnlocked span.given (kind_of serving) vault
   pub shares : List (Share C)
   pub are : AreShares views.link span.given.second MayStop serving.sessions (sharers serving (length span.workers)) 0 span.workers shares
-  pub history : HasHistory views span vault.keys shares
-  pub undrawn : AllByRecursion (λ worker. worker.entropy.after.drawn ≡ worker.entropy.before.drawn) span.workers
+  pub history : HasHistory span vault.keys shares
   pub ended : all_ends shares ≡ ends
+
+-- the entry of a history whose commit failed
+abbrev pub stopped_in : {C : Type 0} {span : Span C} {keys : KeyPair} {shares : List (Share C)} → HasHistory span keys shares → Option ℕ
+stopped_in history = (tally_of history.origin history.entries).stopped
 
 abbrev pub Never : {C : Type 0} → WorkerSpan C → Type 0
 Never worker = ⊥
@@ -102,19 +115,17 @@ abbrev pub IsRefused : {C : Type 0} → Span C → Cause → Type 0
 IsRefused span cause =
     IsBadlyAsked span cause ⊎ IsUnserved span cause ⊎ IsMaking span (λ entropy. IsNotMade span.given entropy cause)
 
--- why an ending comes; a fault at closing only where the folder's count rose after the last request
+-- why an ending comes; a fault at closing only where a commit failed in an entry; and of an ending without a fault of the folder none did
 abbrev pub HasReason : {D N C E : Type 0} → Views D N C E → Span C → Ending → Type 0
 HasReason views span (refused cause) = IsRefused span cause
 HasReason views span usage_said = Ask span.words help × IsUntouched span
 HasReason views span version_said = Ask span.words version × IsUntouched span
 HasReason views span made = IsMaking span (λ entropy. IsMade span.given entropy)
 HasReason views span no_memory_to_serve = IsUnshared span
-HasReason views span (served ends) = IsServed views span Never ends
-HasReason views span (listener_fault ends) = IsServed views span ListenerFailed ends × SomeFailed span.workers
-HasReason views span (closing_fault ends) =
-    (is : IsServed views span ListenerFailed ends)
-    × Rose (views.folder (folder_in is.history.store)).faults span.given.folder.after.faults
-HasReason views span (no_memory_to_report ends) = IsServed views span ListenerFailed ends
+HasReason views span (served ends) = (is : IsServed views span Never ends) × IsNone (stopped_in is.history)
+HasReason views span (listener_fault ends) = (is : IsServed views span ListenerFailed ends) × SomeFailed span.workers × IsNone (stopped_in is.history)
+HasReason views span (closing_fault ends) = (is : IsServed views span ListenerFailed ends) × IsSome (stopped_in is.history)
+HasReason views span (no_memory_to_report ends) = (is : IsServed views span ListenerFailed ends) × IsNone (stopped_in is.history)
 
 -- ---- reports and statuses
 

@@ -1,8 +1,8 @@
 -- Unlocking and opening a vault: what it gives, and why not.
-use Rattle.std.specs.Prelude.{◌≡◌, ◌⊎◌, ℕ, Ok, ⊤}
+use Rattle.std.specs.Prelude.{◌≡◌, ◌⊎◌, ℕ, ◌≤◌, Some, Ok, ⊤}
 use Rattle.outside.specs.Calls.{Rose, Told, Changes}
-use Rattle.outside.specs.Disk.{IsFolder}
-use Rattle.outside.specs.Images.{disk_in}
+use Rattle.outside.specs.Disk.{Disk, IsFolder}
+use Rattle.outside.specs.Images.{disk_in, now}
 use Rattle.outside.specs.Views.{FolderView}
 use Rattle.vault_keys.specs.Unlock.{UnlockedVault}
 use Rattle.vault_unlock.specs.Secret.{IsAfterLine, TakesAtMost, taken_limit}
@@ -13,14 +13,17 @@ use Rattle.vault_unlock.specs.declared.unlocking.SecretKind.TheVariants.{RawKeys
 use Rattle.vault_unlock.specs.declared.refusal.Refusal.{Refusal}
 use Rattle.vault_unlock.specs.declared.refusal.Refusal.TheVariants as refusals
 use Rattle.tree_loading.specs.Clear.{HasTooMany, root_folder}
-use Rattle.vault_store.specs.Store.{IsOnlyRead, IsOpened}
-use Rattle.vault_store.specs.declared.store.Store.{Store}
+use Rattle.chunk_journal.specs.Opening.{HasOpened, IsDamagedAt, LeavesFolder, StaysOpening}
+use Rattle.stop_history.specs.Opening.{IsSoundlyFound, OpeningRecovers}
+use Rattle.store_history.specs.Store.{shows_under}
+use Rattle.store_history.specs.Ends.{IsOpened}
+use Rattle.vault_store.specs.Open.{OpenVault}
 use Rattle.vault_store.specs.declared.opening.OpenErr.{OpenErr}
 use Rattle.vault_store.specs.declared.opening.OpenErr.TheVariants as open_errs
 use Rattle.vault_causes.specs.Causes.{of_refusal}
 use Rattle.vault_causes.specs.declared.cause.Cause.{Cause}
 use Rattle.vault_causes.specs.declared.cause.Cause.TheVariants as causes
-use Rattle.vault_top.specs.Span.{Given}
+use Rattle.vault_top.specs.Span.{Given, IsOnlyRead}
 
 -- the secret, and with a password the key files, gave these keys and this threshold, and of the secret its line alone was taken
 pub record IsUnlocked (given : Given) (kind : SecretKind) (vault : UnlockedVault) : Type 0 where
@@ -36,16 +39,23 @@ pub record IsLocked (given : Given) (kind : SecretKind) (refusal : Refusal) : Ty
   pub begun : Changes given.secret.before.left given.secret.after.left (TakesAtMost (taken_limit kind))
   pub unseen : kind ≡ RawKeys → given.folder.after ≡ given.folder.before
 
--- an unlocked vault isn't opened for this: the folder's count rose, its disk has too many nodes or no folder for the root, or there was no memory
+-- the journal was opened, and P of the disk that reads give then
+abbrev pub IsOpenedWith : Given → (Disk → Type 0) → Type 0
+IsOpenedWith given P = Changes given.folder.before.log given.folder.after.log (λ old new. HasOpened old new × P (now new))
+
+-- an unlocked vault isn't opened for this: the folder's count rose; the journal that was found is damaged there; the disk that it recovers to has too
+-- many nodes, or no folder for the root; or there was no memory
 abbrev pub IsClosedBy : Given → UnlockedVault → OpenErr → Type 0
 IsClosedBy given vault open_errs.Device = Rose given.folder.before.faults given.folder.after.faults
-IsClosedBy given vault (open_errs.TooMany n) = HasTooMany vault.keys (disk_in given.folder.before.log) n
-IsClosedBy given vault open_errs.NoRoot = Told (disk_in given.folder.before.log) (λ disk. ¬ (IsFolder disk (root_folder vault.keys)))
+IsClosedBy given vault (open_errs.JournalDamaged at) = Told given.folder.before.log (λ log. IsDamagedAt (now log) at ⊎ LeavesFolder (now log) at)
+IsClosedBy given vault (open_errs.TooMany n) = IsOpenedWith given (λ disk. HasTooMany vault.keys (Some disk) n)
+IsClosedBy given vault open_errs.NoRoot = IsOpenedWith given (λ disk. ¬ (IsFolder disk (root_folder vault.keys)))
 IsClosedBy given vault open_errs.Memory = ⊤
 
 -- an error of opening as a cause
 abbrev pub of_opening : OpenErr → Cause
 of_opening open_errs.Device = causes.FolderFault
+of_opening (open_errs.JournalDamaged at) = causes.JournalDamaged at
 of_opening (open_errs.TooMany n) = causes.TooManyNodes
 of_opening open_errs.NoRoot = causes.NoRoot
 of_opening open_errs.Memory = causes.Memory
@@ -56,21 +66,24 @@ pub record FailsToUnlock (given : Given) (kind : SecretKind) (cause : Cause) : T
   pub is : cause ≡ of_refusal refusal
   pub locked : IsLocked given kind refusal
 
--- the vault is unlocked, but isn't opened, for this cause
+-- The vault is unlocked, but isn't opened, for this cause: of the folder no more is changed than the opening of its journal does, and a stop since
+-- the end of the first sync recovers to what was found.
 pub record FailsToOpen (given : Given) (kind : SecretKind) (cause : Cause) : Type 0 where
   pub vault : UnlockedVault
   pub unlocked : IsUnlocked given kind vault
   pub error : OpenErr
   pub is : cause ≡ of_opening error
   pub closed : IsClosedBy given vault error
+  pub stays : Changes given.folder.before.log given.folder.after.log StaysOpening
+  pub recovers : Changes given.folder.before.log given.folder.after.log (λ old new. IsSoundlyFound (now old) → OpeningRecovers (shows_under vault.keys) old new)
 
--- why nothing is served from the folder, which was only read
+-- why nothing is served from the folder, whose count never falls
 pub record IsUnopened (given : Given) (kind : SecretKind) (cause : Cause) : Type 0 where
-  pub why : FailsToUnlock given kind cause ⊎ FailsToOpen given kind cause
-  pub read : IsOnlyRead given.folder.before given.folder.after
+  pub why : (FailsToUnlock given kind cause × IsOnlyRead given.folder.before given.folder.after) ⊎ FailsToOpen given kind cause
+  pub later : given.folder.before.faults ≤ given.folder.after.faults
 
 -- the store was opened at the clock's second, under the keys of the unlocked vault, over the folder as unlocking left it
-pub record IsUnlockedStore {D : Type 0} (view : D → FolderView) (given : Given) (kind : SecretKind) (folder : D) (store : Store D) : Type 0 where
+pub record IsUnlockedStore {D : Type 0} (view : D → FolderView) (given : Given) (kind : SecretKind) (folder : D) (store : OpenVault D) : Type 0 where
   pub vault : UnlockedVault
   pub unlocked : IsUnlocked given kind vault
   pub looked : D
@@ -78,4 +91,5 @@ pub record IsUnlockedStore {D : Type 0} (view : D → FolderView) (given : Given
   pub unseen : kind ≡ RawKeys → looked ≡ folder
   pub now : ℕ
   pub second : Told given.second (λ second. now ≡ second)
-  pub opened : IsOpened view looked vault.keys now store
+  pub opened : IsOpened (view looked) vault.keys now store.store (view store.folder)
+  pub later : (view looked).faults ≤ (view store.folder).faults

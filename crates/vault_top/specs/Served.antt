@@ -1,20 +1,24 @@
 -- What a vault that was served has done: each worker served its share of the sessions, and what was asked in all of them is one legal
 -- history of the tree that the vault's disk stands for.
-use Rattle.std.specs.Prelude.{◌≡◌, ◌⊎◌, ℕ, zero, suc, ◌*◌, ◌<◌, ◌≤◌, List, [], ◌∷◌, length, map}
-use Rattle.outside.specs.Calls.{Told}
-use Rattle.outside.specs.Images.{disk_in}
+use Rattle.std.specs.Prelude.{◌≡◌, ◌⊎◌, ℕ, zero, suc, ◌*◌, ◌<◌, ◌≤◌, List, [], ◌∷◌, length, map, IsNone, ⊤}
+use Rattle.outside.specs.Calls.{Changes, Told}
+use Rattle.outside.specs.Images.{moment, now}
+use Rattle.outside.specs.Views.{FolderView}
 use Rattle.siv_mode.specs.Keys.{KeyPair}
 use Rattle.tree_model.specs.Rows.{Rows}
 use Rattle.tree_model.specs.Asked.{Asked, entered}
-use Rattle.tree_history.specs.History.{Entry, entries_of, Origin, tally_of, IsLegal, IsUpTo}
+use Rattle.tree_history.specs.History.{Entry, entries_of, Origin, tally_at, tally_of, AreCaused, IsLegal, IsUpTo}
 pub use Rattle.session_workers.specs.Shares.{share_of, Share, IsShare, AreShares, all_ends}
 use Rattle.shared_sessions.specs.Joined.{all_asked}
 use Rattle.shared_vault.specs.declared.TheConstants.{MOST_TICKETS}
 use Rattle.turn_lock.specs.declared.TheConstants.{TURN_LIMIT}
-use Rattle.tree_loading.specs.Clear.{IsClear}
-use Rattle.vault_store.specs.Store.{IsStoreOf, IsOnlyRead, folder_in, moment_of}
-use Rattle.vault_store.specs.declared.store.Store.{Store}
-use Rattle.vault_top.specs.Span.{Views, WorkerSpan, Span}
+use Rattle.shared_vault.specs.Clients.{AreDrawnFor}
+use Rattle.stop_history.specs.Opening.{IsSoundlyFound}
+use Rattle.stop_history.specs.Prefix.{StopsRecover, IsWhole}
+use Rattle.store_history.specs.Store.{ArePlaced, IsSaidFrom, LogGoesOn, moment_of, shows_under}
+use Rattle.store_history.specs.Turns.{draws_for}
+use Rattle.store_history.specs.Ends.{IsFoundClear}
+use Rattle.vault_top.specs.Span.{WorkerSpan, Span}
 
 -- ---- callers
 
@@ -41,7 +45,7 @@ entropy_after (worker ∷ workers) (suc j) = entropy_after workers j
 pub record IsSince {C : Type 0} (span : Span C) (origin : Origin) : Type 0 where
   pub folder : span.given.folder.before.faults ≤ origin.folder_faults
   pub entropy : (j : ℕ) → entropy_before span.workers j ≤ origin.entropy_faults j
-  pub moment : moment_of span.given.folder.before.log ≤ origin.moment
+  pub moment : Told span.given.folder.before.log (λ log. IsSoundlyFound (now log) → moment log ≤ origin.moment)
 
 -- the counts at which a run ended
 abbrev pub end_of : {C : Type 0} → Span C → Origin
@@ -51,25 +55,41 @@ end_of span = record {
   moment = moment_of span.given.folder.after.log;
 }
 
+-- ---- what was drawn
+
+-- the random sources of the workers from number j on gave what the entries of these callers drew, in order
+abbrev pub AreAllDrawn : {C : Type 0} → List Entry → ℕ → List (WorkerSpan C) → Type 0
+AreAllDrawn entries j [] = ⊤
+AreAllDrawn entries j (worker ∷ workers) =
+    AreDrawnFor draws_for worker.entropy.before worker.entropy.after (map (λ entry. entry.made) (entries_of j entries)) × AreAllDrawn entries (suc j) workers
+
 -- ---- the history
 
--- The store that was closed stands for a history from the rows on that the disk stands for under these keys. Of each caller it has what
--- was asked on the links of the worker of that number, in order, but for requests that were answered as exhausted; and nothing else. One is
--- answered so only where the most tickets that all requests may take are more than there are turns. Where the disk is told the history is
--- legal.
-pub record HasHistory {D N C E : Type 0} (views : Views D N C E) (span : Span C) (keys : KeyPair) (shares : List (Share C)) : Type 0 where
+-- What a stop leaves of a vault that was served under these keys with these entries. The folder's log goes on from the one that was found, where that was sound; a stop at
+-- any moment, from the end of the opening on, and where the disk was found sound from the end of the opening's first sync on, recovers to a prefix of the history
+-- that holds all that was synced.
+pub record HasStops (keys : KeyPair) (rows : Rows) (origin : Origin) (entries : List Entry) (before after : FolderView) : Type 0 where
+  pub grown : Changes before.log after.log (λ old new. IsSoundlyFound (now old) → LogGoesOn old new)
+  pub recover : Told after.log (λ log. (opened : ℕ) → IsSaidFrom before.log origin opened → StopsRecover (shows_under keys) opened rows entries log)
+
+-- The entries of all callers are one history from the rows on that the folder recovers to, under these keys. Of each caller it has what was asked on the links of the worker of
+-- that number, in order, but for requests that were answered as exhausted; and nothing else. One is answered so only where the most tickets that all requests may
+-- take are more than there are turns. Each entry has its cause, and each caller's random source gave what its entries drew, in order. Where the folder tells its log the history is legal, and
+-- each entry names the place that is taken; what a stop leaves follows it; and where no commit failed all entries are on the disk.
+pub record HasHistory {C : Type 0} (span : Span C) (keys : KeyPair) (shares : List (Share C)) : Type 0 where
   pub rows : Rows
   pub origin : Origin
   pub entries : List Entry
-  pub store : Store D
-  pub stands : IsStoreOf views.folder store rows origin entries
-  pub legal : Told (disk_in span.given.folder.before.log) (λ disk. IsLegal rows origin entries)
+  pub caused : AreCaused (tally_at origin) entries
+  pub legal : Told span.given.folder.before.log (λ log. IsLegal rows origin entries)
+  pub placed : Told span.given.folder.after.log (ArePlaced keys rows origin entries)
   pub callers : (j : ℕ) → map (λ entry. entry.made.asked) (entries_of j entries) ≡ entered (asked_by shares j)
+  pub drawn : AreAllDrawn entries 0 span.workers
   pub in_time : (entered (all_asked shares) ≡ all_asked shares) ⊎ (TURN_LIMIT < MOST_TICKETS * length (all_asked shares))
   pub since : IsSince span origin
   pub up_to : IsUpTo (end_of span) (tally_of origin entries)
   pub unlocked : ℕ
-  pub clear : Told (disk_in span.given.folder.before.log) (λ disk. IsClear keys disk unlocked rows)
+  pub clear : Told span.given.folder.before.log (λ log. IsFoundClear keys (now log) unlocked rows)
   pub second : Told span.given.second (λ second. unlocked ≡ second)
-  pub read : IsOnlyRead span.given.folder.before (views.folder (folder_in store))
-  pub closed : IsOnlyRead (views.folder (folder_in store)) span.given.folder.after
+  pub stops : HasStops keys rows origin entries span.given.folder.before span.given.folder.after
+  pub whole : IsNone (tally_of origin entries).stopped → Told span.given.folder.after.log (λ log. IsWhole (shows_under keys) rows entries log)

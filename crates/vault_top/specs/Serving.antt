@@ -1,7 +1,6 @@
 -- What serving a vault does, step by step.
-use Rattle.std.specs.Prelude.{◌≡◌, ◌⊎◌, ℕ, min, List, length, Option, Some, Result, Ok, IsErr, IfSome, ⊤}
+use Rattle.std.specs.Prelude.{◌≡◌, ◌⊎◌, ℕ, min, List, [], length, Option, Some, Result, Ok, IsErr, IfSome, IsSome, IsNone, ⊤}
 use Rattle.outside.specs.declared.stream.Failed.{Failed}
-use Rattle.outside.specs.Calls.{Rose}
 use Rattle.outside.specs.Views.{FolderView}
 use Rattle.tree_model.specs.Rows.{Rows}
 use Rattle.tree_history.specs.History.{Origin}
@@ -11,10 +10,12 @@ use Rattle.session_workers.specs.Ends.{AreCounts}
 use Rattle.session_workers.specs.Shares.{all_ends}
 use Rattle.shared_sessions.specs.Joined.{IsJoined}
 use Rattle.shared_sessions.specs.declared.workers.Worker.{Worker}
-use Rattle.vault_store.specs.Store.{IsOnlyRead, folder_in}
-use Rattle.vault_store.specs.declared.store.Store.{Store}
+use Rattle.siv_mode.specs.Keys.{KeyPair}
+use Rattle.store_history.specs.Store.{StoreView}
+use Rattle.store_history.specs.Turns.{draws_for}
+use Rattle.vault_store.specs.Open.{OpenVault}
 use Rattle.vault_top.specs.Span.{Course, SinkView, Views}
-use Rattle.vault_top.specs.Sharing.{is_undrawn, IsReadSince, IsSharedStore}
+use Rattle.vault_top.specs.Sharing.{IsSharedStore}
 use Rattle.vault_top.specs.Ending.{Ending, no_memory_to_serve, served, listener_fault, closing_fault, no_memory_to_report, IsReported}
 use Rattle.vault_top.specs.declared.program.Ended.{Ended}
 use Rattle.vault_top.specs.declared.serving.HandedBack.{HandedBack}
@@ -22,37 +23,45 @@ use Rattle.vault_top.specs.declared.serving.Outcome.{Outcome}
 use Rattle.vault_top.specs.declared.serving.Outcome.TheVariants as outcomes
 use Rattle.vault_top.specs.declared.task.Service.{Service}
 
--- an outcome's cause: what failed, or the sessions that were counted
-abbrev pub HasOutcome : Result SessionCounts Failed → Type 0 → Outcome → Type 0
-HasOutcome counts folder_failed (outcomes.Served c) = counts ≡ Ok c
-HasOutcome counts folder_failed outcomes.ListenerFault = IsErr counts
-HasOutcome counts folder_failed outcomes.FolderFault = folder_failed
-HasOutcome counts folder_failed outcomes.NoMemory = ⊥
+-- an outcome's cause: what failed, or the sessions that were counted; and whether a commit failed in an entry
+abbrev pub HasOutcome : Result SessionCounts Failed → Option ℕ → Outcome → Type 0
+HasOutcome counts stopped (outcomes.Served c) = (counts ≡ Ok c) × IsNone stopped
+HasOutcome counts stopped outcomes.ListenerFault = IsErr counts × IsNone stopped
+HasOutcome counts stopped outcomes.FolderFault = IsSome stopped
+HasOutcome counts stopped outcomes.NoMemory = ⊥
 
 -- all workers served their shares over an open vault, which was closed then
-pub record HasServedAll {D N C E : Type 0} (start : Rows → Origin → Type 0) (since : FolderView → Type 0) (views : Views D N C E) (second : Option ℕ) (service : Service) (workers workers' : List (Worker N E)) (ends : List SessionEnd) (back : HandedBack D) : Type 0 where
+pub record HasServedAll {D N C E : Type 0} (start : Rows → Origin → Type 0) (since : FolderView → KeyPair → Rows → Type 0) (views : Views D N C E) (second : Option ℕ) (service : Service) (workers workers' : List (Worker N E)) (ends : List SessionEnd) (back : HandedBack D) : Type 0 where
   pub rows : Rows
   pub origin : Origin
   pub begins : start rows origin
-  pub store : Store D
+  pub store : OpenVault D
   pub counts : Result SessionCounts Failed
-  pub joined : IsJoined (λ s rows origin history. IsSharedStore views.folder since s rows origin history) is_undrawn views.listener views.entropy views.link second
+  pub joined : IsJoined (λ s rows origin history. IsSharedStore views.folder since s rows origin history) draws_for views.listener views.entropy views.link second
       service.sessions (min service.at_once (length workers)) rows origin store workers workers' counts
   pub ended : all_ends joined.shares ≡ ends
   pub folder : D
   pub folder_is : back.folder ≡ Some folder
-  pub closed : IsOnlyRead (views.folder (folder_in store)) (views.folder folder)
-  pub outcome : HasOutcome counts (Rose (views.folder (folder_in store)).faults (views.folder folder).faults) back.outcome
+  pub closed : folder ≡ store.folder
+  pub outcome : HasOutcome counts store.store.stopped back.outcome
 
--- there was no memory to serve, and no worker did anything; the folder was only read, if it is left
-pub record HasServedNone {D N C E : Type 0} (since : FolderView → Type 0) (views : Views D N C E) (workers workers' : List (Worker N E)) (back : HandedBack D) : Type 0 where
+-- the folder of a store that stood for no entries
+pub record IsUnasked {D : Type 0} (view : D → FolderView) (start : Rows → Origin → Type 0) (since : FolderView → KeyPair → Rows → Type 0) (folder : D) : Type 0 where
+  pub rows : Rows
+  pub origin : Origin
+  pub begins : start rows origin
+  pub store : StoreView
+  pub shared : IsSharedStore view since (record { store = store; folder = folder }) rows origin []
+
+-- there was no memory to serve, and no worker did anything; a store that is left stood for no entries
+pub record HasServedNone {D N C E : Type 0} (start : Rows → Origin → Type 0) (since : FolderView → KeyPair → Rows → Type 0) (views : Views D N C E) (workers workers' : List (Worker N E)) (back : HandedBack D) : Type 0 where
   pub outcome : back.outcome ≡ outcomes.NoMemory
   pub same : workers' ≡ workers
-  pub folder : IfSome back.folder (λ folder. IsReadSince since (views.folder folder))
+  pub folder : IfSome back.folder (λ folder. IsUnasked views.folder start since folder)
 
-abbrev pub HasServed : {D N C E : Type 0} → (Rows → Origin → Type 0) → (FolderView → Type 0) → Views D N C E → Option ℕ → Service → List (Worker N E) → List (Worker N E) → List SessionEnd → HandedBack D → Type 0
+abbrev pub HasServed : {D N C E : Type 0} → (Rows → Origin → Type 0) → (FolderView → KeyPair → Rows → Type 0) → Views D N C E → Option ℕ → Service → List (Worker N E) → List (Worker N E) → List SessionEnd → HandedBack D → Type 0
 HasServed start since views second service workers workers' ends back =
-    HasServedAll start since views second service workers workers' ends back ⊎ HasServedNone since views workers workers' back
+    HasServedAll start since views second service workers workers' ends back ⊎ HasServedNone start since views workers workers' back
 
 -- the sessions that an outcome counts, if it does
 abbrev pub AreCounted : List SessionEnd → Outcome → Type 0
@@ -76,7 +85,7 @@ unreported outcomes.FolderFault = 4
 unreported outcomes.NoMemory = 5
 
 -- all workers served over an open vault, and it was reported
-pub record HasServedVault {D N C E : Type 0} (start : Rows → Origin → Type 0) (since : FolderView → Type 0) (views : Views D N C E) (second : Option ℕ) (service : Service) (workers workers' : List (Worker N E)) (sink : Course SinkView) (ended : Ended D) : Type 0 where
+pub record HasServedVault {D N C E : Type 0} (start : Rows → Origin → Type 0) (since : FolderView → KeyPair → Rows → Type 0) (views : Views D N C E) (second : Option ℕ) (service : Service) (workers workers' : List (Worker N E)) (sink : Course SinkView) (ended : Ended D) : Type 0 where
   pub ends : List SessionEnd
   pub back : HandedBack D
   pub served : HasServed start since views second service workers workers' ends back

@@ -1,59 +1,52 @@
 -- An open vault as a tree that many callers ask.
-use Rattle.std.specs.Prelude.{◌≡◌, ℕ, List, Option, Ok}
+use Rattle.std.specs.Prelude.{◌≡◌, ℕ, ◌≤◌, List, Option, Ok}
 use Rattle.outside.specs.Calls.{Told}
-use Rattle.outside.specs.Images.{disk_in}
+use Rattle.outside.specs.Images.{disk_in, moment, now}
 use Rattle.outside.specs.Views.{FolderView}
 use Rattle.tree_model.specs.Rows.{Rows}
-use Rattle.tree_history.specs.History.{Made, Entry, Origin}
-use Rattle.tree_loading.specs.Clear.{IsClear}
+use Rattle.tree_history.specs.History.{Entry, Origin}
+use Rattle.siv_mode.specs.Keys.{KeyPair}
+use Rattle.stop_history.specs.Opening.{IsSoundlyFound}
+use Rattle.store_history.specs.Store.{IsStoreOf}
+use Rattle.store_history.specs.Ends.{IsFoundClear}
 use Rattle.vault_keys.specs.Unlock.{UnlockedVault}
 use Rattle.vault_unlock.specs.Unlock.{IsUnlocking}
 use Rattle.vault_unlock.specs.declared.unlocking.SecretKind.{SecretKind}
-use Rattle.vault_store.specs.Store.{IsStoreOf, IsOnlyRead, folder_in, moment_of}
-use Rattle.vault_store.specs.declared.store.Store.{Store}
+use Rattle.vault_store.specs.Open.{OpenVault}
 use Rattle.shared_sessions.specs.declared.workers.Worker.{Worker}
 use Rattle.vault_top.specs.Span.{SourceView, Views, worker_spans}
 use Rattle.vault_top.specs.Served.{entropy_before}
 
--- nothing is drawn for a request
-abbrev pub is_undrawn : Option (List ℕ) → Option (List ℕ) → Made → Type 0
-is_undrawn before after made = after ≡ before
-
--- a folder that was only read since it was so
-pub record IsReadSince (since : FolderView → Type 0) (now : FolderView) : Type 0 where
+-- a store stands for a history over a folder that was so as the run began, under keys and from rows that the run may begin with
+pub record IsSharedStore {D : Type 0} (view : D → FolderView) (since : FolderView → KeyPair → Rows → Type 0) (vault : OpenVault D) (rows : Rows) (origin : Origin) (history : List Entry) : Type 0 where
   pub start : FolderView
-  pub begins : since start
-  pub read : IsOnlyRead start now
+  pub begins : since start vault.store.keys rows
+  pub stands : IsStoreOf start.log vault.store (view vault.folder) rows origin history
+  pub faults : start.faults ≤ (view vault.folder).faults
 
--- a store stands for a history, and its folder was only read since
-pub record IsSharedStore {D : Type 0} (view : D → FolderView) (since : FolderView → Type 0) (store : Store D) (rows : Rows) (origin : Origin) (history : List Entry) : Type 0 where
-  pub stands : IsStoreOf view store rows origin history
-  pub folder : IsReadSince since (view (folder_in store))
-
--- the counts as a run begins
-abbrev pub begin_of : {D N C E : Type 0} → Views D N C E → D → List (Worker N E) → Origin
-begin_of views folder workers = record {
-  folder_faults = (views.folder folder).faults;
-  entropy_faults = entropy_before (worker_spans views workers workers);
-  moment = moment_of (views.folder folder).log;
-}
-
--- A run's history begins at the counts that there were, from the rows on that the disk stood for at the clock's second, under keys that the
--- secret unlocked.
-pub record Begins {D N C E : Type 0} (views : Views D N C E) (kind : SecretKind) (folder : D) (workers : List (Worker N E)) (secret : SourceView) (second : Option ℕ) (rows : Rows) (origin : Origin) : Type 0 where
-  pub origin_is : origin ≡ begin_of views folder workers
-  pub vault : UnlockedVault
-  pub gave : IsUnlocking kind secret.left (disk_in (views.folder folder).log) (λ found. found ≡ Ok vault)
-  pub unlocked : ℕ
-  pub clear : Told (disk_in (views.folder folder).log) (λ disk. IsClear vault.keys disk unlocked rows)
-  pub at_second : Told second (λ s. unlocked ≡ s)
+-- The counts at which a run's history begins: the folder's faults as they were, and its moment as the vault had been opened; and each worker's random source's
+-- faults as they were.
+pub record Begins {D N C E : Type 0} (views : Views D N C E) (folder : D) (workers : List (Worker N E)) (rows : Rows) (origin : Origin) : Type 0 where
+  pub folder_faults : origin.folder_faults ≡ (views.folder folder).faults
+  pub entropy_faults : origin.entropy_faults ≡ entropy_before (worker_spans views workers workers)
+  pub moment : Told (views.folder folder).log (λ log. IsSoundlyFound (now log) → moment log ≤ origin.moment)
 
 -- these are the rows and counts from which a run's history may begin
-pub record AreBeginnings {D N C E : Type 0} (start : Rows → Origin → Type 0) (views : Views D N C E) (kind : SecretKind) (folder : D) (workers : List (Worker N E)) (secret : SourceView) (second : Option ℕ) : Type 0 where
-  pub all : (rows : Rows) (origin : Origin) → Begins views kind folder workers secret second rows origin → start rows origin
-  pub only : (rows : Rows) (origin : Origin) → start rows origin → Begins views kind folder workers secret second rows origin
+pub record AreBeginnings {D N C E : Type 0} (start : Rows → Origin → Type 0) (views : Views D N C E) (folder : D) (workers : List (Worker N E)) : Type 0 where
+  pub all : (rows : Rows) (origin : Origin) → Begins views folder workers rows origin → start rows origin
+  pub only : (rows : Rows) (origin : Origin) → start rows origin → Begins views folder workers rows origin
 
--- the folder is so as the run begins, and only so
-pub record IsAlone (since : FolderView → Type 0) (folder : FolderView) : Type 0 where
-  pub is : since folder
-  pub only : (other : FolderView) → since other → other ≡ folder
+-- The folder was so as the run began; the secret unlocks these keys, and these are the rows of what the folder recovers to, of a vault that is unlocked at the clock's second.
+pub record IsBegun (kind : SecretKind) (folder : FolderView) (secret : SourceView) (second : Option ℕ) (start : FolderView) (keys : KeyPair) (rows : Rows) : Type 0 where
+  pub folder_is : start ≡ folder
+  pub vault : UnlockedVault
+  pub gave : IsUnlocking kind secret.left (disk_in folder.log) (λ found. found ≡ Ok vault)
+  pub keys_are : vault.keys ≡ keys
+  pub unlocked : ℕ
+  pub clear : Told folder.log (λ log. IsFoundClear keys (now log) unlocked rows)
+  pub at_second : Told second (λ s. unlocked ≡ s)
+
+-- it is so, and only so
+pub record IsAlone (since : FolderView → KeyPair → Rows → Type 0) (kind : SecretKind) (folder : FolderView) (secret : SourceView) (second : Option ℕ) : Type 0 where
+  pub all : (start : FolderView) (keys : KeyPair) (rows : Rows) → IsBegun kind folder secret second start keys rows → since start keys rows
+  pub only : (start : FolderView) (keys : KeyPair) (rows : Rows) → since start keys rows → IsBegun kind folder secret second start keys rows

@@ -10,6 +10,8 @@ use Rattle.vault_keys.specs.Unlock.{UnlockedVault}
 use Rattle.vault_unlock.specs.Unlock.{unlock_on}
 use Rattle.vault_unlock.specs.declared.unlocking.SecretKind.{SecretKind}
 use Rattle.vault_words.specs.Jobs.{Serving, serve, make}
+use Rattle.chunk_journal.specs.Journal.{IsAlike, RecoversTo}
+use Rattle.chunk_journal.specs.Opening.{IsDamagedAt, LeavesFolder}
 use Rattle.vault_make.specs.Vault.{IsEmpty}
 use Rattle.tree_loading.specs.Clear.{HasTooMany, root_folder}
 use Rattle.vault_causes.specs.declared.cause.Cause.TheVariants.{Memory}
@@ -17,12 +19,14 @@ use Rattle.vault_top.specs.Words.{Ask, kind_of}
 use Rattle.vault_top.specs.Span.{WorkerSpan, Span}
 use Rattle.vault_top.specs.Ending.{Ending, refused, usage_said, version_said, made, no_memory_to_serve, served, listener_fault, closing_fault, no_memory_to_report, SomeFailed}
 
--- the disk is that of a vault which the secret unlocks, with a folder for the root and no more nodes than a tree may have
+-- The disk is that of a vault which the secret unlocks. Its journal isn't damaged; and what it recovers to, whatever the journal's own files hold then, has a folder for
+-- the root and no more nodes than a tree may have.
 pub record IsVaultFor (kind : SecretKind) (secret : List ℕ) (disk : Disk) : Type 0 where
   pub vault : UnlockedVault
   pub unlocks : unlock_on kind secret disk ≡ Ok vault
-  pub root : IsFolder disk (root_folder vault.keys)
-  pub few : (n : ℕ) → HasTooMany vault.keys (Some disk) n → ⊥
+  pub undamaged : (at : ℕ) → IsDamagedAt disk at ⊎ LeavesFolder disk at → ⊥
+  pub root : (found after : Disk) → RecoversTo disk found → IsAlike found after → IsFolder after (root_folder vault.keys)
+  pub few : (found after : Disk) (n : ℕ) → RecoversTo disk found → IsAlike found after → HasTooMany vault.keys (Some after) n → ⊥
 
 pub record IsSound {C : Type 0} (span : Span C) : Type 0 where
   pub serving : Serving

@@ -1,5 +1,5 @@
 -- What a run of the program is given and what it leaves.
-use Rattle.std.specs.Prelude.{ℕ, List, Option}
+use Rattle.std.specs.Prelude.{◌≡◌, ℕ, ◌≤◌, List, Option}
 use Rattle.outside.specs.Images.{Log}
 use Rattle.outside.specs.Views.{FolderView, folder_view, EntropyView, entropy_view, ListenerView, listener_view, LinkView, link_view}
 pub use Rattle.session_workers.specs.Shares.{Course, course, WorkerSpan}
@@ -71,3 +71,9 @@ span_of views words secret second folder kept workers workers' = record {
   given = given_of views.folder secret second folder kept;
   workers = worker_spans views workers workers';
 }
+
+-- a folder that was only read since
+pub record IsOnlyRead (old new : FolderView) : Type 0 where
+  pub log : new.log ≡ old.log
+  pub changes : new.changes ≡ old.changes
+  pub faults : old.faults ≤ new.faults

@@ -55,6 +55,7 @@ fn cause_of(error: OpenErr) -> Cause
 {
     match error {
         OpenErr::Device => Cause::FolderFault,
+        OpenErr::JournalDamaged(at) => Cause::JournalDamaged(at),
         OpenErr::TooMany(_) => Cause::TooManyNodes,
         OpenErr::NoRoot => Cause::NoRoot,
         OpenErr::Memory => Cause::Memory,

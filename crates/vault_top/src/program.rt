@@ -45,24 +45,29 @@ pub struct Ended<D> {
 
 /// Runs the program: does the job that the words after its name ask for, and writes the report to `out`.
 ///
-/// `serve` reads the secret, unlocks the vault in `folder`, serves so many sessions as the words say, and gives the folder back: nothing in
-/// it is changed. As many workers as the words say, or all where there are fewer, share the sessions, each in a thread of its own where one
-/// can be made; a worker whose listener has no more links, or fails, ends before. `make` reads the secret and makes a vault in `folder`, of what it draws from the first worker. `--help` and `--version`
-/// touch nothing. Of a good secret its line alone is taken.
+/// `serve` reads the secret, unlocks the vault in `folder`, does what a stop left in its journal, serves so many sessions as the words say,
+/// and gives the folder back. What all sessions ask is one history of the vault's tree, which the folder follows by whole batches: a stop at
+/// any moment leaves what a beginning of the history comes to, with each entry that no stop undoes. Once a commit failed, nothing more is
+/// done, and each request is answered with the entry in which it failed. As many workers as the words say, or all where there are fewer,
+/// share the sessions, each in a thread of its own where one can be made; a worker whose listener has no more links, or fails, ends before.
+///
+/// `make` reads the secret and makes a vault in `folder`, of what it draws from the first worker. `--help` and `--version` touch nothing. Of
+/// a good secret its line alone is taken.
 ///
 /// | status | report | comes |
 /// |---|---|---|
-/// | 0 | `serving`, then `sessions N done a cut b bad c read d write e memory f limit g` | the vault was served |
+/// | 0 | `serving`, then `sessions N done a cut b bad c read d write e memory f limit g` | the vault was served, and no commit failed |
 /// | 0 | `made` | the folder was empty and holds a new vault |
 /// | 0 | `USAGE`; `VERSION` | the words are `--help`; `--version` |
 /// | 1 | `bad words` | the words ask for no job, or for one that isn't done yet |
 /// | 2 | `bad secret` | the secret's line is no password, or isn't two keys where keys are wanted |
 /// | 2, 3 | `wrong password`; `vault refused: ..` | the key files, with the cause; too many nodes; no root |
 /// | 4 | `device fault: secret`, `folder`, `random` | that count of faults rose |
-/// | 4 | `serving`, then `device fault: folder` | the folder's count of faults rose as the vault was closed |
+/// | 4 | `serving`, then `device fault: folder` | a commit failed in an entry of the history: the folder's count of faults rose |
 /// | 5 | `out of memory` | memory ran out before the job was done |
 /// | 5 | `serving`, then `out of memory` | the vault was served, and memory for the last line ran out |
 /// | 5 | `serving`, then `out of memory` | memory ran out before a session was served; the folder may be lost |
+/// | 6 | `journal damaged at N` | the journal that a stop left is damaged, at that place of its file in bytes |
 /// | 7 | `serving`, then `listener fault` | some listener's count of faults rose |
 /// | 8 | `not empty: NAME` | `make`'s folder has an entry, the first by the names' bytes |
 ///
@@ -124,7 +129,8 @@ where
     }
 }
 
-// Serves the vault that the secret unlocks. B says from where the history of all sessions may begin, and how the folder was then.
+// Serves the vault that the secret unlocks. B says from where the history of all sessions may begin, how the folder was then, and which keys
+// are unlocked.
 fn serve<
     R: Threads + Wait + Sync,
     D: Folder + Send,
@@ -150,8 +156,9 @@ where
     requires start { AreBeginnings B.is
         (views_of D.log D.faults D.changes N.to_come N.given_back N.faults
         N.Conn.left N.Conn.taken N.Conn.read_faults N.Conn.write_faults E.drawn E.faults)
-        service.kind folder workers.old.items (source_view S.left S.faults secret.old) (K.second clock.now) }
-    requires since { IsAlone B.since (folder_view D.log D.faults D.changes folder) }
+        folder workers.old.items }
+    requires since { IsAlone B.since service.kind (folder_view D.log D.faults D.changes folder)
+        (source_view S.left S.faults secret.old) (K.second clock.now) }
     ensures { (words : List (List ℕ)) (serving : Serving) → Ask words (serve serving) → IsServiceOf serving service → HasRun
         (views_of D.log D.faults D.changes N.to_come N.given_back N.faults
         N.Conn.left N.Conn.taken N.Conn.read_faults N.Conn.write_faults E.drawn E.faults)

@@ -1,6 +1,6 @@
 //! Serving all workers' sessions over an open vault.
 
-ghost use Rattle.std.specs.Prelude.{◌≡◌, ◌≤◌, [], List, IfSome, IsErr, min, vec_len};
+ghost use Rattle.std.specs.Prelude.{◌≡◌, ◌≤◌, ℕ, [], List, Option, IsErr, IsSome, min, option_map, vec_len};
 ghost use Rattle.outside.specs.Views.{folder_view};
 ghost use Rattle.session_server.specs.declared.ending.SessionEnd as ends;
 ghost use Rattle.tree_model.specs.Rows.{Rows};
@@ -8,8 +8,7 @@ ghost use Rattle.tree_history.specs.History.{Origin};
 ghost use Rattle.shared_vault.specs.Turns.{StandsFor};
 ghost use Rattle.shared_sessions.specs.Joined.{AreSince};
 ghost use Rattle.vault_top.specs.Span.{views_of};
-ghost use Rattle.vault_top.specs.Sharing.{IsReadSince, IsSharedStore};
-ghost use Rattle.vault_store.specs.Store.{folder_in};
+ghost use Rattle.vault_top.specs.Sharing.{IsSharedStore};
 ghost use Rattle.vault_top.specs.Serving.{HasOutcome, HasServed, unreported};
 
 use crate::task::Service;
@@ -29,7 +28,7 @@ pub(crate) enum Outcome {
     Served(SessionCounts),
     /// Some listener failed.
     ListenerFault,
-    /// The vault's folder failed as it was closed.
+    /// A commit failed: the vault's folder failed in it.
     FolderFault,
     /// There was no memory to serve.
     NoMemory,
@@ -114,8 +113,7 @@ fn sharers(at_once: u32, workers: usize) -> usize
 
 // The folder of a vault that was served to nobody, if it is left.
 fn folder_of<D: Folder, B: Since>(left: Option<SharedVault<D, B>>) -> Option<D>
-    ensures { IfSome left (λ vault. IsReadSince B.since (folder_view D.log D.faults D.changes (folder_in vault.store)))
-        → IfSome result (λ folder. IsReadSince B.since (folder_view D.log D.faults D.changes folder)) }
+    ensures { result ≡ option_map (λ vault. vault.store.folder) left }
 {
     match left {
         Some(vault) => Some(vault.into_store().close().0),
@@ -124,7 +122,7 @@ fn folder_of<D: Folder, B: Since>(left: Option<SharedVault<D, B>>) -> Option<D>
 }
 
 fn outcome_of(counts: Result<SessionCounts, Failed>, closed: Result<(), Failed>) -> Outcome
-    ensures { HasOutcome counts (IsErr closed) result }
+    ensures { (stopped : Option ℕ) → (IsErr closed → IsSome stopped) → (IsSome stopped → IsErr closed) → HasOutcome counts stopped result }
 {
     match (counts, closed) {
         (_, Err(_)) => Outcome::FolderFault,

@@ -6,25 +6,28 @@ use std::marker::{Brand, PhantomData};
 use tree_model::{Reply, Request};
 use vault_store::Store;
 
-/// How the folder was as the run began. `Brand` is one that each call of a function picks in its proof.
+/// How the folder was as the run began, the keys that the secret unlocks, and the rows from which the history begins. `Brand` is one
+/// that each call of a function picks in its proof.
 pub(crate) trait Since {
     ghost use Rattle.outside.specs.Views.{FolderView};
+    ghost use Rattle.siv_mode.specs.Keys.{KeyPair};
+    ghost use Rattle.tree_model.specs.Rows.{Rows};
 
-    ghost since: { FolderView → Type 0 };
+    ghost since: { FolderView → KeyPair → Rows → Type 0 };
 }
 
 impl Since for Brand {
-    ghost since = { λ _. Unit {0} };
+    ghost since = { λ _ _ _. Unit {0} };
 }
 
-/// An open vault, whose folder was only read since the run began.
+/// An open vault, with how the run began.
 #[derive(Drop)]
-pub(crate) struct SharedVault<D, B> {
+pub(crate) struct SharedVault<D: Folder, B> {
     store: Store<D>,
     since: PhantomData<B>,
 }
 
-impl<D, B> SharedVault<D, B> {
+impl<D: Folder, B> SharedVault<D, B> {
     ghost use Rattle.std.specs.Prelude.{◌≡◌};
 
     pub(crate) fn new(store: Store<D>) -> SharedVault<D, B>
@@ -46,11 +49,12 @@ impl<D, B> SharedVault<D, B> {
 
 impl<D: Folder, B: Since> SharedTree for SharedVault<D, B> {
     ghost use Rattle.outside.specs.Views.{folder_view};
-    ghost use Rattle.vault_top.specs.Sharing.{IsSharedStore, is_undrawn};
+    ghost use Rattle.store_history.specs.Turns.{draws_for};
+    ghost use Rattle.vault_top.specs.Sharing.{IsSharedStore};
 
     ghost stands = { λ vault rows origin history. IsSharedStore (folder_view D.log D.faults D.changes) B.since vault.store rows origin history };
 
-    ghost draws = { is_undrawn };
+    ghost draws = { draws_for };
 
     fn serve<E: Entropy>(
         &mut self,

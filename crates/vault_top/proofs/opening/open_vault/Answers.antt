@@ -1,9 +1,11 @@
-use Rattle.std.proofs.Common.{◌∙◌, inr, arith}
+use Rattle.std.proofs.Common.{Option, subst, inr, arith}
+use Rattle.outside.specs.Calls.{Changes}
+use Rattle.outside.specs.Images.{Log}
 use Rattle.outside.specs.Views.{folder_view}
+use Rattle.chunk_journal.specs.Opening.{StaysOpening}
 use Rattle.vault_keys.specs.Found.{unlocked_data}
-use Rattle.vault_store.specs.Store.{IsOnlyRead}
-use Rattle.vault_top.specs.Span.{course, source_view}
-use Rattle.vault_top.proofs.Opened.{closed_by}
+use Rattle.vault_top.specs.Span.{course, source_view, IsOnlyRead}
+use Rattle.vault_top.proofs.Opened.{closed_by, recovers}
 use Rattle.vault_top.proofs.opening.open_vault.Goals as goal
 
 pub returns-in-Ok-open-clause-opened : goal.returns-in-Ok-open-clause-opened
@@ -18,23 +20,36 @@ returns-in-Ok-open-clause-opened g c =
       now = c.now.result;
       second = c.now.ensures;
       opened = c.in-Ok-open.ensures.opened;
+      later = c.in-Ok-open.ensures.later;
     }
 
 pub returns-in-Err-open-clause-unopened : goal.returns-in-Err-open-clause-unopened
 returns-in-Err-open-clause-unopened g c =
     let view = folder_view g.D.Reads.log g.D.Reads.faults g.D.Reads.changes in
     let looked = c.unlock.new.folder in
+    let kept = c.in-Err-open.field-0.folder in
     let e = c.in-Ok.ensures in
     let o = c.in-Err-open.ensures in
+    let vault = unlocked_data c.in-Ok.unlocked in
     let read : IsOnlyRead (view c.args.folder) (view looked) = record { log = e.log; changes = e.changes; faults = e.folder.later } in
+    let stays : Changes (view c.args.folder).log (view kept).log StaysOpening = subst (λ (l : Option Log). Changes l (view kept).log StaysOpening) read.log o.refused in
     record {
       why = inr (record {
-        vault = unlocked_data c.in-Ok.unlocked;
+        vault = vault;
         unlocked = record { gave = e.unlocked; line = e.line };
         error = c.in-Err-open.field-0.cause;
         is = c.cause_of.ensures;
         closed = closed_by view (course (source_view g.S.Source.left g.S.Source.faults) c.args.secret.now c.unlock.new.secret) (g.K.Clock.second c.args.clock.now)
-            c.args.folder looked c.in-Err-open.field-0.folder (unlocked_data c.in-Ok.unlocked) c.in-Err-open.field-0.cause read o.no_root o.too_many o.cause.rose;
+            c.args.folder looked kept vault c.in-Err-open.field-0.cause read (record {
+              damaged = o.damaged;
+              too_many = λ n is. (o.too_many n is).1;
+              no_root = λ is. (o.no_root is).1;
+              many_opened = λ n is. (o.too_many n is).0;
+              bare_opened = λ is. (o.no_root is).0;
+              rose = o.cause.rose;
+            });
+        stays = stays;
+        recovers = recovers vault.keys (view c.args.folder).log (view kept).log stays;
       });
-      read = record { log = o.read.log ∙ e.log; changes = o.read.changes ∙ e.changes; faults = omega (arith, o.read.faults, e.folder.later) };
+      later = omega (arith, e.folder.later, o.cause.later);
     }

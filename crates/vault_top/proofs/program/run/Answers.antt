@@ -11,7 +11,7 @@ pub serve-requires-clause-start : goal.serve-requires-clause-start
 serve-requires-clause-start g c κs within = record { all = λ rows origin h. h; only = λ rows origin h. h }
 
 pub serve-requires-clause-since : goal.serve-requires-clause-since
-serve-requires-clause-since g c κs within = record { is = refl; only = λ other h. h }
+serve-requires-clause-since g c κs within = record { all = λ start keys rows h. h; only = λ start keys rows h. h }
 
 pub returns-in-Ok-Serve : goal.returns-in-Ok-Serve
 returns-in-Ok-Serve g c =

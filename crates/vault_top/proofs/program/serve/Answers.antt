@@ -18,8 +18,7 @@ pub serve_vault-requires-clause-since : goal.serve_vault-requires-clause-since
 serve_vault-requires-clause-since g c κs within =
     let views = views_of g.D.Reads.log g.D.Reads.faults g.D.Reads.changes g.N.Listener.to_come g.N.Listener.given_back g.N.Listener.faults
     g.N.Conn.Link.left g.N.Conn.Link.taken g.N.Conn.Link.read_faults g.N.Conn.Link.write_faults g.E.Entropy.drawn g.E.Entropy.faults in
-    begun_since g.B.Start.is views c.args.service.kind c.args.folder c.args.workers.now.items (source_view g.S.Source.left g.S.Source.faults c.args.secret.now) (g.K.Clock.second c.args.clock.now)
-    c.requires.start
+    begun_since g.B.Start.is views c.args.folder c.args.workers.now.items c.requires.start
 
 pub returns-in-Ok : goal.returns-in-Ok
 returns-in-Ok g c = λ words serving asked same.

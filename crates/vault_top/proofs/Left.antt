@@ -1,0 +1,66 @@
+-- What a store leaves that stands for a history.
+use Rattle.std.proofs.Common.{◌≡◌, ℕ, suc, ◌≤◌, List, [], Option, Some, None, IsNone, IsSome, refl, subst, inl, inr, arith}
+use Rattle.std.specs.Option.{option_map}
+use Rattle.outside.specs.Calls.{Changes, Told}
+use Rattle.outside.specs.Images.{Log, moment}
+use Rattle.outside.specs.Views.{FolderView}
+use Rattle.outside.proofs.Told.{told_then}
+use Rattle.siv_mode.specs.Keys.{KeyPair}
+use Rattle.tree_model.specs.Rows.{Rows}
+use Rattle.tree_history.specs.History.{Entry, Origin, tally_at, tally_of, AreCaused, IsLegal}
+use Rattle.stop_history.specs.Prefix.{IsWhole, StopsRecover}
+use Rattle.store_history.specs.Store.{StoreView, ArePlaced, IsSaidFrom, IsStoredIn, IsStoreOf, bounded, moment_of, shows_under}
+use Rattle.store_history.proofs.Ends.{stores_recover, stores_are_whole}
+use Rattle.store_history.proofs.Placed.{goes_nowhere}
+use Rattle.vault_top.specs.Served.{HasStops}
+
+-- ---- a commit that failed
+
+pub none_stopped : (stopped told : Option ℕ) → told ≡ option_map bounded stopped → IsNone told → IsNone stopped
+none_stopped None told same none = refl
+none_stopped (Some n) told same none = absurd (let is : IsNone (Some (bounded n)) = subst (λ (o : Option ℕ). IsNone o) same none in cc)
+
+pub some_stopped : (stopped told : Option ℕ) → told ≡ option_map bounded stopped → IsSome told → IsSome stopped
+some_stopped None told same some = subst (λ (o : Option ℕ). IsSome o) same some
+some_stopped (Some n) told same some = refl
+
+-- ---- what is left
+
+told_before : {X : Type 0} (a b : Option X) (P : X → X → Type 0) (T : X → Type 0) (Q : Type 0) → Changes a b P → Told b T → ((x : X) → T x → Q) → Told a (λ _. Q)
+told_before None b P T Q change told h = tt
+told_before (Some x) None P T Q change told h = absurd change
+told_before (Some x) (Some y) P T Q change told h = h y told
+
+-- the history is caused, legal and placed, a stop leaves a prefix of it, and the folder's counts are those at its end
+pub record Leaves (keys : KeyPair) (rows : Rows) (origin : Origin) (entries : List Entry) (before after : FolderView) : Type 0 where
+  pub caused : AreCaused (tally_at origin) entries
+  pub legal : Told before.log (λ log. IsLegal rows origin entries)
+  pub placed : Told after.log (ArePlaced keys rows origin entries)
+  pub stops : HasStops keys rows origin entries before after
+  pub whole : IsNone (tally_of origin entries).stopped → Told after.log (λ log. IsWhole (shows_under keys) rows entries log)
+  pub faults : (tally_of origin entries).folder_faults ≤ after.faults
+  pub moment : (tally_of origin entries).moment ≡ moment_of after.log
+
+pub left_by : (before after : FolderView) (store : StoreView) (rows : Rows) (origin : Origin) (entries : List Entry) → IsStoreOf before.log store after rows origin entries → Leaves store.keys rows origin entries before after
+left_by before after store rows origin entries is = record {
+  caused = is.caused;
+  legal = told_before before.log after.log _ _ (IsLegal rows origin entries) is.grown is.stored (λ log stored. record { caused = is.caused; answered = stored.answered });
+  placed = told_then after.log (IsStoredIn before.log store rows origin entries) (ArePlaced store.keys rows origin entries) is.stored (λ log stored. stored.placed);
+  stops = record { grown = is.grown; recover = stores_recover before.log store after rows origin entries is };
+  whole = λ none. stores_are_whole before.log store after rows origin entries is none;
+  faults = is.faults;
+  moment = is.moment;
+}
+
+-- ---- nothing is said of a folder that is as it was, where the history's moment is still to come
+
+nothing_since : (keys : KeyPair) (rows : Rows) (origin : Origin) (log : Log) → origin.moment ≡ suc (moment log) → (opened : ℕ) → IsSaidFrom (Some log) origin opened → StopsRecover (shows_under keys) opened rows [] log
+nothing_since keys rows origin log next opened (inl here) = λ m since within image is. absurd (omega (arith, since, within, here, next))
+nothing_since keys rows origin log next opened (inr found) = λ m since within image is. absurd (let here = found.1 in omega (arith, since, within, here))
+
+pub stops_nowhere : (keys : KeyPair) (rows : Rows) (origin : Origin) (view : FolderView) → origin.moment ≡ suc (moment_of view.log) → HasStops keys rows origin [] view view
+stops_nowhere keys rows origin view next = stops_in view.log next
+  where
+    stops_in : (log : Option Log) → origin.moment ≡ suc (moment_of log) → HasStops keys rows origin [] (record view { log = log }) (record view { log = log })
+    stops_in None same = record { grown = tt; recover = tt }
+    stops_in (Some log) same = record { grown = λ sound. goes_nowhere log; recover = nothing_since keys rows origin log same }
