@@ -17,20 +17,15 @@ pub(crate) struct Counts {
     pub faulty: u64,
 }
 
-// A run's folder after it, with as many changes more as its row lets it have.
+// A run's folder after it. Where its row doesn't say that it is changed, it consists of the parts that it began with.
 fn check_folder(
     alloc: Global,
     parts: &str,
     row: &Row<'_>,
-    changes: u64,
     folder: Option<MemFolder>,
 ) -> Result<MemFolder, RowErr> {
     let mut folder = folder.ok_or(RowErr::Differs("folder"))?;
-    let same = match row.holds {
-        None => folder.change_count() == changes,
-        Some(held) => holds(alloc, parts, held, &mut folder)?,
-    };
-    if same {
+    if row.changed || holds(alloc, parts, row.holds.unwrap_or(row.folder), &mut folder)? {
         Ok(folder)
     } else {
         Err(RowErr::Differs("folder"))
@@ -38,13 +33,7 @@ fn check_folder(
 }
 
 // Compares what a run came to with its row, and gives its folder.
-fn check_run(
-    alloc: Global,
-    parts: &str,
-    row: &Row<'_>,
-    changes: u64,
-    ran: Ran,
-) -> Result<MemFolder, RowErr> {
+fn check_run(alloc: Global, parts: &str, row: &Row<'_>, ran: Ran) -> Result<MemFolder, RowErr> {
     let mut ran = ran;
     if ran.report.taken() != row.report.as_slice() {
         return Err(RowErr::Differs("report"));
@@ -58,7 +47,7 @@ fn check_run(
     if compare_replies(alloc, row, &mut ran.workers)? != Likeness::Same {
         return Err(RowErr::Differs("replies"));
     }
-    check_folder(alloc, parts, row, changes, ran.folder)
+    check_folder(alloc, parts, row, ran.folder)
 }
 
 // Whether the report says that the folder failed.
@@ -142,21 +131,19 @@ pub(crate) fn check_row<R: Threads + Wait + Sync>(
 ) -> Result<MemFolder, RowErr> {
     if row.folder != "=" && row.is_sound() {
         let folder = folder_of(alloc, parts, row.folder)?;
-        let changes = folder.change_count();
         let ran = run_row(rt, alloc, row, folder, 1)?;
-        drop(check_run(alloc, parts, row, changes, ran)?);
+        drop(check_run(alloc, parts, row, ran)?);
         counts.runs = counts.runs.saturating_add(1);
     }
     let folder = first_folder(alloc, parts, row, before)?;
     let calls = folder.call_count();
-    let changes = folder.change_count();
     let mut failing = Vec::from_slice(alloc, &row.failing.folder)?;
     for call in failing.iter_mut() {
         *call = call.saturating_add(calls);
     }
     let ran = run_row(rt, alloc, row, folder.failing_at(failing), usize::MAX)?;
     let end = call_count(&ran);
-    let folder = check_run(alloc, parts, row, changes, ran)?;
+    let folder = check_run(alloc, parts, row, ran)?;
     counts.runs = counts.runs.saturating_add(1);
     if row.each_call {
         let count = check_each_call(rt, alloc, parts, row, calls, end)?;

@@ -3,8 +3,9 @@
 //! `data/parts.txt` has a line for each entry of a part of a folder: the part's name, `dir`, `text`, `bytes` or `zeros`, the path, and the text,
 //! the bytes in hexadecimal digits or their number. `data/runs.txt` has a block for each run. It begins with `run` and what it shows; then come
 //! the folder's parts (`-` for none, `=` for the folder that the run before has left), the words, the secret's lines, the workers with their
-//! clients' messages (`>` to the program, `<` to the client), which calls fail, and at the end the status, the report's lines and what the folder
-//! then holds, where it is changed. `left` is how many bytes of the secret aren't taken. With `each-call` a run is repeated with each call of the
+//! clients' messages (`>` to the program, `<` to the client), which calls fail, and at the end the status, the report's lines and the parts of which
+//! the folder then consists, where they are others, or `changed`, where random bytes are in it: a run over it then shows what it holds.
+//! `left` is how many bytes of the secret aren't taken. With `each-call` a run is repeated with each call of the
 //! folder failing, before it does anything and after a part of it. Every other run is repeated with one byte at a time.
 //!
 //! It is printed how many runs there were, and each that differs. The status is 1 if something differs or can't be read.

@@ -42,8 +42,10 @@ pub(crate) struct Row<'a> {
     pub crews: Vec<Crew>,
     pub status: u64,
     pub report: Vec<u8>,
-    /// The parts that the folder then consists of, where it is changed.
+    /// The parts that the folder then consists of, where they are others than before.
     pub holds: Option<&'a str>,
+    /// Whether the folder is changed in a way that parts don't give: its bytes come from random draws.
+    pub changed: bool,
     /// Whether it is run again with each call of the folder failing.
     pub each_call: bool,
 }
@@ -108,6 +110,7 @@ impl<'a> Row<'a> {
             status: 0,
             report: Vec::new(alloc),
             holds: None,
+            changed: false,
             each_call: false,
         }
     }
@@ -168,6 +171,7 @@ impl<'a> Row<'a> {
             "report" => push_line(&mut self.report, value)?,
             "report-part" => self.report.extend_from_slice(value.as_bytes())?,
             "holds" => self.holds = Some(value),
+            "changed" => self.changed = true,
             "each-call" => self.each_call = true,
             _ => return Err(RowErr::Line),
         }
