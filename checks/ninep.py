@@ -8,7 +8,8 @@ import subprocess
 NO_FID = 0xFFFFFFFF
 NO_TAG = 0xFFFF
 DIRECTORY = 0x80
-KINDS = {"version": 100, "attach": 104, "walk": 110, "open": 112, "read": 116, "clunk": 120, "stat": 124}
+KINDS = {"version": 100, "attach": 104, "walk": 110, "open": 112, "create": 114, "read": 116, "write": 118, "clunk": 120, "remove": 122, "stat": 124}
+KINDS |= {"wstat": 126}
 ERROR = 107
 
 
@@ -107,6 +108,40 @@ class Session:
 
     def clunk(self, fid):
         self.ask("clunk", struct.pack("<I", fid))
+
+    def create(self, fid, name, is_dir=False, mode=1):
+        """Makes a file or a directory in the one of a fid, which then is the new node's and open."""
+        permissions = 0x800001ED if is_dir else 0x1A4
+        return self.ask("create", struct.pack("<I", fid) + string(name) + struct.pack("<IB", permissions, 0 if is_dir else mode))
+
+    def write(self, fid, at, data):
+        """How many bytes were written."""
+        return struct.unpack("<I", self.ask("write", struct.pack("<IQI", fid, at, len(data)) + data))[0]
+
+    def remove(self, fid):
+        self.ask("remove", struct.pack("<I", fid))
+
+    def change(self, fid, name=b"", length=2**64 - 1, modified=2**32 - 1):
+        """A wstat (stat(5)) that leaves untouched what isn't given."""
+        stat = b"\xff" * 27 + struct.pack("<IQ", modified, length) + string(name) + string(b"") * 3
+        self.ask("wstat", struct.pack("<IHH", fid, len(stat) + 2, len(stat)) + stat)
+
+    def tree(self, names=()):
+        """What a client sees below a directory: the bytes of each file and link, None of a directory, by paths."""
+        fid, found = self.walk(list(names)), {}
+        self.open(fid)
+        for stat in stats(self.read_all(fid)):
+            path = [*names, stat.name]
+            if stat.qid_kind == DIRECTORY:
+                found[b"/" + b"/".join(path)] = None
+                found.update(self.tree(path))
+            else:
+                one = self.walk(path)
+                self.open(one)
+                found[b"/" + b"/".join(path)] = self.read_all(one)
+                self.clunk(one)
+        self.clunk(fid)
+        return found
 
     def end(self):
         """Ends the input, and gives the program's status."""
