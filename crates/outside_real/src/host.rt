@@ -4,7 +4,7 @@ ghost use Rattle.outside_real.specs.Missing.{IsMisfit};
 
 use crate::found::{Found, found_at, is_missing, kind_of};
 use crate::opened::{cut, flush, make_dir, make_file, read_at, replace_bytes, write_at};
-use crate::room::PathRoom;
+use crate::path_buffer::PathBuffer;
 use crate::touched::Touched;
 use outside::{FolderErr, Kind};
 use std::alloc::{AllocError, Global};
@@ -17,9 +17,9 @@ use vault_path::{Text, VaultPath};
 #[derive(Drop)]
 pub(crate) struct Host<R> {
     rt: R,
-    paths: PathRoom,
+    paths: PathBuffer,
     /// Where a rename leads.
-    target: PathRoom,
+    target: PathBuffer,
     touched: Touched,
     /// A flush has failed. The host may take the pages for written from then on, so no later sync can be trusted.
     flush_failed: bool,
@@ -74,7 +74,7 @@ fn names_in<R: Files>(rt: &R, alloc: Global, text: &str) -> Result<Vec<Text>, Fo
 }
 
 /// Flushes what stands at a path. Where nothing does, that is so by what is flushed of the folder above.
-fn flush_path<R: Files>(rt: &R, paths: &mut PathRoom, path: &VaultPath) -> Result<(), FolderErr>
+fn flush_path<R: Files>(rt: &R, paths: &mut PathBuffer, path: &VaultPath) -> Result<(), FolderErr>
     ensures no_memory { IsOkUnless result FolderErr.Failed }
     ensures base { string_bytes paths.new.base ≡ string_bytes paths.old.base }
 {
@@ -85,7 +85,11 @@ fn flush_path<R: Files>(rt: &R, paths: &mut PathRoom, path: &VaultPath) -> Resul
     }
 }
 
-fn flush_all<R: Files>(rt: &R, paths: &mut PathRoom, touched: &[VaultPath]) -> Result<(), FolderErr>
+fn flush_all<R: Files>(
+    rt: &R,
+    paths: &mut PathBuffer,
+    touched: &[VaultPath],
+) -> Result<(), FolderErr>
     ensures { IsOkUnless result FolderErr.Failed }
 {
     for path in touched {
@@ -101,8 +105,8 @@ impl<R: Files> Host<R> {
         ensures base { IfOk result (λ host. string_bytes host.paths.base ≡ path.now) }
         ensures flushes { IfOk result (λ host. host.flush_failed ≡ false) }
     {
-        let paths = PathRoom::new(alloc, path)?;
-        let target = PathRoom::new(alloc, path)?;
+        let paths = PathBuffer::new(alloc, path)?;
+        let target = PathBuffer::new(alloc, path)?;
         let touched = Touched::new(alloc)?;
         Ok(Host {
             rt,

@@ -37,7 +37,7 @@ mod host;
 mod link;
 mod listen;
 mod opened;
-mod room;
+mod path_buffer;
 mod socket;
 mod stream;
 mod touched;

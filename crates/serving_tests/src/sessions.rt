@@ -7,6 +7,7 @@ use std::alloc::{AllocError, Global};
 use std::process::Abort;
 use std::test::Fail;
 use tree_model::{Refusal, TreeObject};
+use vault_path::VaultPath;
 
 // The answer to a frame, or nothing where it is none.
 fn said<'a, B: TreeObject>(
@@ -226,11 +227,15 @@ fn unknown_comes_before_bad_and_bad_before_order(rt: HostRuntime) -> Result<(), 
 
 #[test]
 fn refusals_of_the_tree_are_told_and_change_nothing(rt: HostRuntime) -> Result<(), Fail> {
-    let rows: [(Refusal, &[u8]); 8] = [
+    let rows: [(Refusal, &[u8]); 22] = [
         (Refusal::Removed, b"\x10\0\0\0\x6b\x01\0\x07\0removed"),
         (
             Refusal::NotADirectory,
             b"\x18\0\0\0\x6b\x01\0\x0f\0not a directory",
+        ),
+        (
+            Refusal::IsADirectory,
+            b"\x17\0\0\0\x6b\x01\0\x0e\0is a directory",
         ),
         (Refusal::BadName, b"\x11\0\0\0\x6b\x01\0\x08\0bad name"),
         (
@@ -241,10 +246,53 @@ fn refusals_of_the_tree_are_told_and_change_nothing(rt: HostRuntime) -> Result<(
             Refusal::FileDoesNotExist,
             b"\x1c\0\0\0\x6b\x01\0\x13\0file does not exist",
         ),
+        (
+            Refusal::FileExists,
+            b"\x14\0\0\0\x6b\x01\0\x0b\0file exists",
+        ),
+        (
+            Refusal::NotPermitted,
+            b"\x16\0\0\0\x6b\x01\0\x0d\0not permitted",
+        ),
+        (
+            Refusal::DirectoryNotEmpty,
+            b"\x1c\0\0\0\x6b\x01\0\x13\0directory not empty",
+        ),
+        (
+            Refusal::CountTooSmall,
+            b"\x18\0\0\0\x6b\x01\0\x0f\0count too small",
+        ),
+        (
+            Refusal::FileTooLarge,
+            b"\x17\0\0\0\x6b\x01\0\x0e\0file too large",
+        ),
+        (
+            Refusal::GapTooLarge,
+            b"\x16\0\0\0\x6b\x01\0\x0d\0gap too large",
+        ),
+        (
+            Refusal::OneChangeAtATime,
+            b"\x1d\0\0\0\x6b\x01\0\x14\0one change at a time",
+        ),
+        (Refusal::VaultFull, b"\x13\0\0\0\x6b\x01\0\x0a\0vault full"),
         (Refusal::Damaged, b"\x10\0\0\0\x6b\x01\0\x07\0damaged"),
+        (Refusal::Foreign, b"\x10\0\0\0\x6b\x01\0\x07\0foreign"),
+        (
+            Refusal::PlaceTaken(VaultPath::root()),
+            b"\x14\0\0\0\x6b\x01\0\x0b\0place taken",
+        ),
+        (Refusal::Stopped(1), b"\x10\0\0\0\x6b\x01\0\x07\0stopped"),
+        (
+            Refusal::Exhausted(1),
+            b"\x12\0\0\0\x6b\x01\0\x09\0exhausted",
+        ),
         (
             Refusal::DeviceFault,
             b"\x15\0\0\0\x6b\x01\0\x0c\0device fault",
+        ),
+        (
+            Refusal::RandomFault,
+            b"\x15\0\0\0\x6b\x01\0\x0c\0random fault",
         ),
         (
             Refusal::OutOfMemory,

@@ -1,5 +1,6 @@
 -- What is told of a folder after a change.
-use Rattle.std.proofs.Common.{Option, Some, None}
+use Rattle.std.proofs.Common.{Option, Some, None, Result, Ok, Err}
+use Rattle.std.specs.Result.{OnErr}
 use Rattle.outside.specs.Calls.{Told, Changes}
 
 -- what follows from what was told before and from the change is told after it
@@ -8,3 +9,8 @@ told_after None None P Q R f p q = tt
 told_after None (Some y) P Q R f p q = absurd q
 told_after (Some x) None P Q R f p q = absurd q
 told_after (Some x) (Some y) P Q R f p q = f x y p q
+
+-- what holds anyway holds of an error
+pub on_err : {T E : Type 0} (result : Result T E) (P : Type 0) → P → OnErr result P
+on_err (Ok value) P h = tt
+on_err (Err error) P h = h

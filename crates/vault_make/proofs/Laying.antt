@@ -7,7 +7,7 @@ use Rattle.outside.specs.Images.{Log, now, IsSteady}
 use Rattle.outside.proofs.Told.{through, told_through}
 use Rattle.key_files.specs.Files.{masterkey_place, config_place, new_config_place}
 use Rattle.vault_make.specs.Vault.{IsEmpty}
-use Rattle.vault_make.specs.Stages.{IsRootPath, HasRoot, HasKeyFiles, IsLaidOut}
+use Rattle.vault_make.specs.Stages.{IsRootPath, HasRoot, HasKeyFiles, IsLaidOut, HasSynced}
 use Rattle.vault_make.proofs.Going.{told_after}
 use Rattle.vault_make.proofs.Stages.{top, middle, with_top, with_middle, with_bottom, can_middle, can_bottom, has_root, can_put_config, has_key_files, is_laid_out}
 
@@ -17,16 +17,16 @@ Does a b change = Changes a b (λ old new. now new ≡ done change (now old))
 
 -- it was flushed, and nothing else
 abbrev pub Syncs : Option Log → Option Log → Type 0
-Syncs a b = Changes a b (λ old new. (now new ≡ now old) × IsSteady new)
+Syncs a b = Changes a b HasSynced
 
 two : (a b c : Option Log) (x y : Change) → Does a b x → Does b c y → Changes a c (λ old new. now new ≡ done y (done x (now old)))
 two a b c x y p q = through a b c (λ old new. now new ≡ done x (now old)) (λ old new. now new ≡ done y (now old)) (λ old new. now new ≡ done y (done x (now old)))
     (λ l m n e f. f ∙ ap (done y) e) p q
 
-middle_is : (place mid : Path) (root : IsRootPath place) → mid ≡ parent place → mid ≡ middle root.0
+pub middle_is : (place mid : Path) (root : IsRootPath place) → mid ≡ parent place → mid ≡ middle root.0
 middle_is place mid root e = e ∙ ap parent root.2
 
-top_is : (place mid up : Path) (root : IsRootPath place) → mid ≡ parent place → up ≡ parent mid → up ≡ top
+pub top_is : (place mid up : Path) (root : IsRootPath place) → mid ≡ parent place → up ≡ parent mid → up ≡ top
 top_is place mid up root e f = f ∙ ap parent (middle_is place mid root e)
 
 pub can_second : (a b : Option Log) (place mid up : Path) → IsRootPath place → mid ≡ parent place → up ≡ parent mid → Told a (λ log. IsEmpty (now log)) → Does a b (MakeDir up)
@@ -89,21 +89,21 @@ files_put a b c place p q x y masterkey config e f g h has first second =
 
 -- ---- the vault file at its place
 
-moved : (a b c : Option Log) (place p q : Path) (masterkey config : List ℕ) → p ≡ new_config_place → q ≡ config_place → Told a (λ log. HasKeyFiles place masterkey config (now log))
+pub moved : (a b c : Option Log) (place p q : Path) (masterkey config : List ℕ) → p ≡ new_config_place → q ≡ config_place → Told a (λ log. HasKeyFiles place masterkey config (now log))
     → Syncs a b → Does b c (Move p q) → Changes a c (λ old new. IsLaidOut place masterkey config (now new))
 moved a b c place p q masterkey config e f has synced move =
-    told_through a b c (λ log. HasKeyFiles place masterkey config (now log)) (λ old new. (now new ≡ now old) × IsSteady new) (λ old new. now new ≡ done (Move p q) (now old))
+    told_through a b c (λ log. HasKeyFiles place masterkey config (now log)) HasSynced (λ old new. now new ≡ done (Move p q) (now old))
     (λ old new. IsLaidOut place masterkey config (now new))
     (λ old at new is sync last.
-    let end = last ∙ ap (done (Move p q)) sync.0 ∙ ap (λ (r : Path). done (Move r q) (now old)) e ∙ ap (λ (r : Path). done (Move new_config_place r) (now old)) f in
+    let end = last ∙ ap (done (Move p q)) sync.same ∙ ap (λ (r : Path). done (Move r q) (now old)) e ∙ ap (λ (r : Path). done (Move new_config_place r) (now old)) f in
     subst (IsLaidOut place masterkey config) (sym end) (is_laid_out (now old) place masterkey config is))
     has synced move
 
 pub installed : (a b c d : Option Log) (place p q : Path) (masterkey config : List ℕ) → p ≡ new_config_place → q ≡ config_place → Told a (λ log. HasKeyFiles place masterkey config (now log))
     → Syncs a b → Does b c (Move p q) → Syncs c d → Changes a d (λ old new. IsLaidOut place masterkey config (now new) × IsSteady new)
 installed a b c d place p q masterkey config e f has synced move last =
-    through a c d (λ old new. IsLaidOut place masterkey config (now new)) (λ old new. (now new ≡ now old) × IsSteady new) (λ old new. IsLaidOut place masterkey config (now new) × IsSteady new)
-    (λ old at new is sync. (subst (IsLaidOut place masterkey config) (sym sync.0) is, sync.1)) (moved a b c place p q masterkey config e f has synced move) last
+    through a c d (λ old new. IsLaidOut place masterkey config (now new)) HasSynced (λ old new. IsLaidOut place masterkey config (now new) × IsSteady new)
+    (λ old at new is sync. (subst (IsLaidOut place masterkey config) (sym sync.same) is, sync.steady)) (moved a b c place p q masterkey config e f has synced move) last
 
 -- ---- after one another
 
@@ -112,4 +112,4 @@ last_of a b c P R first second = through a b c P (λ old new. R new) (λ old new
 
 pub empty_after : (a b : Option Log) → Told a (λ log. IsEmpty (now log)) → Syncs a b → Told b (λ log. IsEmpty (now log))
 empty_after a b empty synced =
-    told_after a b (λ log. IsEmpty (now log)) (λ old new. (now new ≡ now old) × IsSteady new) (λ log. IsEmpty (now log)) (λ old new is sync. subst IsEmpty (sym sync.0) is) empty synced
+    told_after a b (λ log. IsEmpty (now log)) HasSynced (λ log. IsEmpty (now log)) (λ old new is sync. subst IsEmpty (sym sync.same) is) empty synced

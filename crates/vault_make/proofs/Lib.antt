@@ -1,5 +1,6 @@
 pub mod Stages
 pub mod Going
 pub mod Laying
+pub mod Stops
 pub mod First
 pub mod Made

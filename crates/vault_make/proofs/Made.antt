@@ -1,20 +1,21 @@
 -- What was laid out is a vault of what was drawn.
-use Rattle.std.proofs.Common.{◌≡◌, ℕ, List, [], Option, Some, Result, ap, subst, ◌∙◌}
+use Rattle.std.proofs.Common.{◌≡◌, ℕ, List, [], Option, Some, Result, ap, subst, ◌∙◌, inl, inr}
 use Rattle.std.specs.Result.{result_map_both}
 use Rattle.siv_mode.specs.Keys.{KeyPair}
 use Rattle.outside.specs.Calls.{Told, Changes}
 use Rattle.outside.specs.Disk.{Disk, Path, file}
-use Rattle.outside.specs.Images.{Log, now, IsSteady}
-use Rattle.outside.proofs.Told.{changed_from}
+use Rattle.outside.specs.Images.{Log, Synced, now, adds, LeavesOnly, IsSteady}
+use Rattle.outside.proofs.Told.{changed_by, changed_from}
+use Rattle.outside.proofs.Moments.{weaker}
 use Rattle.dir_paths.specs.Folder.{folder_of}
 use Rattle.masterkey_file.specs.KeyFile.{Fault as KeyFault}
 use Rattle.vault_config.specs.Config.{Fault as ConfigFault}
 use Rattle.vault_keys.specs.Unlock as unlock
 use Rattle.key_files.specs.Files.{found_in}
 use Rattle.vault_make.specs.Draws.{NewSecrets}
-use Rattle.vault_make.specs.Vault.{IsEmpty, IsNewVault}
+use Rattle.vault_make.specs.Vault.{IsEmpty, IsNewVault, IsNoneOrNew, LeavesNoneOrNew}
 use Rattle.vault_make.specs.Files.{AreFilesOf}
-use Rattle.vault_make.specs.Stages.{IsRootPath, IsLaidOut}
+use Rattle.vault_make.specs.Stages.{IsRootPath, IsLaidOut, IsNoneOrLaidOut}
 use Rattle.vault_make.specs.declared.files.KeyFiles.{KeyFiles}
 
 -- a folder of a directory begins with `d` and has three parts
@@ -44,3 +45,15 @@ made a b c password secrets files place same e are empty laid =
     (λ old new. IsEmpty (now old) × IsNewVault password secrets (now new) × IsSteady new)
     (λ old new was is. (was, is_new_vault password secrets files place (now new) e are is.0, is.1)) empty
     (subst (λ (o : Option Log). Changes o c (λ old new. IsLaidOut place files.masterkey.items files.config.items (now new) × IsSteady new)) same laid)
+
+none_or_new : (password : List ℕ) (secrets : NewSecrets) (files : KeyFiles) (place : Path) (d : Disk) → place ≡ folder_of secrets.keys [] → AreFilesOf password secrets files
+    → IsNoneOrLaidOut place files.masterkey.items files.config.items d → IsNoneOrNew password secrets d
+none_or_new password secrets files place d e are (inl none) = inl none
+none_or_new password secrets files place d e are (inr laid) = inr (is_new_vault password secrets files place d e are laid)
+
+pub stops : (a b : Option Log) (password : List ℕ) (secrets : NewSecrets) (files : KeyFiles) (place : Path) → place ≡ folder_of secrets.keys [] → AreFilesOf password secrets files
+    → Changes a b (λ old new. LeavesOnly (adds old Synced) new (IsNoneOrLaidOut place files.masterkey.items files.config.items)) → Changes a b (LeavesNoneOrNew password secrets)
+stops a b password secrets files place e are leaves =
+    changed_by a b (λ old new. LeavesOnly (adds old Synced) new (IsNoneOrLaidOut place files.masterkey.items files.config.items)) (LeavesNoneOrNew password secrets)
+    (λ old new h. weaker (adds old Synced) new (IsNoneOrLaidOut place files.masterkey.items files.config.items) (IsNoneOrNew password secrets)
+    (λ d is. none_or_new password secrets files place d e are is) h) leaves

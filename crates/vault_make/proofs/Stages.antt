@@ -105,18 +105,18 @@ masterkey_beside : masterkey_place ≢ new_config_place
 unfolding byte_of
 masterkey_beside e = not_same 109 118 (lit< tt) (ap (byte_of 0) e)
 
-masterkey_beside_config : masterkey_place ≢ config_place
+pub masterkey_beside_config : masterkey_place ≢ config_place
 unfolding byte_of
 masterkey_beside_config e = not_same 109 118 (lit< tt) (ap (byte_of 0) e)
 
-new_beside_config : new_config_place ≢ config_place
+pub new_beside_config : new_config_place ≢ config_place
 unfolding byte_of
 new_beside_config e = not_same 0 46 (lit< tt) (sym (ap (byte_of 17) e))
 
 masterkey_below : codes "masterkey.cryptomator" ≢ top_name
 masterkey_below e = not_same 100 109 (lit< tt) (sym (ap (λ (l : List ℕ). get_or l 0 0) e))
 
-config_below : codes "vault.cryptomator" ≢ top_name
+pub config_below : codes "vault.cryptomator" ≢ top_name
 config_below e = not_same 100 118 (lit< tt) (sym (ap (λ (l : List ℕ). get_or l 0 0) e))
 
 new_below : codes "vault.cryptomator.new" ≢ top_name

@@ -1,10 +1,11 @@
 -- Why no vault is made, and what stands then.
-use Rattle.std.specs.Prelude.{◌≡◌, ⊤}
+use Rattle.std.specs.Prelude.{◌≡◌, ◌⊎◌, ℕ, List}
 use Rattle.outside.specs.declared.folder.FolderErr.{FolderErr}
 use Rattle.outside.specs.declared.folder.FolderErr.TheVariants as folder_errs
 use Rattle.outside.specs.Calls.{Told}
 use Rattle.outside.specs.Images.{now}
 use Rattle.outside.specs.Views.{FolderView, EntropyView}
+use Rattle.vault_make.specs.Vault.{HasBegun}
 use Rattle.vault_make.specs.Entries.{IsFirstEntry}
 use Rattle.vault_make.specs.declared.error.MakeErr.{MakeErr}
 use Rattle.vault_make.specs.declared.error.MakeErr.TheVariants.{NotEmpty, Device, Entropy, Memory}
@@ -20,16 +21,17 @@ pub record IsUnwritten (folder folder' : FolderView) : Type 0 where
   pub changes : folder'.changes ≡ folder.changes
 
 -- what stands where the folder was empty
-abbrev pub IsBegun : MakeErr → FolderView → FolderView → Type 0
-IsBegun (NotEmpty name) folder folder' = ⊥
-IsBegun Device folder folder' = ⊤
-IsBegun Entropy folder folder' = IsUnwritten folder folder'
-IsBegun Memory folder folder' = IsUnwritten folder folder'
+abbrev pub IsBegun : List ℕ → MakeErr → FolderView → FolderView → EntropyView → EntropyView → Type 0
+IsBegun password (NotEmpty name) folder folder' entropy entropy' = ⊥
+IsBegun password Device folder folder' entropy entropy' = IsUnwritten folder folder' ⊎ HasBegun password folder folder' entropy entropy'
+IsBegun password Entropy folder folder' entropy entropy' = IsUnwritten folder folder'
+IsBegun password Memory folder folder' entropy entropy' = IsUnwritten folder folder'
 
--- what stands after an error: where the folder has entries nothing was drawn, and nothing was written unless the folder failed
-abbrev pub IsUnmade : MakeErr → FolderView → FolderView → EntropyView → EntropyView → Type 0
-IsUnmade (NotEmpty name) folder folder' entropy entropy' =
+-- What stands after an error: where the folder has entries nothing was drawn, and nothing was written unless the folder failed; then it failed
+-- before the first sync's end, or no stop since leaves a part for a vault.
+abbrev pub IsUnmade : List ℕ → MakeErr → FolderView → FolderView → EntropyView → EntropyView → Type 0
+IsUnmade password (NotEmpty name) folder folder' entropy entropy' =
     Told folder.log (λ log. IsFirstEntry (now log) name) × IsUnwritten folder folder' × (entropy' ≡ entropy)
-IsUnmade Device folder folder' entropy entropy' = ⊤
-IsUnmade Entropy folder folder' entropy entropy' = IsUnwritten folder folder'
-IsUnmade Memory folder folder' entropy entropy' = IsUnwritten folder folder'
+IsUnmade password Device folder folder' entropy entropy' = IsUnwritten folder folder' ⊎ HasBegun password folder folder' entropy entropy'
+IsUnmade password Entropy folder folder' entropy entropy' = IsUnwritten folder folder'
+IsUnmade password Memory folder folder' entropy entropy' = IsUnwritten folder folder'

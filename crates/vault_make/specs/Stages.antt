@@ -1,7 +1,10 @@
 -- A vault's folder while a vault is written into it.
-use Rattle.std.specs.Prelude.{◌≡◌, ◌≢◌, ℕ, List, [], ◌∷◌, ◌++◌, Some, None}
+use Rattle.std.specs.Prelude.{◌≡◌, ◌≢◌, ◌⊎◌, ℕ, List, [], ◌∷◌, ◌++◌, Some, None}
 use Rattle.outside.specs.Disk.{Disk, Path, file, node_at, IsFolder}
+use Rattle.outside.specs.Changes.{Change}
+use Rattle.outside.specs.Images.{Log, Synced, now, adds, IsImage, LeavesOnly, HasDone, HasBroken, IsSteady}
 use Rattle.key_files.specs.Files.{masterkey_place, config_place, new_config_place}
+use Rattle.vault_make.specs.Vault.{IsNoVault}
 
 -- `d`
 abbrev pub top_name : List ℕ
@@ -35,3 +38,23 @@ pub record IsLaidOut (place : Path) (masterkey_bytes config_bytes : List ℕ) (d
   pub root : HasBareRoot place disk
   pub masterkey : node_at disk masterkey_place ≡ Some (file masterkey_bytes)
   pub config : node_at disk config_place ≡ Some (file config_bytes)
+
+-- ---- what a stop leaves
+
+-- a change was called for: it was done, or failed on the way, or wasn't begun
+abbrev pub HasCalled : Change → Log → Log → Type 0
+HasCalled change old new = HasDone change old new ⊎ HasBroken change old new
+
+-- all is on the disk since a sync, which changed nothing
+pub record HasSynced (old new : Log) : Type 0 where
+  pub same : now new ≡ now old
+  pub steady : IsSteady new
+  pub call : new ≡ adds old Synced
+
+-- where no image was a vault, P of each image at each moment since
+abbrev pub LeavesFromNone : (Disk → Type 0) → Log → Log → Type 0
+LeavesFromNone P old new = ((image : Disk) → IsImage old image → IsNoVault image) → LeavesOnly old new P
+
+-- no vault, or all of one
+abbrev pub IsNoneOrLaidOut : Path → List ℕ → List ℕ → Disk → Type 0
+IsNoneOrLaidOut place masterkey_bytes config_bytes disk = IsNoVault disk ⊎ IsLaidOut place masterkey_bytes config_bytes disk

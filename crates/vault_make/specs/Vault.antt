@@ -1,10 +1,10 @@
 -- A new vault: what a folder holds before and after it was made.
-use Rattle.std.specs.Prelude.{◌≡◌, ℕ, List, [], ◌∷◌, ◌++◌, Some, None, Ok, Contains, All, false}
+use Rattle.std.specs.Prelude.{◌≡◌, ◌⊎◌, ℕ, List, [], ◌∷◌, ◌++◌, Some, None, Ok, Contains, All, false}
 use Rattle.std.specs.Ordering.{nat_cmp, is_lt}
 use Rattle.std.specs.Cmp.Lexicographic.{slice_cmp}
-use Rattle.outside.specs.Calls.{Changes, Extends}
+use Rattle.outside.specs.Calls.{Told, Changes, Extends}
 use Rattle.outside.specs.Disk.{Disk, file, node_at, IsFolder, IsTree}
-use Rattle.outside.specs.Images.{now, IsSteady}
+use Rattle.outside.specs.Images.{Log, Synced, now, adds, LeavesOnly, IsSteady}
 use Rattle.outside.specs.Views.{FolderView, EntropyView}
 use Rattle.dir_paths.specs.Folder.{folder_of}
 use Rattle.masterkey_file.specs.KeyFile.{key_file}
@@ -33,9 +33,34 @@ pub record IsNewVault (password : List ℕ) (secrets : NewSecrets) (disk : Disk)
   pub root : IsFolder disk (folder_of secrets.keys [])
   pub bare : (name : List ℕ) → node_at disk (folder_of secrets.keys [] ++ name ∷ []) ≡ None
 
--- the folder was empty, and holds a vault of secrets that were drawn since, all of it on the disk
+-- ---- what a stop leaves
+
+-- no vault, since there is no vault file
+abbrev pub IsNoVault : Disk → Type 0
+IsNoVault disk = node_at disk config_place ≡ None
+
+-- no vault, or the whole of a new one
+abbrev pub IsNoneOrNew : List ℕ → NewSecrets → Disk → Type 0
+IsNoneOrNew password secrets disk = IsNoVault disk ⊎ IsNewVault password secrets disk
+
+-- the first call since was a sync, and at each moment since it each image is no vault, or the whole of this new one
+abbrev pub LeavesNoneOrNew : List ℕ → NewSecrets → Log → Log → Type 0
+LeavesNoneOrNew password secrets old new = LeavesOnly (adds old Synced) new (IsNoneOrNew password secrets)
+
+-- a vault of secrets that were drawn since was begun in a folder that was empty, and no stop leaves a part of it for a vault
+pub record HasBegun (password : List ℕ) (folder folder' : FolderView) (entropy entropy' : EntropyView) : Type 0 where
+  pub secrets : NewSecrets
+  pub lengths : AreOfLength secrets
+  pub drawn : Extends entropy.drawn entropy'.drawn (drawn_bytes secrets)
+  pub empty : Told folder.log (λ log. IsEmpty (now log))
+  pub stops : Changes folder.log folder'.log (LeavesNoneOrNew password secrets)
+
+-- ---- after it was made
+
+-- the folder was empty, and holds a vault of secrets that were drawn since, all of it on the disk; no stop amid it left a part of it for a vault
 pub record HasMade (password : List ℕ) (folder folder' : FolderView) (entropy entropy' : EntropyView) : Type 0 where
   pub secrets : NewSecrets
   pub lengths : AreOfLength secrets
   pub drawn : Extends entropy.drawn entropy'.drawn (drawn_bytes secrets)
   pub vault : Changes folder.log folder'.log (λ old new. IsEmpty (now old) × IsNewVault password secrets (now new) × IsSteady new)
+  pub stops : Changes folder.log folder'.log (LeavesNoneOrNew password secrets)

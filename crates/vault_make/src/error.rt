@@ -10,7 +10,7 @@ use vault_path::Text;
 pub enum MakeErr {
     /// The folder isn't empty: this is its first entry, by the order of the names' bytes. Nothing was drawn or written.
     NotEmpty(Text),
-    /// The folder's count of faults rose. A part of a vault may have been written.
+    /// The folder's count of faults rose. A part of a vault may have been written, but a stop leaves no vault file, or the whole vault.
     Device,
     /// The random source's count of faults rose. Nothing was written.
     Entropy,

@@ -16,8 +16,8 @@ use std::alloc::Global;
 
 /// Makes a new vault in an empty folder under a password (UTF-8 in the form NFC). Where the folder is empty it draws 32 bytes for the
 /// encryption key, 32 for the MAC key, 8 for the salt and 16 for the vault file's identifier, and writes `masterkey.cryptomator`,
-/// `vault.cryptomator` with the threshold 220, and the empty folder of the root. After Ok all of it is on the disk. `MakeErr` tells
-/// each error's cause.
+/// `vault.cryptomator` with the threshold 220, and the empty folder of the root. From its first sync on, even where it fails later, a stop
+/// leaves no `vault.cryptomator`, or the whole vault. After Ok all of it is on the disk. `MakeErr` tells each error's cause.
 pub fn make<D: Folder, E: Entropy>(
     alloc: Global,
     folder: &mut D,
@@ -27,7 +27,7 @@ pub fn make<D: Folder, E: Entropy>(
     ensures made { OnOk result (HasMade password.now
         (folder_view D.log D.faults D.changes folder.old) (folder_view D.log D.faults D.changes folder.new)
         (entropy_view E.drawn E.faults entropy.old) (entropy_view E.drawn E.faults entropy.new)) }
-    ensures unmade { IfErr result (λ error. IsUnmade error
+    ensures unmade { IfErr result (λ error. IsUnmade password.now error
         (folder_view D.log D.faults D.changes folder.old) (folder_view D.log D.faults D.changes folder.new)
         (entropy_view E.drawn E.faults entropy.old) (entropy_view E.drawn E.faults entropy.new)) }
     ensures folder { HasCause (D.faults folder.old) (D.faults folder.new) (IsErrOf result MakeErr.Device) }
@@ -50,8 +50,9 @@ fn make_in_empty<D: Folder, E: Entropy>(
     ensures made { OnOk result (HasMade password.now
         (folder_view D.log D.faults D.changes folder.old) (folder_view D.log D.faults D.changes folder.new)
         (entropy_view E.drawn E.faults entropy.old) (entropy_view E.drawn E.faults entropy.new)) }
-    ensures unmade { IfErr result (λ error. IsBegun error
-        (folder_view D.log D.faults D.changes folder.old) (folder_view D.log D.faults D.changes folder.new)) }
+    ensures unmade { IfErr result (λ error. IsBegun password.now error
+        (folder_view D.log D.faults D.changes folder.old) (folder_view D.log D.faults D.changes folder.new)
+        (entropy_view E.drawn E.faults entropy.old) (entropy_view E.drawn E.faults entropy.new)) }
     ensures folder { HasCause (D.faults folder.old) (D.faults folder.new) (IsErrOf result MakeErr.Device) }
     ensures entropy { HasCause (E.faults entropy.old) (E.faults entropy.new) (IsErrOf result MakeErr.Entropy) }
 {

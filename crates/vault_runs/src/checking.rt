@@ -7,6 +7,7 @@ use crate::row::RowErr;
 use crate::running::{Ran, run_row};
 use outside_mem::MemFolder;
 use std::alloc::Global;
+use std::rt::Files;
 use std::sync::Wait;
 use std::thread::Threads;
 
@@ -18,14 +19,25 @@ pub(crate) struct Counts {
 }
 
 // A run's folder after it. Where its row doesn't say that it is changed, it consists of the parts that it began with.
-fn check_folder(
+fn check_folder<R: Files + Alloc>(
+    rt: &R,
     alloc: Global,
     parts: &str,
     row: &Row<'_>,
     folder: Option<MemFolder>,
 ) -> Result<MemFolder, RowErr> {
-    let mut folder = folder.ok_or(RowErr::Differs("folder"))?;
-    if row.changed || holds(alloc, parts, row.holds.unwrap_or(row.folder), &mut folder)? {
+    // What it holds is looked at by calls that don't fail.
+    let folder = folder.ok_or(RowErr::Differs("folder"))?;
+    let mut folder = folder.failing_at(Vec::new(alloc));
+    if row.changed
+        || holds(
+            rt,
+            alloc,
+            parts,
+            row.holds.unwrap_or(row.folder),
+            &mut folder,
+        )?
+    {
         Ok(folder)
     } else {
         Err(RowErr::Differs("folder"))
@@ -33,7 +45,13 @@ fn check_folder(
 }
 
 // Compares what a run came to with its row, and gives its folder.
-fn check_run(alloc: Global, parts: &str, row: &Row<'_>, ran: Ran) -> Result<MemFolder, RowErr> {
+fn check_run<R: Files + Alloc>(
+    rt: &R,
+    alloc: Global,
+    parts: &str,
+    row: &Row<'_>,
+    ran: Ran,
+) -> Result<MemFolder, RowErr> {
     let mut ran = ran;
     if ran.report.taken() != row.report.as_slice() {
         return Err(RowErr::Differs("report"));
@@ -47,7 +65,7 @@ fn check_run(alloc: Global, parts: &str, row: &Row<'_>, ran: Ran) -> Result<MemF
     if compare_replies(alloc, row, &mut ran.workers)? != Likeness::Same {
         return Err(RowErr::Differs("replies"));
     }
-    check_folder(alloc, parts, row, ran.folder)
+    check_folder(rt, alloc, parts, row, ran.folder)
 }
 
 // Whether the report says that the folder failed.
@@ -70,7 +88,7 @@ fn is_fault_told(alloc: Global, row: &Row<'_>, ran: Ran) -> Result<bool, RowErr>
 }
 
 // Runs a row with each of these calls of its folder failing, before it does anything or after a part of it.
-fn check_each_call<R: Threads + Wait + Sync>(
+fn check_each_call<R: Alloc + Files + Threads + Wait + Sync>(
     rt: &R,
     alloc: Global,
     parts: &str,
@@ -81,7 +99,7 @@ fn check_each_call<R: Threads + Wait + Sync>(
     let mut count = 0u64;
     for call in first..end {
         for breaks in [false, true] {
-            let folder = folder_of(alloc, parts, row.folder)?;
+            let folder = folder_of(rt, alloc, parts, row.folder)?;
             let calls = vec![in alloc; call]?;
             let folder = if breaks {
                 folder.breaking_at(calls)
@@ -107,7 +125,8 @@ fn call_count(ran: &Ran) -> u64 {
 }
 
 // The folder that a row begins with.
-fn first_folder(
+fn first_folder<R: Files + Alloc>(
+    rt: &R,
     alloc: Global,
     parts: &str,
     row: &Row<'_>,
@@ -116,12 +135,12 @@ fn first_folder(
     if row.folder == "=" {
         before.ok_or(RowErr::Line)
     } else {
-        folder_of(alloc, parts, row.folder)
+        folder_of(rt, alloc, parts, row.folder)
     }
 }
 
 /// Runs a row, also with one byte at a time and with each call of the folder failing, where that is asked. Gives the folder that is left.
-pub(crate) fn check_row<R: Threads + Wait + Sync>(
+pub(crate) fn check_row<R: Alloc + Files + Threads + Wait + Sync>(
     rt: &R,
     alloc: Global,
     parts: &str,
@@ -130,12 +149,12 @@ pub(crate) fn check_row<R: Threads + Wait + Sync>(
     counts: &mut Counts,
 ) -> Result<MemFolder, RowErr> {
     if row.folder != "=" && row.is_sound() {
-        let folder = folder_of(alloc, parts, row.folder)?;
+        let folder = folder_of(rt, alloc, parts, row.folder)?;
         let ran = run_row(rt, alloc, row, folder, 1)?;
-        drop(check_run(alloc, parts, row, ran)?);
+        drop(check_run(rt, alloc, parts, row, ran)?);
         counts.runs = counts.runs.saturating_add(1);
     }
-    let folder = first_folder(alloc, parts, row, before)?;
+    let folder = first_folder(rt, alloc, parts, row, before)?;
     let calls = folder.call_count();
     let mut failing = Vec::from_slice(alloc, &row.failing.folder)?;
     for call in failing.iter_mut() {
@@ -143,7 +162,7 @@ pub(crate) fn check_row<R: Threads + Wait + Sync>(
     }
     let ran = run_row(rt, alloc, row, folder.failing_at(failing), usize::MAX)?;
     let end = call_count(&ran);
-    let folder = check_run(alloc, parts, row, ran)?;
+    let folder = check_run(rt, alloc, parts, row, ran)?;
     counts.runs = counts.runs.saturating_add(1);
     if row.each_call {
         let count = check_each_call(rt, alloc, parts, row, calls, end)?;

@@ -4,6 +4,8 @@ use crate::row::{RowErr, number, path, push_bytes};
 use outside::{Folder, Kind, Reads};
 use outside_mem::MemFolder;
 use std::alloc::Global;
+use std::fs;
+use std::rt::Files;
 use vault_path::VaultPath;
 
 /// What a part puts at a path.
@@ -13,6 +15,8 @@ enum Thing<'a> {
     Text(&'a str),
     Bytes(&'a str),
     Zeros(u64),
+    // The file there of the vault of this name, which lies beside the tables.
+    Kept(&'a str),
 }
 
 // Most zeros that a part puts.
@@ -27,15 +31,20 @@ struct Entry<'a> {
 
 // The line's entry, where the line is of the part of this name.
 fn entry_of<'a>(line: &'a str, part: &str) -> Result<Option<Entry<'a>>, RowErr> {
-    let mut fields = line.splitn(4, ' ');
-    if fields.next() != Some(part) {
+    let mut fields = line.splitn(3, ' ');
+    let name = fields.next().ok_or(RowErr::Line)?;
+    if name != part {
         return Ok(None);
     }
     let kind = fields.next().ok_or(RowErr::Line)?;
-    let path = fields.next().ok_or(RowErr::Line)?;
-    let what = fields.next().unwrap_or("");
+    let rest = fields.next().ok_or(RowErr::Line)?;
+    let (path, what) = match kind {
+        "dir" | "kept" => (rest, ""),
+        _ => rest.split_once(' ').unwrap_or((rest, "")),
+    };
     let thing = match kind {
         "dir" => Thing::Dir,
+        "kept" => Thing::Kept(name),
         "text" => Thing::Text(what),
         "bytes" => Thing::Bytes(what),
         "zeros" => Thing::Zeros(number(what)?.min(MOST_ZEROS)),
@@ -44,24 +53,49 @@ fn entry_of<'a>(line: &'a str, part: &str) -> Result<Option<Entry<'a>>, RowErr> 
     Ok(Some(Entry { path, thing }))
 }
 
+// The bytes of a file of a vault that lies beside the tables.
+fn kept_bytes<R: Files + Alloc>(
+    rt: &R,
+    alloc: Global,
+    vault: &str,
+    path: &str,
+) -> Result<Vec<u8>, RowErr> {
+    let mut at = String::from_str(alloc, "trees/")?;
+    at.push_str(vault)?;
+    at.push_str("/v/")?;
+    at.push_str(path)?;
+    let bytes = fs::read(rt, at.as_str()).map_err(|_| RowErr::File)?;
+    Ok(Vec::from_slice(alloc, &bytes)?)
+}
+
 // The bytes of a file; None for a folder.
-fn bytes_of(alloc: Global, thing: &Thing<'_>) -> Result<Option<Vec<u8>>, RowErr> {
+fn bytes_of<R: Files + Alloc>(
+    rt: &R,
+    alloc: Global,
+    entry: &Entry<'_>,
+) -> Result<Option<Vec<u8>>, RowErr> {
     let mut bytes = Vec::new(alloc);
-    match thing {
+    match entry.thing {
         Thing::Dir => return Ok(None),
         Thing::Text(text) => bytes.extend_from_slice(text.as_bytes())?,
         Thing::Bytes(digits) => push_bytes(alloc, &mut bytes, digits)?,
         Thing::Zeros(count) => {
-            for _ in 0..*count {
+            for _ in 0..count {
                 bytes.push(0)?;
             }
         }
+        Thing::Kept(vault) => return Ok(Some(kept_bytes(rt, alloc, vault, entry.path)?)),
     }
     Ok(Some(bytes))
 }
 
 /// A folder of these parts, whose names have a space between each two; `-` is an empty folder.
-pub(crate) fn folder_of(alloc: Global, table: &str, parts: &str) -> Result<MemFolder, RowErr> {
+pub(crate) fn folder_of<R: Files + Alloc>(
+    rt: &R,
+    alloc: Global,
+    table: &str,
+    parts: &str,
+) -> Result<MemFolder, RowErr> {
     let mut folder = MemFolder::new(alloc)?;
     if parts == "-" {
         return Ok(folder);
@@ -69,7 +103,7 @@ pub(crate) fn folder_of(alloc: Global, table: &str, parts: &str) -> Result<MemFo
     for part in parts.split(' ') {
         for line in table.lines() {
             if let Some(entry) = entry_of(line, part)? {
-                match bytes_of(alloc, &entry.thing)? {
+                match bytes_of(rt, alloc, &entry)? {
                     None => folder.make_dir(&path(entry.path)?)?,
                     Some(bytes) => folder.put(&path(entry.path)?, &bytes)?,
                 }
@@ -116,16 +150,22 @@ fn has_file(
 }
 
 // Whether a folder has an entry.
-fn has_entry(alloc: Global, folder: &mut MemFolder, entry: &Entry<'_>) -> Result<bool, RowErr> {
+fn has_entry<R: Files + Alloc>(
+    rt: &R,
+    alloc: Global,
+    folder: &mut MemFolder,
+    entry: &Entry<'_>,
+) -> Result<bool, RowErr> {
     let at = path(entry.path)?;
-    match bytes_of(alloc, &entry.thing)? {
+    match bytes_of(rt, alloc, entry)? {
         None => Ok(folder.kind(&at)? == Some(Kind::Dir)),
         Some(bytes) => has_file(alloc, folder, &at, &bytes),
     }
 }
 
 /// Whether a folder has the entries of these parts, and no other.
-pub(crate) fn holds(
+pub(crate) fn holds<R: Files + Alloc>(
+    rt: &R,
     alloc: Global,
     table: &str,
     parts: &str,
@@ -136,7 +176,7 @@ pub(crate) fn holds(
         for line in table.lines() {
             if let Some(entry) = entry_of(line, part)? {
                 count = count.saturating_add(1);
-                if !has_entry(alloc, folder, &entry)? {
+                if !has_entry(rt, alloc, folder, &entry)? {
                     return Ok(false);
                 }
             }

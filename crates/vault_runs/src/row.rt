@@ -19,6 +19,8 @@ pub(crate) enum RowErr {
     Hex(#[from] FromHexError),
     #[error("a path is bad")]
     Path,
+    #[error("a file beside the tables can't be read")]
+    File,
     #[error("{0}")]
     Folder(#[from] FolderErr),
     #[error("out of memory")]

@@ -6,13 +6,14 @@ use crate::running::words_of;
 use outside_mem::{MemSink, MemSource, OpenGate, SeedEntropy, SetClock};
 use shared_sessions_tests::{OneLink, TurnLink};
 use std::alloc::Global;
+use std::rt::Files;
 use std::sync::Wait;
 use std::sync::atomic::AtomicU64;
 use std::thread::Threads;
 use vault_top::{Worker, run};
 
 /// Two sessions, of which each waits for the other's first reply before it goes on, are both done: they are served at once.
-pub(crate) fn check_waiting<R: Threads + Wait + Sync>(
+pub(crate) fn check_waiting<R: Alloc + Files + Threads + Wait + Sync>(
     rt: &R,
     alloc: Global,
     parts: &str,
@@ -38,7 +39,7 @@ pub(crate) fn check_waiting<R: Threads + Wait + Sync>(
         rt,
         alloc,
         &words,
-        folder_of(alloc, parts, "zero-root")?,
+        folder_of(rt, alloc, parts, "zero-root")?,
         &mut workers,
         &mut MemSource::new(alloc, keys),
         &mut report,

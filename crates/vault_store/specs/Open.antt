@@ -12,9 +12,10 @@ use Rattle.node_changes.specs.Changed.{IsAtRest}
 use Rattle.node_changes.specs.declared.tree.VaultTree.{VaultTree}
 use Rattle.store_history.specs.Store.{StoreView, bounded}
 
--- what it is in memory, and its folder
+-- what it is in memory, the threshold by which new names have their places, and its folder
 pub record OpenVault (D : Type 0) : Type 0 where
   pub store : StoreView
+  pub threshold : ℕ
   pub folder : D
 
 abbrev pub view_of : VaultTree → ℕ → Option ℕ → StoreView

@@ -33,7 +33,7 @@ impl<D: Folder> Model for Store<D> {
 
     ghost Value = { OpenVault D };
 
-    ghost view = { λ s. record { store = view_of s.vault.tree s.entries s.stopped; folder = s.vault.journal } };
+    ghost view = { λ s. record { store = view_of s.vault.tree s.entries s.stopped; threshold = s.vault.tree.threshold; folder = s.vault.journal } };
 
     ghost invariant = { λ s. IsResting (D.log s.vault.journal) s.vault.tree.threshold (view_of s.vault.tree s.entries s.stopped) };
 }
@@ -52,6 +52,7 @@ impl<D: Folder> Store<D> {
         requires { (1 ≤ threshold) × (threshold ≤ 250) }
         ensures opened { IfOk result (λ store. IsOpened (folder_view D.log D.faults D.changes folder) keys.now now store.store
             (folder_view D.log D.faults D.changes store.folder)) }
+        ensures threshold { IfOk result (λ store. store.threshold ≡ threshold) }
         ensures later { IfOk result (λ store. D.faults folder ≤ D.faults store.folder) }
         ensures damaged { IfErr result (λ refused. (at : ℕ) → refused.cause ≡ open_errs.JournalDamaged at
             → Told (D.log folder) (λ log. IsDamagedAt (disk_now log) at ⊎ LeavesFolder (disk_now log) at)) }
@@ -94,6 +95,7 @@ impl<D: Folder> Store<D> {
         ensures enters { is_exhausted (plain_reply result) ≡ false }
         ensures rest { KeepsRest (plain_request request.now) (plain_reply result) buffer.old buffer.new }
         ensures keys { self.new.store.keys ≡ self.old.store.keys }
+        ensures threshold { self.new.threshold ≡ self.old.threshold }
         ensures faults { D.faults self.old.folder ≤ D.faults self.new.folder }
         ensures entropy { E.faults entropy.old ≤ E.faults entropy.new }
     {

@@ -29,7 +29,7 @@ pub unasked : {V D : Type 0} (store_of : V → OpenVault D) (view : D → Folder
     → IfSome folder (IsUnasked view start since)
 unasked store_of view start since None folder same h = subst (λ (o : Option _). IfSome o (IsUnasked view start since)) (sym same) tt
 unasked store_of view start since (Some vault) folder same h = subst (λ (o : Option _). IfSome o (IsUnasked view start since)) (sym same)
-    (record { rows = h.rows; origin = h.origin; begins = h.begins; store = (store_of vault).store; shared = h.right })
+    (record { rows = h.rows; origin = h.origin; begins = h.begins; store = (store_of vault).store; threshold = (store_of vault).threshold; shared = h.right })
 
 -- a tree that stands for what a store does was served, and the store was closed
 pub served_all : {T D N C E : Type 0} (stands : T → Rows → Origin → List Entry → Type 0) (start : Rows → Origin → Type 0) (since : FolderView → KeyPair → Rows → Type 0) (views : Views D N C E) (second : Option ℕ) (service : Service) (workers workers' : List (Worker N E))

@@ -175,7 +175,7 @@ unshared_kept : {D N C E : Type 0} (start : Rows → Origin → Type 0) (since :
     → Changes secret.before.left secret.after.left IsAfterLine → IsUnasked views.folder start since kept
     → IsUnshared (span_of views words secret second folder kept workers workers)
 unshared_kept start since views words secret second folder kept serving service workers asked same starts alone line h =
-    let store : OpenVault _ = record { store = h.store; folder = kept } in
+    let store : OpenVault _ = record { store = h.store; threshold = h.threshold; folder = kept } in
     let begun = alone.only h.shared.start h.store.keys h.rows h.shared.begins in
     let left = leaves since views.folder service.kind secret.before second folder store kept h.rows h.origin [] h.shared refl begun in
     record {

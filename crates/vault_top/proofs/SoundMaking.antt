@@ -44,13 +44,13 @@ secret_sound given secret_errs.Device sound faultless h = absurd (faultless h)
 secret_sound given secret_errs.Bad sound faultless h = absurd (no_password given.secret.before.left sound h)
 secret_sound given secret_errs.Memory sound faultless h = refl
 
-make_sound : (given : Given) (entropy : Course EntropyView) (error : MakeErr) → IsSomeAnd given.folder.before.log (λ log. IsEmpty (now log))
+make_sound : (given : Given) (entropy : Course EntropyView) (password : List ℕ) (error : MakeErr) → IsSomeAnd given.folder.before.log (λ log. IsEmpty (now log))
     → (Rose given.folder.before.faults given.folder.after.faults → ⊥) → (Rose entropy.before.faults entropy.after.faults → ⊥)
-    → IsUnmade error given.folder.before given.folder.after entropy.before entropy.after → HasRisen error given.folder entropy → of_make error ≡ Memory
-make_sound given entropy (make_errs.NotEmpty name) empty folder random why risen = absurd (no_entry name given.folder.before.log empty why.0)
-make_sound given entropy make_errs.Device empty folder random why risen = absurd (folder risen)
-make_sound given entropy make_errs.Entropy empty folder random why risen = absurd (random risen)
-make_sound given entropy make_errs.Memory empty folder random why risen = refl
+    → IsUnmade password error given.folder.before given.folder.after entropy.before entropy.after → HasRisen error given.folder entropy → of_make error ≡ Memory
+make_sound given entropy password (make_errs.NotEmpty name) empty folder random why risen = absurd (no_entry name given.folder.before.log empty why.0)
+make_sound given entropy password make_errs.Device empty folder random why risen = absurd (folder risen)
+make_sound given entropy password make_errs.Entropy empty folder random why risen = absurd (random risen)
+make_sound given entropy password make_errs.Memory empty folder random why risen = refl
 
 not_made_sound : {C : Type 0} (given : Given) (cause : Cause) (workers : List (WorkerSpan C)) → IsSomeAnd given.secret.before.left (λ bytes. IsSome (password_of bytes))
     → IsSomeAnd given.folder.before.log (λ log. IsEmpty (now log))
@@ -59,7 +59,7 @@ not_made_sound : {C : Type 0} (given : Given) (cause : Cause) (workers : List (W
 not_made_sound given cause [] sound empty secret folder random drawn = absurd drawn
 not_made_sound given cause (first ∷ others) sound empty secret folder random drawn = elim drawn.1 [
   | inl h ↦ h.is ∙ secret_sound given h.error sound secret h.why
-  | inr h ↦ h.is ∙ make_sound given first.entropy h.error empty folder (λ rose. random (inl rose)) h.why h.risen
+  | inr h ↦ h.is ∙ make_sound given first.entropy h.password h.error empty folder (λ rose. random (inl rose)) h.why h.risen
 ]
 
 refused_sound : {C : Type 0} (span : Span C) (cause : Cause) → IsSoundToMake span → IsFaultless span → (SomeRandomFailed span.workers → ⊥) → IsRefused span cause → cause ≡ Memory

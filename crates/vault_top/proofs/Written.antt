@@ -19,13 +19,13 @@ whole_then (Some o) (Some m) None x y h k = absurd k
 whole_then (Some o) (Some m) (Some n) x y h k = k ∙ ap (λ (w : List ℕ). w ++ y) h ∙ append_assoc o x y
 
 part_more : (o m n x y : List ℕ) → m ≡ o ++ x → TakesPart y m n → TakesPart (x ++ y) o n
-part_more o m n x y h k = (
-  x ++ k.0,
-  k.1,
-  k.2,
-  ap (λ (w : List ℕ). x ++ w) k.3 ∙ sym (append_assoc x k.0 k.1),
-  k.4 ∙ ap (λ (w : List ℕ). w ++ k.0) h ∙ append_assoc o x k.0,
-)
+part_more o m n x y h k = record {
+  part = x ++ k.part;
+  lost = k.lost;
+  some_lost = k.some_lost;
+  text_is = ap (λ (w : List ℕ). x ++ w) k.text_is ∙ sym (append_assoc x k.part k.lost);
+  new_is = k.new_is ∙ ap (λ (w : List ℕ). w ++ k.part) h ∙ append_assoc o x k.part;
+}
 
 pub part_then : (a b c : Contents) (x y : List ℕ) → Changes a b (λ old new. new ≡ old ++ x) → Changes b c (TakesPart y) → Changes a c (TakesPart (x ++ y))
 part_then None None None x y h k = tt
@@ -44,13 +44,13 @@ written_then before middle after a b c x y whole cut status le first (inr h) = i
 -- a part of a front is a part of the whole
 pub part_front : (a b : Contents) (x y : List ℕ) → Changes a b (TakesPart x) → Changes a b (TakesPart (x ++ y))
 part_front a b x y h =
-    changed_by a b (TakesPart x) (TakesPart (x ++ y)) (λ old new k. (
-      k.0,
-      k.1 ++ y,
-      omega (arith, k.2, length-append k.1 y),
-      ap (λ (w : List ℕ). w ++ y) k.3 ∙ append_assoc k.0 k.1 y,
-      k.4,
-    )) h
+    changed_by a b (TakesPart x) (TakesPart (x ++ y)) (λ old new k. record {
+      part = k.part;
+      lost = k.lost ++ y;
+      some_lost = omega (arith, k.some_lost, length-append k.lost y);
+      text_is = ap (λ (w : List ℕ). w ++ y) k.text_is ∙ append_assoc k.part k.lost y;
+      new_is = k.new_is;
+    }) h
 
 -- the first part wasn't taken whole
 pub written_not : (before after : ℕ) (a b : Contents) (x y : List ℕ) (whole cut status : ℕ) → Rose before after → status ≡ cut → Changes a b (TakesPart x)

@@ -55,7 +55,7 @@ pub record FailsToMake (given : Given) (entropy : Course EntropyView) (cause : C
   pub secret : HasPassword given password
   pub error : MakeErr
   pub is : cause ≡ of_make error
-  pub why : IsUnmade error given.folder.before given.folder.after entropy.before entropy.after
+  pub why : IsUnmade password error given.folder.before given.folder.after entropy.before entropy.after
   pub risen : HasRisen error given.folder entropy
   pub later : given.folder.before.faults ≤ given.folder.after.faults
 

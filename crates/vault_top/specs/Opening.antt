@@ -82,7 +82,7 @@ pub record IsUnopened (given : Given) (kind : SecretKind) (cause : Cause) : Type
   pub why : (FailsToUnlock given kind cause × IsOnlyRead given.folder.before given.folder.after) ⊎ FailsToOpen given kind cause
   pub later : given.folder.before.faults ≤ given.folder.after.faults
 
--- the store was opened at the clock's second, under the keys of the unlocked vault, over the folder as unlocking left it
+-- the store was opened at the clock's second, under the keys and with the threshold of the unlocked vault, over the folder as unlocking left it
 pub record IsUnlockedStore {D : Type 0} (view : D → FolderView) (given : Given) (kind : SecretKind) (folder : D) (store : OpenVault D) : Type 0 where
   pub vault : UnlockedVault
   pub unlocked : IsUnlocked given kind vault
@@ -92,4 +92,5 @@ pub record IsUnlockedStore {D : Type 0} (view : D → FolderView) (given : Given
   pub now : ℕ
   pub second : Told given.second (λ second. now ≡ second)
   pub opened : IsOpened (view looked) vault.keys now store.store (view store.folder)
+  pub threshold : store.threshold ≡ vault.threshold
   pub later : (view looked).faults ≤ (view store.folder).faults

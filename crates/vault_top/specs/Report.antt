@@ -8,8 +8,12 @@ abbrev pub line : List ℕ → List ℕ
 line text = text ++ 10 ∷ []
 
 -- a part from a text's front was taken, and not all of it
-abbrev pub TakesPart : List ℕ → List ℕ → List ℕ → Type 0
-TakesPart text old new = (part : List ℕ) × (lost : List ℕ) × (0 < length lost) × (text ≡ part ++ lost) × (new ≡ old ++ part)
+pub record TakesPart (text old new : List ℕ) : Type 0 where
+  pub part : List ℕ
+  pub lost : List ℕ
+  pub some_lost : 0 < length lost
+  pub text_is : text ≡ part ++ lost
+  pub new_is : new ≡ old ++ part
 
 -- ---- how sessions ended
 

@@ -51,7 +51,8 @@ pub record IsUnasked {D : Type 0} (view : D → FolderView) (start : Rows → Or
   pub origin : Origin
   pub begins : start rows origin
   pub store : StoreView
-  pub shared : IsSharedStore view since (record { store = store; folder = folder }) rows origin []
+  pub threshold : ℕ
+  pub shared : IsSharedStore view since (record { store = store; threshold = threshold; folder = folder }) rows origin []
 
 -- there was no memory to serve, and no worker did anything; a store that is left stood for no entries
 pub record HasServedNone {D N C E : Type 0} (start : Rows → Origin → Type 0) (since : FolderView → KeyPair → Rows → Type 0) (views : Views D N C E) (workers workers' : List (Worker N E)) (back : HandedBack D) : Type 0 where

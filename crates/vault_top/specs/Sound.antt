@@ -1,6 +1,6 @@
 -- What the program is given that is sound, and that nothing failed. To serve, the words ask for it, and secret and disk are told, of which
 -- the one unlocks the other; to make, the words ask for it, and the secret has a password and the folder is empty, both told.
-use Rattle.std.specs.Prelude.{◌≡◌, ◌⊎◌, ℕ, List, [], ◌∷◌, Some, Ok, IsSome, IsSomeAnd, ⊤}
+use Rattle.std.specs.Prelude.{◌≡◌, ◌⊎◌, ℕ, List, [], ◌∷◌, Option, Some, Ok, IsSome, IsSomeAnd, ⊤}
 use Rattle.outside.specs.Calls.{Rose}
 use Rattle.outside.specs.Disk.{Disk, IsFolder}
 use Rattle.outside.specs.Images.{now, disk_in}
@@ -16,8 +16,10 @@ use Rattle.vault_make.specs.Vault.{IsEmpty}
 use Rattle.tree_loading.specs.Clear.{HasTooMany, root_folder}
 use Rattle.vault_causes.specs.declared.cause.Cause.TheVariants.{Memory}
 use Rattle.vault_top.specs.Words.{Ask, kind_of}
-use Rattle.vault_top.specs.Span.{WorkerSpan, Span}
-use Rattle.vault_top.specs.Ending.{Ending, refused, usage_said, version_said, made, no_memory_to_serve, served, listener_fault, closing_fault, no_memory_to_report, SomeFailed}
+use Rattle.vault_top.specs.Span.{Course, SourceView, SinkView, Views, WorkerSpan, Span, span_of}
+use Rattle.vault_top.specs.Ending.{Ending, refused, usage_said, version_said, made, no_memory_to_serve, served, listener_fault, closing_fault, no_memory_to_report, SomeFailed, HasRun}
+use Rattle.shared_sessions.specs.declared.workers.Worker.{Worker}
+use Rattle.vault_top.specs.declared.program.Ended.{Ended}
 
 -- The disk is that of a vault which the secret unlocks. Its journal isn't damaged; and what it recovers to, whatever the journal's own files hold then, has a folder for
 -- the root and no more nodes than a tree may have.
@@ -51,6 +53,13 @@ IsServedOrFull (served ends) = ⊤
 IsServedOrFull (listener_fault ends) = ⊥
 IsServedOrFull (closing_fault ends) = ⊥
 IsServedOrFull (no_memory_to_report ends) = ⊤
+
+-- a run over a sound vault, in which nothing failed, the sink neither
+pub record IsSoundRun {D N C E : Type 0} (views : Views D N C E) (words : List (List ℕ)) (secret : Course SourceView) (second : Option ℕ) (folder : D) (workers workers' : List (Worker N E)) (sink : Course SinkView) (ended : Ended D) : Type 0 where
+  pub run : HasRun views words secret second folder workers workers' sink ended
+  pub sound : IsSound (span_of views words secret second folder run.kept workers workers')
+  pub faultless : IsFaultless (span_of views words secret second folder run.kept workers workers')
+  pub written : Rose sink.before.faults sink.after.faults → ⊥
 
 -- ---- making
 

@@ -1,6 +1,9 @@
-ghost use Rattle.vault_top.specs.Span.{Views, Span};
+ghost use Rattle.std.specs.Prelude.{◌≡◌, ◌⊎◌, ℕ, List, Option};
+ghost use Rattle.shared_sessions.specs.declared.workers.Worker.{Worker};
+ghost use Rattle.vault_top.specs.declared.program.Ended.{Ended};
+ghost use Rattle.vault_top.specs.Span.{Course, SourceView, SinkView, Views, Span};
 ghost use Rattle.vault_top.specs.Ending.{Ending, HasReason};
-ghost use Rattle.vault_top.specs.Sound.{IsSound, IsSoundToMake, IsFaultless, IsServedOrFull, IsMadeOrFull, SomeRandomFailed};
+ghost use Rattle.vault_top.specs.Sound.{IsSound, IsSoundRun, IsSoundToMake, IsFaultless, IsServedOrFull, IsMadeOrFull, SomeRandomFailed};
 
 use outside::{Entropy, Folder, Listener};
 
@@ -9,6 +12,13 @@ use outside::{Entropy, Folder, Listener};
 pub fn a_sound_vault_is_served<D: Folder, N: Listener, E: Entropy>()
     ensures { (views : Views D N N.Conn E) (span : Span N.Conn) (ending : Ending) → IsSound span → IsFaultless span
         → HasReason views span ending → IsServedOrFull ending }
+{}
+
+/// A run over a sound vault, in which nothing failed, the sink neither, ends with the status 0 or 5.
+pub fn a_sound_run_ends_with_0_or_5<D: Folder, N: Listener, E: Entropy>()
+    ensures { (views : Views D N N.Conn E) (words : List (List ℕ)) (secret : Course SourceView) (second : Option ℕ) (folder : D)
+        (workers workers' : List (Worker N E)) (sink : Course SinkView) (ended : Ended D)
+        → IsSoundRun views words secret second folder workers workers' sink ended → (ended.status ≡ 0) ⊎ (ended.status ≡ 5) }
 {}
 
 /// In an empty folder, where the words ask for making a vault, the secret has a password and nothing failed, the program's ending is that

@@ -15,6 +15,8 @@ mod serving;
 mod task;
 mod vault;
 
-pub use laws::{a_sound_vault_is_served, an_empty_folder_becomes_a_vault};
+pub use laws::{
+    a_sound_run_ends_with_0_or_5, a_sound_vault_is_served, an_empty_folder_becomes_a_vault,
+};
 pub use program::{Ended, run};
 pub use shared_sessions::Worker;

@@ -51,8 +51,8 @@ pub struct Ended<D> {
 /// done, and each request is answered with the entry in which it failed. As many workers as the words say, or all where there are fewer,
 /// share the sessions, each in a thread of its own where one can be made; a worker whose listener has no more links, or fails, ends before.
 ///
-/// `make` reads the secret and makes a vault in `folder`, of what it draws from the first worker. `--help` and `--version` touch nothing. Of
-/// a good secret its line alone is taken.
+/// `make` reads the secret and makes a vault in `folder`, of what it draws from the first worker; from its first sync on a stop leaves no
+/// vault, or the whole of it, even where it fails later. `--help` and `--version` touch nothing. Of a good secret its line alone is taken.
 ///
 /// | status | report | comes |
 /// |---|---|---|

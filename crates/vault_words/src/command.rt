@@ -1,6 +1,6 @@
 ghost use Rattle.std.specs.Prelude.{◌≡◌, IfOk, false, map};
 ghost use Rattle.std.specs.String.{string_bytes};
-ghost use Rattle.clap.specs.Words.{FailsBy, app_of, fault_of, rule_of, subcommand_of, subcommand_rows_of};
+ghost use Rattle.clap.specs.Words.{FailsBy, app_of, fault_of, rule_of, subcommand_of, subcommand_rows_of, with_subcommand};
 ghost use Rattle.clap.specs.declared.builder.command.Command.TheViews.{out-Command as fields_of};
 ghost use Rattle.vault_words.specs.Command.{bare, demo, directory, flag, make, option, required_option, serve, serve_with_required, vaultd};
 
@@ -19,12 +19,25 @@ pub(crate) fn matches<'a>(alloc: Global, words: &'a [String]) -> Result<ArgMatch
 fn vaultd<'a>(alloc: Global) -> Result<Command<'a>, AllocError>
     ensures { IfOk result (λ command. app_of command ≡ vaultd) }
 {
-    let serve = serve(alloc)?;
-    let make = make(alloc)?;
+    let command = with_serve_and_make(alloc)?;
     let demo = demo(alloc)?;
-    let one = bare(alloc).subcommand(serve)?;
-    let two = one.subcommand(make)?;
-    two.subcommand(demo)
+    command.subcommand(demo)
+}
+
+// The program with its first command. A function for each command, as a check of several whose calls may fail is long.
+fn with_serve<'a>(alloc: Global) -> Result<Command<'a>, AllocError>
+    ensures { IfOk result (λ command. app_of command ≡ with_subcommand bare serve.top) }
+{
+    let serve = serve(alloc)?;
+    bare(alloc).subcommand(serve)
+}
+
+fn with_serve_and_make<'a>(alloc: Global) -> Result<Command<'a>, AllocError>
+    ensures { IfOk result (λ command. app_of command ≡ with_subcommand (with_subcommand bare serve.top) make.top) }
+{
+    let command = with_serve(alloc)?;
+    let make = make(alloc)?;
+    command.subcommand(make)
 }
 
 // The program without its commands.

@@ -20,6 +20,7 @@ returns-in-Ok-open-clause-opened g c =
       now = c.now.result;
       second = c.now.ensures;
       opened = c.in-Ok-open.ensures.opened;
+      threshold = c.in-Ok-open.ensures.threshold;
       later = c.in-Ok-open.ensures.later;
     }
 

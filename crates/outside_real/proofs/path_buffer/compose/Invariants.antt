@@ -2,7 +2,7 @@
 use Rattle.std.proofs.Common.{◌≡◌, ◌≤◌, ◌+◌, ◌*◌, length, take, string_bytes, string_len}
 use Rattle.std.specs.String.{string_capacity}
 use Rattle.outside_real.specs.HostPath.{joined}
-use Rattle.outside_real.proofs.room.compose.Given as goal
+use Rattle.outside_real.proofs.path_buffer.compose.Given as goal
 
 abbrev pub invariant-loop-index : goal.invariant-loop-index
 invariant-loop-index l = record {

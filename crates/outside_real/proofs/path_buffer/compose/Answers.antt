@@ -1,6 +1,6 @@
 use Rattle.std.proofs.Common.{◌<◌, ◌∙◌, ap, ◌++◌, ◌∷◌, length, arith}
 use Rattle.outside_real.proofs.HostPathLemmas.{joined_more}
-use Rattle.outside_real.proofs.room.compose.Goals as goal
+use Rattle.outside_real.proofs.path_buffer.compose.Goals as goal
 
 pub loop-index-preserved : goal.loop-index-preserved
 loop-index-preserved c =

@@ -12,15 +12,15 @@ const LONGEST_PARTS: usize = 6 * 256;
 
 /// A folder's own path, and room for the host's text of any path in it.
 #[derive(Drop)]
-pub(crate) struct PathRoom {
+pub(crate) struct PathBuffer {
     base: String,
     room: String,
     ghost roomy: { string_len base + 1536 ≤ string_capacity room },
 }
 
-impl PathRoom {
+impl PathBuffer {
     /// Reserves the room for the paths in a folder.
-    pub(crate) fn new(alloc: Global, folder: &str) -> Result<PathRoom, AllocError>
+    pub(crate) fn new(alloc: Global, folder: &str) -> Result<PathBuffer, AllocError>
         ensures { IfOk result (λ paths. string_bytes paths.base ≡ folder.now) }
     {
         let base = String::from_str(alloc, folder)?;
@@ -28,7 +28,7 @@ impl PathRoom {
             Some(capacity) => String::with_capacity(alloc, capacity)?,
             None => return Err(AllocError),
         };
-        Ok(PathRoom { base, room })
+        Ok(PathBuffer { base, room })
     }
 
     /// Composes the host's text of a path. It takes no memory.
