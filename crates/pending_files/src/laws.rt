@@ -1,11 +1,12 @@
 //! Laws of what waits, for contracts alone.
 
-ghost use Rattle.std.specs.Prelude.{◌≡◌, ◌≤◌, ◌+◌, ℕ, List, Some, None, length, take, max};
+ghost use Rattle.std.specs.Prelude.{◌≡◌, ◌≤◌, ◌+◌, ℕ, List, [], Some, None, length, take, max};
 ghost use Rattle.outside.specs.Changes.{overwritten};
-ghost use Rattle.outside.specs.Disk.{Disk, Path, node_at, file};
+ghost use Rattle.outside.specs.Disk.{Disk, Path, node_at, file, IsTree};
 ghost use Rattle.deeds.specs.Reshape.{Ranges};
 ghost use Rattle.deeds.specs.Deeds.{PlainDeed, DoesAll, in_order};
 ghost use Rattle.pending_files.specs.Pending.{ArePending, IsPlace, file_of, cut_in, put_in};
+ghost use Rattle.pending_files.specs.Laid.{laid, CanWait, LookAlike};
 ghost use Rattle.pending_files.specs.Later.{CanReshape, IsReshaped, IsChangedTo, IsWhole};
 
 /// What waits can be done where each of its files can be reshaped; then each of them is, and all else is as it was.
@@ -33,4 +34,12 @@ pub fn putting_in_what_waits()
         → DoesAll (in_order deeds) old later → node_at later path ≡ Some (file bytes) → IsPlace at → length sealed ≤ 32796
         → at ≤ length bytes → at + length sealed ≤ size → size ≤ max (length bytes) (at + length sealed) → IsWhole size at sealed
         → (next : Disk) × DoesAll (in_order (put_in path size at sealed deeds)) old next × IsChangedTo path (take size (overwritten bytes at sealed)) later next }
+{}
+
+/// What waits is laid over a disk just as it is done on it, and leaves what the disk looks like; nothing can always wait.
+pub fn laying_what_waits()
+    ensures nothing { (disk : Disk) → CanWait [] disk }
+    ensures alone { (deeds : List PlainDeed) (old later : Disk) → ArePending deeds → DoesAll (in_order deeds) old later → later ≡ laid deeds old }
+    ensures tree { (deeds : List PlainDeed) (disk : Disk) → CanWait deeds disk → IsTree disk → IsTree (laid deeds disk) }
+    ensures alike { (deeds : List PlainDeed) (disk : Disk) → CanWait deeds disk → LookAlike disk (laid deeds disk) }
 {}

@@ -15,5 +15,5 @@ mod places;
 mod reading;
 mod room;
 
-pub use laws::{cutting_what_waits, doing_what_waits, putting_in_what_waits};
+pub use laws::{cutting_what_waits, doing_what_waits, laying_what_waits, putting_in_what_waits};
 pub use pending::Pending;
