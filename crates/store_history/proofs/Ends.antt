@@ -1,11 +1,16 @@
 -- What the end of a store leaves, whenever it comes.
-use Rattle.std.proofs.Common.{ℕ, List, [], length, refl, subst, sym, inl}
+use Rattle.std.proofs.Common.{◌≤◌, ℕ, List, [], length, Option, Some, None, IsNone, refl, subst, sym, inl}
+use Rattle.outside.specs.Calls.{Changes, Told}
 use Rattle.outside.specs.Disk.{Disk}
 use Rattle.outside.specs.Images.{Log, now}
-use Rattle.outside.proofs.Told.{told_then}
-use Rattle.chunk_journal.specs.Journal.{RecoversTo}
+use Rattle.outside.specs.Views.{FolderView}
+use Rattle.outside.proofs.Told.{changed_from, told_then}
+use Rattle.deeds.specs.Deeds.{PlainDeed}
+use Rattle.chunk_journal.specs.Journal.{AnyMoment, IsBeforeOrAfter, RecoversTo}
+use Rattle.pending_files.specs.Laid.{laid}
+use Rattle.pending_files.proofs.Batched.{is_repeatable}
 use Rattle.tree_model.specs.Rows.{Rows}
-use Rattle.tree_history.specs.History.{Entry, rows_at, tally_of}
+use Rattle.tree_history.specs.History.{Entry, Origin, rows_at, tally_of}
 use Rattle.stop_history.specs.Crash.{DiskShows}
 use Rattle.stop_history.specs.Prefix.{StopsRecover, IsWhole}
 use Rattle.stop_history.specs.Stands.{IsRunning}
@@ -13,11 +18,13 @@ use Rattle.stop_history.proofs.Images.{rest_recovers}
 use Rattle.stop_history.proofs.Moves.{shows_all}
 use Rattle.stop_history.proofs.Openings.{opening_recovers}
 use Rattle.stop_history.proofs.States.{state_runs}
-use Rattle.stop_history.proofs.Stops.{state_stops}
-use Rattle.store_history.specs.Store.{shows_under, IsSaidFrom, IsStoredIn}
-use Rattle.store_history.specs.Ends.{FailedOpeningsRecover, StoresRecover, StoresAreWhole}
+use Rattle.stop_history.proofs.Stops.{closes_broken, state_stops}
+use Rattle.store_history.specs.Store.{StoreView, ArePlaced, IsSaidFrom, IsStoredIn, IsStoreOf, LogGoesOn, moment_of, shows_under}
+use Rattle.store_history.specs.Ends.{ClosingsRecover, FailedOpeningsRecover, IsCutShort, StoresRecover, StoresAreWhole}
 use Rattle.store_history.proofs.Shows.{shows_blind}
 use Rattle.store_history.proofs.Openings.{stays_soundly}
+use Rattle.store_history.proofs.Placed.{grows_on, leaves_go_on, places_go_on}
+use Rattle.store_history.proofs.Turns.{none_back}
 
 pub failed_openings_recover : FailedOpeningsRecover
 failed_openings_recover keys old new stays sound = opening_recovers (shows_under keys) (shows_blind keys) old new (stays_soundly old new stays sound) sound
@@ -25,7 +32,7 @@ failed_openings_recover keys old new stays sound = opening_recovers (shows_under
 pub stores_recover : StoresRecover
 stores_recover found store folder rows origin history is =
     told_then folder.log (IsStoredIn found store rows origin history) (λ log. (opened : ℕ) → IsSaidFrom found origin opened → StopsRecover (shows_under store.keys) opened rows history log) is.stored
-    (λ log stored opened from. state_stops (shows_under store.keys) rows opened history [] log (tally_of origin history).stopped (stored.state opened from))
+    (λ log stored opened from. state_stops (shows_under store.keys) rows opened history store.waiting log (tally_of origin history).stopped (stored.state opened from))
 
 -- with nothing pending the disk shows all entries, and at rest it is its only image
 whole_at_rest : (Shows : DiskShows) (opened : ℕ) (rows : Rows) (history : List Entry) (log : Log) → IsRunning Shows opened rows history [] log → IsWhole Shows rows history log
@@ -41,7 +48,45 @@ whole_at_rest Shows opened rows history log running =
     }
 
 pub stores_are_whole : StoresAreWhole
-stores_are_whole found store folder rows origin history is none =
+stores_are_whole found store folder rows origin history is idle none =
     told_then folder.log (IsStoredIn found store rows origin history) (IsWhole (shows_under store.keys) rows history) is.stored
     (λ log stored. whole_at_rest (shows_under store.keys) origin.moment rows history log
-    (state_runs (shows_under store.keys) origin.moment rows history [] log (tally_of origin history).stopped none (stored.state origin.moment (inl refl))))
+    (subst (λ (w : List PlainDeed). IsRunning (shows_under store.keys) origin.moment rows history w log) idle
+    (state_runs (shows_under store.keys) origin.moment rows history store.waiting log (tally_of origin history).stopped none (stored.state origin.moment (inl refl)))))
+
+-- ---- where the commit of what waited failed at the end
+
+module _ (found : Option Log) (store : StoreView) (before after : FolderView) (rows : Rows) (origin : Origin) (history : List Entry) (is : IsStoreOf found store before rows origin history) (none : IsNone (tally_of origin history).stopped)
+    (any : Changes before.log after.log (AnyMoment store.waiting)) where
+  grown : Changes before.log after.log LogGoesOn
+  grown = changed_from before.log after.log (IsStoredIn found store rows origin history) (AnyMoment store.waiting) LogGoesOn
+      (λ a b stored moments. leaves_go_on a b (IsBeforeOrAfter (now a) (laid store.waiting (now a))) (moments (laid store.waiting (now a)) (stored.waits none).does)) is.stored any
+
+  recovers_on : (a b : Log) → IsStoredIn found store rows origin history a → AnyMoment store.waiting a b → (opened : ℕ) → IsSaidFrom found origin opened → StopsRecover (shows_under store.keys) opened rows history b
+  recovers_on a b stored moments opened from =
+      closes_broken (shows_under store.keys) rows opened (shows_blind store.keys) history store.waiting a b (is_repeatable store.waiting (stored.waits none).pending)
+      (state_runs (shows_under store.keys) opened rows history store.waiting a (tally_of origin history).stopped none (stored.state opened from)) moments
+
+  recovers_told : (a b : Option Log) → Told a (IsStoredIn found store rows origin history) → Changes a b (AnyMoment store.waiting)
+      → Told b (λ log. (opened : ℕ) → IsSaidFrom found origin opened → StopsRecover (shows_under store.keys) opened rows history log)
+  recovers_told None None stored moments = tt
+  recovers_told None (Some b) stored moments = absurd moments
+  recovers_told (Some a) None stored moments = absurd moments
+  recovers_told (Some a) (Some b) stored moments = recovers_on a b stored moments
+
+  placed_told : (a b : Option Log) → (tally_of origin history).moment ≤ moment_of a → Told a (IsStoredIn found store rows origin history) → Changes a b LogGoesOn → Told b (ArePlaced store.keys rows origin history)
+  placed_told None None late stored goes = tt
+  placed_told None (Some b) late stored goes = absurd goes
+  placed_told (Some a) None late stored goes = absurd goes
+  placed_told (Some a) (Some b) late stored goes = places_go_on store.keys rows origin history a b goes is.caused late stored.placed
+
+  cut_short : IsCutShort found store after rows origin history
+  cut_short = record {
+    grown = grows_on found before.log after.log is.grown grown;
+    placed = placed_told before.log after.log is.moment is.stored grown;
+    recover = recovers_told before.log after.log is.stored any;
+  }
+
+pub closings_recover : ClosingsRecover
+closings_recover found store before after rows origin history is running any =
+    cut_short found store before after rows origin history is (none_back (tally_of origin history).stopped (subst (λ (o : Option ℕ). IsNone o) is.stopped running)) any

@@ -1,17 +1,18 @@
 -- How the history of a store begins: the rows of what its folder recovers to.
-use Rattle.std.proofs.Common.{◌≡◌, ◌↔◌, ℕ, suc, ◌≤◌, [], ◌∷◌, length, Option, Some, None, IsTrue, IsNone, refl, sym, ap, subst, ◌∙◌, inl, inr, arith, true≢false}
+use Rattle.std.proofs.Common.{◌≡◌, ◌↔◌, ℕ, suc, ◌≤◌, [], ◌∷◌, length, List, Option, Some, None, IsTrue, IsNone, refl, sym, ap, subst, ◌∙◌, inl, inr, arith, true≢false}
 use Rattle.outside.specs.Calls.{Changes, Told}
 use Rattle.outside.specs.Disk.{Disk, Node as Thing, IsTree}
-use Rattle.outside.specs.Images.{Log, Synced, adds, now, moment}
+use Rattle.outside.specs.Images.{Log, Synced, adds, log_at, now, moment}
 use Rattle.outside.specs.Views.{FolderView}
 use Rattle.outside.proofs.Moments.{moment_later}
 use Rattle.siv_mode.specs.Keys.{KeyPair}
-use Rattle.deeds.specs.Deeds.{in_order}
+use Rattle.deeds.specs.Deeds.{PlainDeed, in_order}
 use Rattle.deeds.proofs.Amid.{tree_run}
 use Rattle.chunk_journal.specs.Journal.{IsAlike, IsQuiet, RecoversTo, RecoversLike}
 use Rattle.chunk_journal.specs.Opening.{HasOpened, IsOpening, StaysOpening}
 use Rattle.chunk_journal.specs.Commits.{IsReopenable}
 use Rattle.chunk_journal.proofs.Found.{opening_keeps, stays_found, opened_alike}
+use Rattle.pending_files.specs.Laid.{CanWait, LookAlike, laid}
 use Rattle.tree_model.specs.Rows.{Content, bad_size, Rows}
 use Rattle.tree_history.specs.History.{Origin}
 use Rattle.clear_tree.specs.Walk.{Sealing, Node}
@@ -37,7 +38,8 @@ use Rattle.stop_history.proofs.Openings.{begins_now}
 use Rattle.store_history.specs.Store.{StoreView, moment_of, shows_under, HasRows, IsStoredIn, IsStoreOf, LogGoesOn}
 use Rattle.store_history.specs.Ends.{IsFoundClear, IsOpened, HasBeenOpened, OpeningsStand}
 use Rattle.store_history.proofs.Shows.{shows_blind, stands_shows}
-use Rattle.store_history.proofs.Placed.{goes_through, leaves_go_on}
+use Rattle.store_history.proofs.Alike.{looks_itself, nothing_waits}
+use Rattle.store_history.proofs.Placed.{at_its_end, goes_through, leaves_go_on}
 use Rattle.store_history.proofs.Turns.{none_is}
 
 -- ---- what a disk stands for is what one stands for that differs in the journal's two files
@@ -87,7 +89,7 @@ reopenable disk sound = record { repeatable = sound.repeatable; no_folder = λ i
 pub stays_soundly : (old new : Log) → StaysOpening old new → IsSoundlyFound (now old) → StaysFound old new
 stays_soundly old new stays sound = stays_found old new stays (reopenable (now old) sound)
 
-module _ (unlocked : ℕ) (kept : KeptTree) (store : StoreView) (live_is : store.live ≡ loaded_tree unlocked kept) (claimed : AreClaimsOf (sealing_of store.keys) store.live store.claims) where
+module _ (unlocked : ℕ) (kept : KeptTree) (store : StoreView) (live_is : store.live ≡ loaded_tree unlocked kept) (claimed : AreClaimsOf (sealing_of store.keys) store.live store.claims) (idle : store.waiting ≡ []) where
   abbrev s : Sealing
   s = sealing_of store.keys
 
@@ -161,14 +163,16 @@ module _ (unlocked : ℕ) (kept : KeptTree) (store : StoreView) (live_is : store
           clear = clear_beside s (now new) opened.disk unlocked (rows_of tells.contents) (tells.clear unlocked) host found (λ q not_journal not_new. sym (opened.alike q not_journal not_new));
         };
         stands = λ origin at. record {
-          state = λ opened_at from. elim from [
+          state = λ opened_at from. subst (λ (w : List PlainDeed). IsRunning Shows opened_at (rows_of tells.contents) [] w new) (sym idle) (elim from [
             | inl here ↦ subst (λ (n : ℕ). IsRunning Shows n (rows_of tells.contents) [] [] new) (sym (here ∙ at)) (runs_now new (rows_of tells.contents) opened.at_rest shows)
             | inr (sound, there) ↦
                 subst (λ (n : ℕ). IsRunning Shows n (rows_of tells.contents) [] [] new) (sym there)
                 (begins_now Shows (shows_blind store.keys) (rows_of tells.contents) opened.disk old new (stays_soundly old new (inr opening) sound)
                 (record { at_rest = opened.at_rest; since = opened_later old new opened opening sound; found = λ other recovers. opened_alike old new other opened recovers }) opened.recovers shows)
-          ];
-          tree = λ none. has;
+          ]);
+          waits = λ none. subst (λ (w : List PlainDeed). CanWait w (now new)) (sym idle) (nothing_waits (now new));
+          since = λ none. subst (λ (d : Disk). LookAlike d (now new)) (sym (ap (λ (m : ℕ). now (log_at new m)) at ∙ ap now (at_its_end new))) (looks_itself (now new));
+          tree = λ none. subst (λ (d : Disk). HasRows store d (rows_of tells.contents) []) (sym (ap (λ (w : List PlainDeed). laid w (now new)) idle)) has;
           answered = tt;
           placed = λ i x there. absurd cc;
         };
@@ -188,19 +192,19 @@ module _ (unlocked : ℕ) (kept : KeptTree) (store : StoreView) (live_is : store
     grown = begun.grown;
     caused = tt;
     faults = faults;
-    moment = at;
+    moment = omega (arith, at);
     stopped = none_is store.stopped running;
     count = omega (arith, none);
   }
 
 opened_own : (before after : FolderView) (unlocked : ℕ) (kept : KeptTree) (store : StoreView) → HasBeenOpened before store.keys unlocked kept store after → IsOpened before store.keys unlocked store after
 opened_own before after unlocked kept store is =
-    let begun = begins_told unlocked kept store is.live is.claims before.log after.log is.opened is.any_moment is.loaded in
+    let begun = begins_told unlocked kept store is.live is.claims is.idle before.log after.log is.opened is.any_moment is.loaded in
     record {
       keys_are = refl;
       rows = begun.rows;
       clear = begun.clear;
-      stands = λ origin faults at. begins_store unlocked kept store is.live is.claims before after begun is.running is.none origin faults at;
+      stands = λ origin faults at. begins_store unlocked kept store is.live is.claims is.idle before after begun is.running is.none origin faults at;
     }
 
 pub openings_stand : OpeningsStand

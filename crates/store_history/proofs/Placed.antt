@@ -1,5 +1,5 @@
 -- A log that goes on, and the places that entries name on it.
-use Rattle.std.proofs.Common.{◌≡◌, ℕ, zero, suc, ◌-◌, ◌≤◌, List, [], ◌∷◌, ◌++◌, length, take, drop, Option, Some, None, IsNone, refl, sym, ap, subst, ◌∙◌, arith, append_assoc}
+use Rattle.std.proofs.Common.{◌≡◌, ℕ, zero, suc, ◌-◌, ◌≤◌, List, [], ◌∷◌, ◌++◌, length, take, drop, Option, Some, None, IsNone, refl, sym, ap, subst, ◌∙◌, arith, append_assoc, length-append}
 use Rattle.outside.specs.Calls.{Changes}
 use Rattle.outside.specs.Disk.{Disk}
 use Rattle.outside.specs.Images.{Call, Log, log_at, moment, now, LeavesOnly}
@@ -19,6 +19,9 @@ goes_nowhere log = record { start = refl; later = ([], refl) }
 pub leaves_go_on : (old new : Log) (P : Disk → Type 0) → LeavesOnly old new P → LogGoesOn old new
 leaves_go_on old new P all = record { start = all.start; later = all.later }
 
+pub goes_later : (a b : Log) → LogGoesOn a b → moment a ≤ moment b
+goes_later a b grown = omega (arith, ap length grown.later.1, length-append grown.later.0 a.calls)
+
 pub goes_through : (a b c : Log) → LogGoesOn a b → LogGoesOn b c → LogGoesOn a c
 goes_through a b c first second = record {
   start = second.start ∙ first.start;
@@ -37,13 +40,13 @@ grows_on (Some a) (Some b) None so_far more = absurd more
 grows_on (Some a) (Some b) (Some c) so_far more = λ sound. goes_through a b c (so_far sound) more
 
 -- what reads gave at an earlier moment
-read_then : (a b : Log) (m : ℕ) → LogGoesOn a b → m ≤ moment a → now (log_at a m) ≡ now (log_at b m)
+pub read_then : (a b : Log) (m : ℕ) → LogGoesOn a b → m ≤ moment a → now (log_at a m) ≡ now (log_at b m)
 read_then a b m grown le = ap now (sym (at_since a b grown.later.0 m grown.start grown.later.1 le))
 
 drop_none : (calls : List Call) → drop (length calls - length calls) calls ≡ calls
 drop_none calls = let e : length calls - length calls ≡ 0 = omega arith in ap (λ (k : ℕ). drop k calls) e
 
-at_its_end : (log : Log) → log_at log (moment log) ≡ log
+pub at_its_end : (log : Log) → log_at log (moment log) ≡ log
 at_its_end log = λ i. record { start = log.start; calls = drop_none log.calls i }
 
 -- ---- beginnings of a history
@@ -66,7 +69,7 @@ take_whole (y ∷ history) = ap (λ (l : List Entry). y ∷ l) (take_whole histo
 -- ---- an entry more
 
 module _ (keys : KeyPair) (rows : Rows) (origin : Origin) (history : List Entry) (entry : Entry) (a b : Log) (grown : LogGoesOn a b) (caused : AreCaused (tally_at origin) history)
-    (at_end : (tally_of origin history).moment ≡ moment a) where
+    (at_end : (tally_of origin history).moment ≤ moment a) where
   abbrev longer : List Entry
   longer = history ++ entry ∷ []
 
@@ -83,18 +86,27 @@ module _ (keys : KeyPair) (rows : Rows) (origin : Origin) (history : List Entry)
       subst (λ (d : Disk). IsPlacedOn keys d (rows_at rows history i) x.made) (read_then a b (tally_of origin (take i history)).moment grown low) was in
       subst (λ (l : List Entry). Here l (rows_at rows longer i) b x) (sym same) (subst (λ (r : Rows). Here (take i history) r b x) (sym (rows_more rows history entry i le)) here)
 
-  last_one : (IsNone (tally_of origin history).stopped → IsPlacedOn keys (now a) (rows_after rows history) entry.made) → (i : ℕ) (x : Entry) → i ≡ length history → entry ≡ x
+  abbrev LastPlaced : Type 0
+  LastPlaced = IsNone (tally_of origin history).stopped → IsPlacedOn keys (now (log_at a (tally_of origin history).moment)) (rows_after rows history) entry.made
+
+  last_one : LastPlaced → (i : ℕ) (x : Entry) → i ≡ length history → entry ≡ x
       → IsNone (tally_of origin (take i longer)).stopped → Here (take i longer) (rows_at rows longer i) b x
   last_one last i x is same none =
       let le : i ≤ length history = omega (arith, is) in
       let before : take i (history ++ entry ∷ []) ≡ history = take_before history entry i le ∙ ap (λ (k : ℕ). take k history) is ∙ take_whole history in
       let was = last (subst (λ (l : List Entry). IsNone (tally_of origin l).stopped) before none) in
-      let end : now (log_at b (tally_of origin history).moment) ≡ now a =
-      ap (λ (m : ℕ). now (log_at b m)) at_end ∙ sym (read_then a b (moment a) grown (omega arith)) ∙ ap now (at_its_end a) in
-      let here : Here history (rows_after rows history) b entry = subst (λ (d : Disk). IsPlacedOn keys d (rows_after rows history) entry.made) (sym end) was in
+      let here : Here history (rows_after rows history) b entry =
+      subst (λ (d : Disk). IsPlacedOn keys d (rows_after rows history) entry.made) (read_then a b (tally_of origin history).moment grown at_end) was in
       let rows_are : rows_at rows (history ++ entry ∷ []) i ≡ rows_after rows history = rows_more rows history entry i le ∙ ap (rows_at rows history) is ∙ sym (rows_all rows history) in
       subst (λ (l : List Entry). Here l (rows_at rows longer i) b x) (sym before)
       (subst (λ (r : Rows). Here history r b x) (sym rows_are) (subst (λ (y : Entry). Here history (rows_after rows history) b y) same here))
 
-  pub placed_more : ArePlaced keys rows origin history a → (IsNone (tally_of origin history).stopped → IsPlacedOn keys (now a) (rows_after rows history) entry.made) → ArePlaced keys rows origin longer b
+  pub placed_more : ArePlaced keys rows origin history a → LastPlaced → ArePlaced keys rows origin longer b
   placed_more placed last i x there none = at_more history entry i x there (λ before. earlier placed i x before none) (λ is same. last_one last i x is same none)
+
+-- places stay named on a log that goes on
+pub places_go_on : (keys : KeyPair) (rows : Rows) (origin : Origin) (history : List Entry) (a b : Log) → LogGoesOn a b → AreCaused (tally_at origin) history → (tally_of origin history).moment ≤ moment a
+    → ArePlaced keys rows origin history a → ArePlaced keys rows origin history b
+places_go_on keys rows origin history a b grown caused at_end placed i x there none =
+    let low : (tally_of origin (take i history)).moment ≤ moment a = omega (arith, moments_rise (tally_at origin) history i caused, at_end) in
+    subst (λ (d : Disk). IsPlacedOn keys d (rows_at rows history i) x.made) (read_then a b (tally_of origin (take i history)).moment grown low) (placed i x there none)

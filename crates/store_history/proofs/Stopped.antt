@@ -77,7 +77,7 @@ module _ (old : StoreView) (before : FolderView) (source : EntropyView) (turn : 
           stable_since = next_stable.since;
           stable_within = omega (arith, next_stable.within, counted old new before before source source turn found rows origin history caller);
           kept = λ stable_request accepted. next_stable.kept stable_request accepted ∙ ap suc (sym (counted old new before before source source turn found rows origin history caller));
-          moment_since = omega (arith, store.moment);
+          moment_since = store.moment;
         }
 
     still_stopped : (next tally entry).stopped ≡ tally.stopped
@@ -88,9 +88,11 @@ module _ (old : StoreView) (before : FolderView) (source : EntropyView) (turn : 
         let some : IsSome tally.stopped = ap is_some (at store).1 in
         let more : (tally_of origin (history ++ entry ∷ [])).stopped ≡ tally.stopped = ap (λ (t : Tally). t.stopped) (after_more (tally_at origin) history entry) ∙ still_stopped in
         record {
-          placed = placed_more old.keys rows origin history entry log log (goes_nowhere log) store.caused (store.moment ∙ was) stored.placed (λ none. absurd (running_not store none));
-          state = λ opened from. broken_state (shows_under old.keys) opened rows origin history entry [] log (inr some)
-              (stays_broken (shows_under old.keys) opened rows origin history log entry (state_broke (shows_under old.keys) opened rows history [] log tally.stopped some (stored.state opened from)) now same_stable);
+          placed = placed_more old.keys rows origin history entry log log (goes_nowhere log) store.caused (omega (arith, store.moment, was)) stored.placed (λ none. absurd (running_not store none));
+          state = λ opened from. broken_state (shows_under old.keys) opened rows origin history entry old.waiting log (inr some)
+              (stays_broken (shows_under old.keys) opened rows origin history log entry (state_broke (shows_under old.keys) opened rows history old.waiting log tally.stopped some (stored.state opened from)) now same_stable);
+          waits = λ none. absurd (running_not store (subst (λ (o : Option ℕ). IsNone o) more none));
+          since = λ none. absurd (running_not store (subst (λ (o : Option ℕ). IsNone o) more none));
           tree = λ none. absurd (running_not store (subst (λ (o : Option ℕ). IsNone o) more none));
           answered = answered_more rows (tally_at origin) history entry stored.answered (λ none. absurd (running_not store none));
         }

@@ -3,12 +3,15 @@ use Rattle.std.proofs.Common.{◌≡◌, ℕ, suc, ◌≤◌, List, [], ◌∷�
 use Rattle.std.specs.Option.{option_map}
 use Rattle.outside.specs.Calls.{Changes, Told}
 use Rattle.outside.specs.Disk.{Disk}
-use Rattle.outside.specs.Images.{Log, disk_in, now, moment}
+use Rattle.outside.specs.Images.{Log, disk_in, log_at, now, moment}
 use Rattle.outside.specs.Views.{FolderView, EntropyView}
 use Rattle.outside.proofs.Moments.{moment_later}
-use Rattle.outside.proofs.Told.{changed_by, unchanged}
+use Rattle.outside.proofs.Told.{changed_by, changed_from, unchanged}
 use Rattle.siv_mode.specs.Keys.{KeyPair}
-use Rattle.chunk_journal.specs.Journal.{IsBeforeOrAfter}
+use Rattle.deeds.specs.Deeds.{PlainDeed}
+use Rattle.chunk_journal.specs.Journal.{AnyMoment, IsBeforeOrAfter}
+use Rattle.pending_files.specs.Laid.{CanWait, LookAlike, laid, laid_log}
+use Rattle.pending_files.proofs.Batched.{is_repeatable}
 use Rattle.tree_model.specs.declared.refusal.Refusal.TheVariants as refusals
 use Rattle.tree_model.specs.Rows.{Content, Rows}
 use Rattle.tree_model.specs.Asked.{PlainReply, refused}
@@ -25,21 +28,22 @@ use Rattle.live_tree.specs.Held.{live_rows}
 use Rattle.node_changes.specs.Changed.{StandsOn, ShowsRows, HasChanged, MayHaveChanged}
 use Rattle.node_changes.specs.Placed.{taken_for}
 use Rattle.stop_history.specs.Crash.{DiskShows, rows_stepped}
-use Rattle.stop_history.specs.Stands.{IsRunning, IsInState}
+use Rattle.stop_history.specs.Stands.{IsRunning, IsBroken, IsInState}
 use Rattle.stop_history.specs.Stable.{is_kept, stable_then, IsStableNext}
-use Rattle.stop_history.proofs.Histories.{longer, rows_all}
-use Rattle.stop_history.proofs.Moves.{idles_kept, commits, breaks}
+use Rattle.stop_history.proofs.Histories.{at_within, longer, rows_all, tally_stable}
+use Rattle.stop_history.proofs.Moves.{idles, idles_kept, commits, breaks, settles_broken, stays_broken}
 use Rattle.stop_history.proofs.Stable.{stable_next}
 use Rattle.stop_history.proofs.States.{state_runs, running_state, broken_state}
 use Rattle.store_history.specs.Store.{StoreView, bounded, moment_of, shows_under, ArePlaced, HasRows, IsPlacedOn, IsSaidFrom, IsStoredIn, IsStoreOf, LogGoesOn}
-use Rattle.store_history.specs.Turns.{Draws, IsMadeOf, Turn, made_in, made_of, IsTurn, IsQuietTurn, IsChangedTurn, IsBrokenTurn, QuietTurnsAdd, ChangedTurnsAdd, BrokenTurnsAdd}
+use Rattle.store_history.specs.Turns.{Draws, IsMadeOf, Turn, made_in, made_of, IsTurn, IsQuietTurn, IsChangedTurn, IsBrokenTurn, IsUnflushedTurn, QuietTurnsAdd, ChangedTurnsAdd, BrokenTurnsAdd, UnflushedTurnsAdd}
 use Rattle.store_history.proofs.Shows.{shows_blind, stands_beside, stands_shows}
-use Rattle.store_history.proofs.Placed.{goes_nowhere, grows_on, leaves_go_on, placed_more}
+use Rattle.store_history.proofs.Alike.{for_alike, looks_itself, looks_laid, looks_through, nothing_waits}
+use Rattle.store_history.proofs.Placed.{at_its_end, goes_later, goes_nowhere, grows_on, leaves_go_on, placed_more}
 
 pub bounded_suc : (n : ℕ) → bounded (suc (bounded n)) ≡ bounded (suc n)
 bounded_suc n = omega arith
 
-none_back : (o : Option ℕ) → IsNone (option_map bounded o) → IsNone o
+pub none_back : (o : Option ℕ) → IsNone (option_map bounded o) → IsNone o
 none_back None none = none
 none_back (Some f) none = let no : true ≡ false = none in absurd cc
 
@@ -55,7 +59,7 @@ pub and_false : (b : Bool) → (b && false) ≡ false
 and_false true = refl
 and_false false = refl
 
-moments_rise : (old new : Option Log) (P : Log → Log → Type 0) → ((a b : Log) → P a b → moment a ≤ moment b) → Changes old new P → moment_of old ≤ moment_of new
+pub moments_rise : (old new : Option Log) (P : Log → Log → Type 0) → ((a b : Log) → P a b → moment a ≤ moment b) → Changes old new P → moment_of old ≤ moment_of new
 moments_rise None None P rises change = omega arith
 moments_rise None (Some b) P rises change = absurd change
 moments_rise (Some a) None P rises change = absurd change
@@ -89,8 +93,12 @@ module _ (old new : StoreView) (before after : FolderView) (source source' : Ent
   abbrev AllowedOn : Disk → Type 0
   AllowedOn d = (contents : ℕ → Content) → StandsOn s d old.live old.claims contents → IsAnswered (live_rows contents old.live) (made_of turn before after source source')
 
-  abbrev ShownOn : Disk → Type 0
-  ShownOn d = (contents : ℕ → Content) → StandsOn s d old.live old.claims contents → ShowsRows s (rows_then (live_rows contents old.live) (made_of turn before after source source')) d new.live new.claims
+  abbrev ShownOn : Log → Type 0
+  ShownOn log = (contents : ℕ → Content) → StandsOn s (laid old.waiting (now log)) old.live old.claims contents
+      → ShowsRows s (rows_then (live_rows contents old.live) (made_of turn before after source source')) (laid new.waiting (now log)) new.live new.claims
+
+  abbrev WaitsOn : Log → Type 0
+  WaitsOn log = CanWait new.waiting (now log)
 
   abbrev TakenOn : Disk → Type 0
   TakenOn d = turn.taken ≡ taken_for s d old.live turn.asked.request turn.drawn
@@ -109,7 +117,7 @@ module _ (old new : StoreView) (before after : FolderView) (source source' : Ent
   pub stable : Before → IsStableNext turn.asked.request turn.asked.reply tally.stable (length history) (length history) made.stable
   stable store = stable_next turn.asked.request turn.asked.reply tally.stable (length history) (length history) (omega (arith, after_stable (tally_at origin) history (omega arith) store.caused)) (omega arith)
 
-  not_stopped : IsNone old.stopped → Before → IsNone tally.stopped
+  pub not_stopped : IsNone old.stopped → Before → IsNone tally.stopped
   not_stopped running store = none_back tally.stopped (subst (λ (o : Option ℕ). IsNone o) store.stopped running)
 
   -- what it adds to what the store stood for
@@ -122,7 +130,7 @@ module _ (old new : StoreView) (before after : FolderView) (source source' : Ent
         grown = grows_on found before.log after.log store.grown grown;
         caused = caused_more (tally_at origin) history entry store.caused caused;
         faults = omega (arith, ap (λ (t : Tally). t.folder_faults) more);
-        moment = ap (λ (t : Tally). t.moment) more;
+        moment = omega (arith, ap (λ (t : Tally). t.moment) more);
         stopped = stopped ∙ ap (λ (t : Tally). option_map bounded t.stopped) (sym more);
         count = entries ∙ ap (λ (n : ℕ). bounded (suc n)) store.count ∙ bounded_suc (length history) ∙ ap bounded (sym (longer history entry));
       }
@@ -133,7 +141,7 @@ module _ (old new : StoreView) (before after : FolderView) (source source' : Ent
     abbrev Flag : Type 0
     Flag = turn.commit_failed ≡ true → (turn.asked.reply ≡ refused refusals.DeviceFault) × MayCommit turn.asked.request
 
-    caused : Before → tally.entropy_faults caller ≤ source.faults → moment_of before.log ≤ moment_of after.log → Flag → IsCaused tally entry
+    pub caused : Before → tally.entropy_faults caller ≤ source.faults → moment_of before.log ≤ moment_of after.log → Flag → IsCaused tally entry
     caused store drew later flag =
         let next_stable = stable store in
         record {
@@ -155,7 +163,7 @@ module _ (old new : StoreView) (before after : FolderView) (source source' : Ent
     drawn_so = changed_by source.drawn source'.drawn (Draws (made_of turn before after source source')) (Draws made)
         (λ a b draws. record { more = draws.more; on = draws.on; identifier = draws.identifier }) is.drawn
 
-    made_so : IsMadeOf turn.asked old before after source source' made
+    pub made_so : IsMadeOf turn.asked old before after source source' made
     made_so = record {
       same = refl;
       folder = (omega arith, omega arith);
@@ -167,8 +175,8 @@ module _ (old new : StoreView) (before after : FolderView) (source source' : Ent
 
     -- ---- rows
 
-    answered_next : (log : Log) → AllowedOn (now log) → HasRows old (now log) rows history → IsAnswered (rows_after rows history) made
-    answered_next log allowed has = answered_in_both (live_rows has.contents old.live) (rows_after rows history) made (sym has.current) (allowed has.contents has.stands)
+    pub answered_next : (d : Disk) → AllowedOn d → HasRows old d rows history → IsAnswered (rows_after rows history) made
+    answered_next d allowed has = answered_in_both (live_rows has.contents old.live) (rows_after rows history) made (sym has.current) (allowed has.contents has.stands)
 
     same_next : (contents contents' : ℕ → Content) → wrapped (rows_after rows history) ≡ wrapped (live_rows contents old.live)
         → wrapped (live_rows contents' new.live) ≡ wrapped (rows_then (live_rows contents old.live) made) → wrapped (rows_then (rows_after rows history) made) ≡ wrapped (live_rows contents' new.live)
@@ -190,67 +198,126 @@ module _ (old new : StoreView) (before after : FolderView) (source source' : Ent
 
     -- ---- on a log
 
-    state_next : (opened : ℕ) (log : Log) → IsInState Shows opened rows (history ++ entry ∷ []) [] log (tally_of origin (history ++ entry ∷ [])).stopped
-        → IsInState (shows_under new.keys) opened rows (history ++ entry ∷ []) [] log (tally_of origin (history ++ entry ∷ [])).stopped
+    pub state_next : (opened : ℕ) (log : Log) → IsInState Shows opened rows (history ++ entry ∷ []) new.waiting log (tally_of origin (history ++ entry ∷ [])).stopped
+        → IsInState (shows_under new.keys) opened rows (history ++ entry ∷ []) new.waiting log (tally_of origin (history ++ entry ∷ [])).stopped
     state_next opened log state =
-        subst (λ (k : KeyPair). IsInState (shows_under k) opened rows (history ++ entry ∷ []) [] log (tally_of origin (history ++ entry ∷ [])).stopped) (sym is.keys) state
+        subst (λ (k : KeyPair). IsInState (shows_under k) opened rows (history ++ entry ∷ []) new.waiting log (tally_of origin (history ++ entry ∷ [])).stopped) (sym is.keys) state
 
-    runs : (log : Log) → Before → Stored log → (opened : ℕ) → IsSaidFrom found origin opened → IsRunning Shows opened rows history [] log
-    runs log store stored opened from = state_runs Shows opened rows history [] log tally.stopped (not_stopped is.running store) (stored.state opened from)
+    pub runs : (log : Log) → Before → Stored log → (opened : ℕ) → IsSaidFrom found origin opened → IsRunning Shows opened rows history old.waiting log
+    runs log store stored opened from = state_runs Shows opened rows history old.waiting log tally.stopped (not_stopped is.running store) (stored.state opened from)
+
+    -- with nothing that waits
+    runs_idle : old.waiting ≡ [] → (log : Log) → Before → Stored log → (opened : ℕ) → IsSaidFrom found origin opened → IsRunning Shows opened rows history [] log
+    runs_idle none log store stored opened from = subst (λ (w : List PlainDeed). IsRunning Shows opened rows history w log) none (runs log store stored opened from)
+
+    shown_idle : old.waiting ≡ [] → (log : Log) → laid old.waiting (now log) ≡ now log
+    shown_idle none log = ap (λ (w : List PlainDeed). laid w (now log)) none
+
+    has_idle : old.waiting ≡ [] → (log : Log) → Before → Stored log → HasRows old (now log) rows history
+    has_idle none log store stored = subst (λ (d : Disk). HasRows old d rows history) (shown_idle none log) (stored.tree (not_stopped is.running store))
+
+    -- what is stable so far is on the disk
+    held : (log : Log) (opened : ℕ) → (running : IsRunning Shows opened rows history old.waiting log) → tally.stable ≤ running.base
+    held log opened running = tally_stable (tally_at origin) history running.base (omega arith) (λ i x there. running.holds i x there (running.ended i x there (at_within history i x there)))
 
     -- the place that is taken
-    placed_so : (log : Log) → Before → Stored log → TakenOn (now log) → IsPlacedOn old.keys (now log) (rows_after rows history) made
+    placed_so : (log : Log) → Before → Stored log → TakenOn (now log) → IsPlacedOn old.keys (now (log_at log tally.moment)) (rows_after rows history) made
     placed_so log store stored taken =
-        let has : HasRows old (now log) rows history = stored.tree (not_stopped is.running store) in
-        record { live = old.live; claims = old.claims; contents = has.contents; stands = has.stands; current = has.current; taken = taken }
+        let none = not_stopped is.running store in
+        let then : Disk = now (log_at log tally.moment) in
+        let since : LookAlike then (now log) = stored.since none in
+        let has : HasRows old (laid old.waiting (now log)) rows history = stored.tree none in
+        record {
+          live = old.live;
+          claims = old.claims;
+          contents = has.contents;
+          later = laid old.waiting (now log);
+          alike = looks_through then (now log) (laid old.waiting (now log)) since (looks_laid old.waiting (now log) (stored.waits none));
+          stands = has.stands;
+          current = has.current;
+          taken = taken ∙ sym (for_alike s then (now log) old.live turn.drawn since turn.asked.request);
+        }
 
-    placed_next : (a b : Log) → Before → moment_of before.log ≡ moment a → LogGoesOn a b → Stored a → TakenOn (now a) → ArePlaced new.keys rows origin (history ++ entry ∷ []) b
+    pub placed_next : (a b : Log) → Before → moment_of before.log ≡ moment a → LogGoesOn a b → Stored a → TakenOn (now a) → ArePlaced new.keys rows origin (history ++ entry ∷ []) b
     placed_next a b store at grown stored taken =
         subst (λ (k : KeyPair). ArePlaced k rows origin (history ++ entry ∷ []) b) (sym is.keys)
-        (placed_more old.keys rows origin history entry a b grown store.caused (store.moment ∙ at) stored.placed (λ none. placed_so a store stored taken))
+        (placed_more old.keys rows origin history entry a b grown store.caused (omega (arith, store.moment, at)) stored.placed (λ none. placed_so a store stored taken))
+
+    -- no time has gone by since
+    since_next : (log : Log) → made.moment ≡ moment log → LookAlike (now (log_at log (tally_of origin (history ++ entry ∷ [])).moment)) (now log)
+    since_next log at =
+        let here : now (log_at log (tally_of origin (history ++ entry ∷ [])).moment) ≡ now log =
+        ap (λ (m : ℕ). now (log_at log m)) (ap (λ (t : Tally). t.moment) (after_more (tally_at origin) history entry) ∙ at) ∙ ap now (at_its_end log) in
+        subst (λ (d : Disk). LookAlike d (now log)) (sym here) (looks_itself (now log))
 
     -- whose commits all came through
-    runs_next : (log : Log) → Before → turn.commit_failed ≡ false → AreAnswered rows (tally_at origin) history → IsAnswered (rows_after rows history) made → (contents : ℕ → Content)
-        → StandsOn s (now log) new.live new.claims contents → wrapped (rows_then (rows_after rows history) made) ≡ wrapped (live_rows contents new.live)
-        → ((opened : ℕ) → IsSaidFrom found origin opened → IsRunning Shows opened rows (history ++ entry ∷ []) [] log) → ArePlaced new.keys rows origin (history ++ entry ∷ []) log → StoredNext log
-    runs_next log store whole answered so contents stands same running placed = record {
+    runs_next : (log : Log) → Before → turn.commit_failed ≡ false → made.moment ≡ moment log → AreAnswered rows (tally_at origin) history → IsAnswered (rows_after rows history) made → WaitsOn log → (contents : ℕ → Content)
+        → StandsOn s (laid new.waiting (now log)) new.live new.claims contents → wrapped (rows_then (rows_after rows history) made) ≡ wrapped (live_rows contents new.live)
+        → ((opened : ℕ) → IsSaidFrom found origin opened → IsRunning Shows opened rows (history ++ entry ∷ []) new.waiting log) → ArePlaced new.keys rows origin (history ++ entry ∷ []) log → StoredNext log
+    runs_next log store whole at answered so waits contents stands same running placed = record {
       placed = placed;
-      state = λ opened from. state_next opened log (running_state Shows opened rows origin history entry [] log (not_stopped is.running store) whole (running opened from));
-      tree = λ none. has_next (now log) contents stands same;
+      state = λ opened from. state_next opened log (running_state Shows opened rows origin history entry new.waiting log (not_stopped is.running store) whole (running opened from));
+      waits = λ none. waits;
+      since = λ none. since_next log at;
+      tree = λ none. has_next (laid new.waiting (now log)) contents stands same;
       answered = answered_more rows (tally_at origin) history entry answered (λ none. so);
     }
 
-    quiet_on : (log : Log) → Before → turn.commit_failed ≡ false → moment_of before.log ≡ moment log → made.moment ≡ moment log → Stored log → AllowedOn (now log) → ShownOn (now log) → TakenOn (now log) → StoredNext log
-    quiet_on log store whole was at stored allowed shown taken =
-        let has : HasRows old (now log) rows history = stored.tree (not_stopped is.running store) in
+    Kept : Type 0
+    Kept = is_kept turn.asked.request turn.asked.reply ≡ true → (old.waiting ≡ []) × (new.waiting ≡ [])
+
+    -- it stays on top of what waits, or all that there was is on the disk
+    idles_on : (log : Log) (opened : ℕ) → Before → Stored log → IsSaidFrom found origin opened → made.moment ≡ moment log → WaitsOn log → Kept
+        → Shows (laid new.waiting (now log)) (rows_then (rows_at rows history (length history)) made) → (b : Bool) → is_kept turn.asked.request turn.asked.reply ≡ b
+        → IsRunning Shows opened rows (history ++ entry ∷ []) new.waiting log
+    idles_on log opened store stored from at waits kept shows true e =
+        let none = kept e in
+        subst (λ (w : List PlainDeed). IsRunning Shows opened rows (history ++ entry ∷ []) w log) (sym none.1)
+        (idles_kept Shows opened rows history log entry (runs_idle none.0 log store stored opened from) at (stable store).within
+        (subst (λ (d : Disk). Shows d (rows_then (rows_at rows history (length history)) made)) (ap (λ (w : List PlainDeed). laid w (now log)) none.1) shows))
+    idles_on log opened store stored from at waits kept shows false e =
+        let running = runs log store stored opened from in
+        idles Shows opened rows history old.waiting new.waiting log entry running at
+        (omega (arith, ap (λ (k : Bool). cond k (suc (length history)) tally.stable) e, held log opened running)) (laid new.waiting (now log)) waits.does shows
+
+    quiet_on : (log : Log) → Before → turn.commit_failed ≡ false → moment_of before.log ≡ moment log → made.moment ≡ moment log → Stored log → AllowedOn (laid old.waiting (now log)) → WaitsOn log → ShownOn log → Kept → TakenOn (now log)
+        → StoredNext log
+    quiet_on log store whole was at stored allowed waits shown kept taken =
+        let has : HasRows old (laid old.waiting (now log)) rows history = stored.tree (not_stopped is.running store) in
         let to = shown has.contents has.stands in
         let same = same_next has.contents to.contents has.current to.shows in
-        runs_next log store whole stored.answered (answered_next log allowed has) to.contents to.stands same
-        (λ opened from. idles_kept Shows opened rows history log entry (runs log store stored opened from) at (stable store).within (shows_next (now log) to.contents to.stands same))
+        runs_next log store whole at stored.answered (answered_next (laid old.waiting (now log)) allowed has) waits to.contents to.stands same
+        (λ opened from. idles_on log opened store stored from at waits kept (shows_next (laid new.waiting (now log)) to.contents to.stands same) (is_kept turn.asked.request turn.asked.reply) refl)
         (placed_next log log store was (goes_nowhere log) stored taken)
 
     accepted_rows : (r : Rows) → is_refusal turn.asked.reply ≡ false → rows_then r made ≡ (step r turn.asked.request turn.asked.second).rows
     accepted_rows r accepted = ap (λ (b : Bool). cond b r (step r turn.asked.request turn.asked.second).rows) accepted
 
-    changed_on : (a b : Log) → Before → turn.commit_failed ≡ false → is_refusal turn.asked.reply ≡ false → moment_of before.log ≡ moment a → made.moment ≡ moment b → Stored a → AllowedOn (now a) → TakenOn (now a) → ChangedTo a b
+    Idle : Type 0
+    Idle = (old.waiting ≡ []) × (new.waiting ≡ [])
+
+    changed_on : (a b : Log) → Before → Idle → turn.commit_failed ≡ false → is_refusal turn.asked.reply ≡ false → moment_of before.log ≡ moment a → made.moment ≡ moment b → Stored a → AllowedOn (laid old.waiting (now a)) → TakenOn (now a) → ChangedTo a b
         → StoredNext b
-    changed_on a b store whole accepted was at stored allowed taken change =
-        let has : HasRows old (now a) rows history = stored.tree (not_stopped is.running store) in
+    changed_on a b store idle whole accepted was at stored allowed taken change =
+        let has : HasRows old (now a) rows history = has_idle idle.0 a store stored in
         let to = change.makes.stepped has.contents has.stands in
         let same = same_next has.contents to.contents has.current (to.shows ∙ ap wrapped (sym (accepted_rows (live_rows has.contents old.live) accepted))) in
         let shows = shows_next change.makes.after to.contents to.stands same in
         let stands = stands_beside s change.makes.after (now b) new.live new.claims to.contents to.stands change.committed.at_rest.steady.tree (change.committed.after change.makes.after change.makes.does) in
-        runs_next b store whole stored.answered (answered_next a allowed has) to.contents stands same
-        (λ opened from. commits Shows opened rows (shows_blind old.keys) history change.deeds a b entry change.makes.after change.makes.repeatable (runs a store stored opened from) change.makes.does shows at (stable store).within
-        change.any_moment change.committed)
+        let none : laid new.waiting (now b) ≡ now b = ap (λ (w : List PlainDeed). laid w (now b)) idle.1 in
+        runs_next b store whole at stored.answered (answered_next (now a) (subst AllowedOn (shown_idle idle.0 a) allowed) has)
+        (subst (λ (w : List PlainDeed). CanWait w (now b)) (sym idle.1) (nothing_waits (now b))) to.contents (subst (λ (d : Disk). StandsOn s d new.live new.claims to.contents) (sym none) stands) same
+        (λ opened from. subst (λ (w : List PlainDeed). IsRunning Shows opened rows (history ++ entry ∷ []) w b) (sym idle.1)
+        (commits Shows opened rows (shows_blind old.keys) history change.deeds a b entry change.makes.after change.makes.repeatable (runs_idle idle.0 a store stored opened from) change.makes.does shows at (stable store).within
+        change.any_moment change.committed))
         (placed_next a b store was (leaves_go_on a b (IsBeforeOrAfter (now a) change.makes.after) (change.any_moment change.makes.after change.makes.does)) stored taken)
 
     -- ---- on a log, after a commit that failed
 
-    unkept : turn.asked.reply ≡ refused refusals.DeviceFault → is_kept turn.asked.request turn.asked.reply ≡ false
+    pub unkept : turn.asked.reply ≡ refused refusals.DeviceFault → is_kept turn.asked.request turn.asked.reply ≡ false
     unkept reply = ap (λ (r : PlainReply). is_kept turn.asked.request r) reply ∙ and_false (is_stable turn.asked.request)
 
-    flagged : turn.commit_failed ≡ true → (next tally entry).stopped ≡ Some tally.count
+    pub flagged : turn.commit_failed ≡ true → (next tally entry).stopped ≡ Some tally.count
     flagged failed = ap (λ (b : Bool). cond b (Some tally.count) tally.stopped) failed
 
     shows_stepped : (d : Disk) (contents contents' : ℕ → Content) → wrapped (rows_after rows history) ≡ wrapped (live_rows contents old.live) → StandsOn s d new.live new.claims contents'
@@ -260,41 +327,54 @@ module _ (old new : StoreView) (before after : FolderView) (source source' : Ent
         (stands_shows s d new.live new.claims contents' (rows_stepped (rows_after rows history) made) stands
         ((steps_are_same (rows_after rows history) (live_rows contents old.live) turn.asked.request turn.asked.second current).rows ∙ sym shows))
 
-    broken_on : (a b : Log) → Before → turn.commit_failed ≡ true → turn.asked.reply ≡ refused refusals.DeviceFault → moment_of before.log ≡ moment a → made.moment ≡ moment b → Stored a → AllowedOn (now a) → TakenOn (now a) → MayChangeTo a b → StoredNext b
-    broken_on a b store failed reply was at stored allowed taken change =
-        let has : HasRows old (now a) rows history = stored.tree (not_stopped is.running store) in
+    -- nothing more is said of the tree in memory
+    stops_tree : {P : Type 0} → turn.commit_failed ≡ true → IsNone (tally_of origin (history ++ entry ∷ [])).stopped → P
+    stops_tree failed none = absurd (none_not_some (tally_of origin (history ++ entry ∷ [])).stopped tally.count none (ap (λ (t : Tally). t.stopped) (after_more (tally_at origin) history entry) ∙ flagged failed))
+
+    pub broken_next : (a b : Log) → Before → turn.commit_failed ≡ true → moment_of before.log ≡ moment a → LogGoesOn a b → Stored a → AllowedOn (laid old.waiting (now a)) → TakenOn (now a)
+        → ((opened : ℕ) → IsSaidFrom found origin opened → IsBroken Shows opened rows (history ++ entry ∷ []) b) → StoredNext b
+    broken_next a b store failed was grown stored allowed taken broken = record {
+      placed = placed_next a b store was grown stored taken;
+      state = λ opened from. state_next opened b (broken_state Shows opened rows origin history entry new.waiting b (inl failed) (broken opened from));
+      waits = λ none. stops_tree failed none;
+      since = λ none. stops_tree failed none;
+      tree = λ none. stops_tree failed none;
+      answered = answered_more rows (tally_at origin) history entry stored.answered (λ none. answered_next (laid old.waiting (now a)) allowed (stored.tree (not_stopped is.running store)));
+    }
+
+    broken_on : (a b : Log) → Before → old.waiting ≡ [] → turn.commit_failed ≡ true → turn.asked.reply ≡ refused refusals.DeviceFault → moment_of before.log ≡ moment a → made.moment ≡ moment b → Stored a → AllowedOn (laid old.waiting (now a)) → TakenOn (now a)
+        → MayChangeTo a b → StoredNext b
+    broken_on a b store none failed reply was at stored allowed taken change =
+        let has : HasRows old (now a) rows history = has_idle none a store stored in
         let to = change.makes.stepped has.contents has.stands in
         let shows = shows_stepped change.makes.after has.contents to.contents has.current to.stands to.shows in
-        record {
-          placed = placed_next a b store was (leaves_go_on a b (IsBeforeOrAfter (now a) change.makes.after) (change.any_moment change.makes.after change.makes.does)) stored taken;
-          state = λ opened from.
-              let broken = breaks Shows opened rows (shows_blind old.keys) history change.deeds a b entry change.makes.after change.makes.repeatable (runs a store stored opened from) change.makes.does shows at failed
-              ((stable store).held (unkept reply)) change.any_moment in
-              state_next opened b (broken_state Shows opened rows origin history entry [] b (inl failed) broken);
-          tree = λ none. absurd (none_not_some (tally_of origin (history ++ entry ∷ [])).stopped tally.count none (ap (λ (t : Tally). t.stopped) (after_more (tally_at origin) history entry) ∙ flagged failed));
-          answered = answered_more rows (tally_at origin) history entry stored.answered (λ none. answered_next a allowed has);
-        }
+        broken_next a b store failed was (leaves_go_on a b (IsBeforeOrAfter (now a) change.makes.after) (change.any_moment change.makes.after change.makes.does)) stored allowed taken
+        (λ opened from. breaks Shows opened rows (shows_blind old.keys) history change.deeds a b entry change.makes.after change.makes.repeatable (runs_idle none a store stored opened from) change.makes.does shows at failed
+        ((stable store).held (unkept reply)) change.any_moment)
 
     -- ---- where the folder tells its log
 
-    quiet_told : (log : Option Log) → Before → turn.commit_failed ≡ false → moment_of before.log ≡ moment_of log → made.moment ≡ moment_of log → Told log Stored → Told (disk_in log) AllowedOn → Told (disk_in log) ShownOn
+    abbrev ShownIn : Option Log → Option Disk
+    ShownIn log = disk_in (option_map (laid_log old.waiting) log)
+
+    quiet_told : (log : Option Log) → Before → turn.commit_failed ≡ false → moment_of before.log ≡ moment_of log → made.moment ≡ moment_of log → Told log Stored → Told (ShownIn log) AllowedOn → Told log WaitsOn → Told log ShownOn → Kept
         → Told (disk_in log) TakenOn → Told log StoredNext
-    quiet_told None store whole was at stored allowed shown taken = tt
-    quiet_told (Some log) store whole was at stored allowed shown taken = quiet_on log store whole was at stored allowed shown taken
+    quiet_told None store whole was at stored allowed waits shown kept taken = tt
+    quiet_told (Some log) store whole was at stored allowed waits shown kept taken = quiet_on log store whole was at stored allowed waits shown kept taken
 
-    changed_told : (a b : Option Log) → Before → turn.commit_failed ≡ false → is_refusal turn.asked.reply ≡ false → moment_of before.log ≡ moment_of a → made.moment ≡ moment_of b → Told a Stored → Told (disk_in a) AllowedOn
+    changed_told : (a b : Option Log) → Before → Idle → turn.commit_failed ≡ false → is_refusal turn.asked.reply ≡ false → moment_of before.log ≡ moment_of a → made.moment ≡ moment_of b → Told a Stored → Told (ShownIn a) AllowedOn
         → Told (disk_in a) TakenOn → Changes a b ChangedTo → Told b StoredNext
-    changed_told None None store whole accepted was at stored allowed taken change = tt
-    changed_told None (Some b) store whole accepted was at stored allowed taken change = absurd change
-    changed_told (Some a) None store whole accepted was at stored allowed taken change = absurd change
-    changed_told (Some a) (Some b) store whole accepted was at stored allowed taken change = changed_on a b store whole accepted was at stored allowed taken change
+    changed_told None None store idle whole accepted was at stored allowed taken change = tt
+    changed_told None (Some b) store idle whole accepted was at stored allowed taken change = absurd change
+    changed_told (Some a) None store idle whole accepted was at stored allowed taken change = absurd change
+    changed_told (Some a) (Some b) store idle whole accepted was at stored allowed taken change = changed_on a b store idle whole accepted was at stored allowed taken change
 
-    broken_told : (a b : Option Log) → Before → turn.commit_failed ≡ true → turn.asked.reply ≡ refused refusals.DeviceFault → moment_of before.log ≡ moment_of a → made.moment ≡ moment_of b → Told a Stored
-        → Told (disk_in a) AllowedOn → Told (disk_in a) TakenOn → Changes a b MayChangeTo → Told b StoredNext
-    broken_told None None store failed reply was at stored allowed taken change = tt
-    broken_told None (Some b) store failed reply was at stored allowed taken change = absurd change
-    broken_told (Some a) None store failed reply was at stored allowed taken change = absurd change
-    broken_told (Some a) (Some b) store failed reply was at stored allowed taken change = broken_on a b store failed reply was at stored allowed taken change
+    broken_told : (a b : Option Log) → Before → old.waiting ≡ [] → turn.commit_failed ≡ true → turn.asked.reply ≡ refused refusals.DeviceFault → moment_of before.log ≡ moment_of a → made.moment ≡ moment_of b → Told a Stored
+        → Told (ShownIn a) AllowedOn → Told (disk_in a) TakenOn → Changes a b MayChangeTo → Told b StoredNext
+    broken_told None None store none failed reply was at stored allowed taken change = tt
+    broken_told None (Some b) store none failed reply was at stored allowed taken change = absurd change
+    broken_told (Some a) None store none failed reply was at stored allowed taken change = absurd change
+    broken_told (Some a) (Some b) store none failed reply was at stored allowed taken change = broken_on a b store none failed reply was at stored allowed taken change
 
     unflagged : turn.commit_failed ≡ false → Flag
     unflagged whole failed = absurd (true≢false (sym failed ∙ whole))
@@ -315,7 +395,7 @@ module _ (old new : StoreView) (before after : FolderView) (source source' : Ent
     made_so is.is_turn,
     adds_to store (caused is.is_turn store drew (omega (arith, ap moment_of is.log)) (unflagged is.is_turn is.whole))
         (unchanged before.log after.log LogGoesOn is.log goes_nowhere)
-        (subst (λ (o : Option Log). Told o StoredNext) (sym is.log) (quiet_told is.is_turn before.log store is.whole refl (ap moment_of is.log) store.stored is.allowed is.shown is.is_turn.taken))
+        (subst (λ (o : Option Log). Told o StoredNext) (sym is.log) (quiet_told is.is_turn before.log store is.whole refl (ap moment_of is.log) store.stored is.allowed is.waits is.shown is.kept is.is_turn.taken))
         (goes_on is.is_turn is.goes_on is.whole store) is.is_turn.entries,
   )
 
@@ -328,7 +408,7 @@ module _ (old new : StoreView) (before after : FolderView) (source source' : Ent
         (moments_rise before.log after.log ChangedTo (λ a b change. moment_later a b (IsBeforeOrAfter (now a) change.makes.after) (change.any_moment change.makes.after change.makes.does)) is.changed)
         (unflagged is.is_turn is.whole))
         (changed_by before.log after.log ChangedTo LogGoesOn (λ a b change. leaves_go_on a b (IsBeforeOrAfter (now a) change.makes.after) (change.any_moment change.makes.after change.makes.does)) is.changed)
-        (changed_told is.is_turn before.log after.log store is.whole is.accepted refl refl store.stored is.allowed is.is_turn.taken is.changed) (goes_on is.is_turn is.goes_on is.whole store) is.is_turn.entries,
+        (changed_told is.is_turn before.log after.log store is.none is.whole is.accepted refl refl store.stored is.allowed is.is_turn.taken is.changed) (goes_on is.is_turn is.goes_on is.whole store) is.is_turn.entries,
   )
 
   pub broken_adds : IsBrokenTurn old new before after source source' turn → Before → tally.entropy_faults caller ≤ source.faults → Adds
@@ -340,11 +420,53 @@ module _ (old new : StoreView) (before after : FolderView) (source source' : Ent
         (moments_rise before.log after.log MayChangeTo (λ a b change. moment_later a b (IsBeforeOrAfter (now a) change.makes.after) (change.any_moment change.makes.after change.makes.does)) is.changed)
         (λ failed. (is.reply, is.may_commit)))
         (changed_by before.log after.log MayChangeTo LogGoesOn (λ a b change. leaves_go_on a b (IsBeforeOrAfter (now a) change.makes.after) (change.any_moment change.makes.after change.makes.does)) is.changed)
-        (broken_told is.is_turn before.log after.log store is.failed is.reply refl refl store.stored is.allowed is.is_turn.taken is.changed)
+        (broken_told is.is_turn before.log after.log store is.none is.failed is.reply refl refl store.stored is.allowed is.is_turn.taken is.changed)
         (is.stops ∙ ap Some (store.count ∙ ap bounded (sym counted)) ∙ sym (ap (λ (o : Option ℕ). option_map bounded o) (flagged is.is_turn is.failed))) is.is_turn.entries,
   )
 
+  -- the commit of what waited failed
+  same_stable : turn.asked.reply ≡ refused refusals.DeviceFault → made.stable ≡ tally.stable
+  same_stable reply = ap (λ (b : Bool). cond b (suc (length history)) tally.stable) (ap (λ (r : PlainReply). is_kept turn.asked.request r) reply ∙ and_false (is_stable turn.asked.request))
+
+  module _ (is : IsUnflushedTurn old new before after source source' turn) where
+    unflushed_on : (a b : Log) → Before → moment_of before.log ≡ moment a → made.moment ≡ moment b → Stored a → AllowedOn (laid old.waiting (now a)) → TakenOn (now a) → AnyMoment old.waiting a b → StoredNext b
+    unflushed_on a b store was at stored allowed taken any =
+        let waits : CanWait old.waiting (now a) = stored.waits (not_stopped is.is_turn.running store) in
+        broken_next is.is_turn a b store is.failed was (leaves_go_on a b (IsBeforeOrAfter (now a) (laid old.waiting (now a))) (any (laid old.waiting (now a)) waits.does)) stored allowed taken
+        (λ opened from. stays_broken Shows opened rows origin history b entry
+        (settles_broken Shows opened rows (shows_blind old.keys) history old.waiting a b (is_repeatable old.waiting waits.pending) (runs is.is_turn a store stored opened from) any) at (same_stable is.reply))
+
+    unflushed_told : (a b : Option Log) → Before → moment_of before.log ≡ moment_of a → made.moment ≡ moment_of b → Told a Stored → Told (disk_in (option_map (laid_log old.waiting) a)) AllowedOn → Told (disk_in a) TakenOn → Changes a b (AnyMoment old.waiting)
+        → Told b StoredNext
+    unflushed_told None None store was at stored allowed taken any = tt
+    unflushed_told None (Some b) store was at stored allowed taken any = absurd any
+    unflushed_told (Some a) None store was at stored allowed taken any = absurd any
+    unflushed_told (Some a) (Some b) store was at stored allowed taken any = unflushed_on a b store was at stored allowed taken any
+
+    -- the log goes on
+    grown_so : Before → Changes before.log after.log LogGoesOn
+    grown_so store =
+        changed_from before.log after.log Stored (AnyMoment old.waiting) LogGoesOn
+        (λ a b stored any.
+        let waits : CanWait old.waiting (now a) = stored.waits (not_stopped is.is_turn.running store) in
+        leaves_go_on a b (IsBeforeOrAfter (now a) (laid old.waiting (now a))) (any (laid old.waiting (now a)) waits.does))
+        store.stored is.any_moment
+
+    pub unflushed_adds : Before → tally.entropy_faults caller ≤ source.faults → Adds
+    unflushed_adds store drew = (
+      made,
+      made_so is.is_turn,
+      adds_to store
+          (caused is.is_turn store drew (moments_rise before.log after.log LogGoesOn goes_later (grown_so store)) (λ failed. (is.reply, is.may_commit)))
+          (grown_so store)
+          (unflushed_told before.log after.log store refl refl store.stored is.allowed is.is_turn.taken is.any_moment)
+          (is.stops ∙ ap Some (store.count ∙ ap bounded (sym counted)) ∙ sym (ap (λ (o : Option ℕ). option_map bounded o) (flagged is.is_turn is.failed))) is.is_turn.entries,
+    )
+
 -- ---- the laws
+
+pub unflushed_turns_add : UnflushedTurnsAdd
+unflushed_turns_add old new before after source source' turn is found rows origin history caller store drew = unflushed_adds old new before after source source' turn found rows origin history caller is store drew
 
 pub quiet_turns_add : QuietTurnsAdd
 quiet_turns_add old new before after source source' turn is found rows origin history caller store drew = quiet_adds old new before after source source' turn found rows origin history caller is store drew

@@ -5,7 +5,7 @@ use Rattle.outside.specs.Disk.{Disk}
 use Rattle.outside.specs.Images.{Log, now}
 use Rattle.outside.specs.Views.{FolderView}
 use Rattle.siv_mode.specs.Keys.{KeyPair}
-use Rattle.chunk_journal.specs.Journal.{RecoversTo}
+use Rattle.chunk_journal.specs.Journal.{AnyMoment, RecoversTo}
 use Rattle.chunk_journal.specs.Opening.{HasOpened, IsOpening, StaysOpening}
 use Rattle.tree_model.specs.Rows.{Rows}
 use Rattle.tree_history.specs.History.{Entry, Origin, tally_of}
@@ -16,7 +16,7 @@ use Rattle.held_changes.specs.Loading.{loaded_tree}
 use Rattle.name_places.specs.Claims.{AreClaimsOf}
 use Rattle.stop_history.specs.Prefix.{StopsRecover, IsWhole}
 use Rattle.stop_history.specs.Opening.{IsSoundlyFound, OpeningRecovers}
-use Rattle.store_history.specs.Store.{StoreView, IsSaidFrom, IsStoreOf, moment_of, shows_under}
+use Rattle.store_history.specs.Store.{StoreView, ArePlaced, IsSaidFrom, IsStoreOf, LogGoesOn, moment_of, shows_under}
 
 -- the rows of what a found disk recovers to, of a vault that is unlocked at this second
 pub record IsFoundClear (keys : KeyPair) (disk : Disk) (unlocked : ℕ) (rows : Rows) : Type 0 where
@@ -39,6 +39,7 @@ pub record HasBeenOpened (before : FolderView) (keys : KeyPair) (unlocked : ℕ)
   pub live : store.live ≡ loaded_tree unlocked kept
   pub claims : AreClaimsOf (sealing_of keys) store.live store.claims
   pub none : store.entries ≡ 0
+  pub idle : store.waiting ≡ []
   pub running : IsNone store.stopped
   pub opened : Changes before.log after.log HasOpened
   pub any_moment : Changes before.log after.log IsOpening
@@ -60,8 +61,19 @@ StoresRecover = (found : Option Log) (store : StoreView) (folder : FolderView) (
     → IsStoreOf found store folder rows origin history
     → Told folder.log (λ log. (opened : ℕ) → IsSaidFrom found origin opened → StopsRecover (shows_under store.keys) opened rows history log)
 
--- of a store none of whose commits failed, all of it is on the disk
+-- of a store none of whose commits failed and in which nothing waits, all of it is on the disk
 abbrev pub StoresAreWhole : Type 0
 StoresAreWhole = (found : Option Log) (store : StoreView) (folder : FolderView) (rows : Rows) (origin : Origin) (history : List Entry)
-    → IsStoreOf found store folder rows origin history
+    → IsStoreOf found store folder rows origin history → store.waiting ≡ []
     → IsNone (tally_of origin history).stopped → Told folder.log (λ log. IsWhole (shows_under store.keys) rows history log)
+
+-- what is left of a store's history where the commit of what waits failed as it was closed
+pub record IsCutShort (found : Option Log) (store : StoreView) (after : FolderView) (rows : Rows) (origin : Origin) (history : List Entry) : Type 0 where
+  pub grown : Changes found after.log (λ old new. IsSoundlyFound (now old) → LogGoesOn old new)
+  pub placed : Told after.log (ArePlaced store.keys rows origin history)
+  pub recover : Told after.log (λ log. (opened : ℕ) → IsSaidFrom found origin opened → StopsRecover (shows_under store.keys) opened rows history log)
+
+abbrev pub ClosingsRecover : Type 0
+ClosingsRecover = (found : Option Log) (store : StoreView) (before after : FolderView) (rows : Rows) (origin : Origin) (history : List Entry)
+    → IsStoreOf found store before rows origin history → IsNone store.stopped → Changes before.log after.log (AnyMoment store.waiting)
+    → IsCutShort found store after rows origin history

@@ -3,8 +3,10 @@ use Rattle.std.specs.Prelude.{◌≡◌, ◌⊎◌, ℕ, suc, ◌≤◌, ◌^◌
 use Rattle.std.specs.Option.{option_map, option_map_or}
 use Rattle.outside.specs.Calls.{Changes, Told}
 use Rattle.outside.specs.Disk.{Disk}
-use Rattle.outside.specs.Images.{Call, Log, log_at, moment, now}
+use Rattle.outside.specs.Images.{Call, Log, disk_in, log_at, moment, now}
 use Rattle.outside.specs.Views.{FolderView}
+use Rattle.deeds.specs.Deeds.{PlainDeed}
+use Rattle.pending_files.specs.Laid.{CanWait, LookAlike, laid, laid_log}
 use Rattle.siv_mode.specs.Keys.{KeyPair}
 use Rattle.tree_model.specs.Rows.{Content, Rows}
 use Rattle.tree_history.specs.History.{Made, Entry, Origin, entry_at, rows_at, tally_at, tally_of, AreCaused, AreAnswered, rows_after}
@@ -22,12 +24,13 @@ use Rattle.stop_history.specs.Opening.{IsSoundlyFound}
 abbrev pub shows_under : KeyPair → DiskShows
 shows_under keys disk rows = HasTree (sealing_of keys) disk rows
 
--- an open vault in memory: its keys, its tree and which node names which folder, how many entries its history has, as far as 64 bits go, and
--- the number that is answered once a commit has failed
+-- an open vault in memory: its keys, its tree and which node names which folder, what waits to be committed, how many entries its history
+-- has, as far as 64 bits go, and the number that is answered once a commit has failed
 pub record StoreView : Type 0 where
   pub keys : KeyPair
   pub live : HeldTree
   pub claims : List (List ℕ × ℕ)
+  pub waiting : List PlainDeed
   pub entries : ℕ
   pub stopped : Option ℕ
 
@@ -41,6 +44,10 @@ bounded n = min n number_limit
 -- the moment of a folder: how many changing calls its log has, and 0 where none is told
 abbrev pub moment_of : Option Log → ℕ
 moment_of log = option_map_or (λ l. moment l) log 0
+
+-- what reads give through a store: the folder's disk once all that waits is done
+abbrev pub shown_in : StoreView → FolderView → Option Disk
+shown_in store folder = disk_in (option_map (laid_log store.waiting) folder.log)
 
 -- ---- a folder's log since it was found
 
@@ -64,12 +71,15 @@ pub record HasRows (store : StoreView) (disk : Disk) (rows : Rows) (history : Li
   pub stands : StandsOn (sealing_of store.keys) disk store.live store.claims contents
   pub current : wrapped (rows_after rows history) ≡ wrapped (live_rows contents store.live)
 
--- The place that an entry names as taken is the one that is taken for its request on a disk, by a tree of that disk which has these rows.
+-- The place that an entry names as taken is the one that is taken for its request on a disk, by a tree which has these rows: that of the
+-- disk, but for bytes of files that wait to be written.
 pub record IsPlacedOn (keys : KeyPair) (disk : Disk) (rows : Rows) (made : Made) : Type 0 where
   pub live : HeldTree
   pub claims : List (List ℕ × ℕ)
   pub contents : ℕ → Content
-  pub stands : StandsOn (sealing_of keys) disk live claims contents
+  pub later : Disk
+  pub alike : LookAlike disk later
+  pub stands : StandsOn (sealing_of keys) later live claims contents
   pub current : wrapped rows ≡ wrapped (live_rows contents live)
   pub taken : made.taken ≡ taken_for (sealing_of keys) disk live made.asked.request made.drawn
 
@@ -79,10 +89,13 @@ ArePlaced keys rows origin history log = (i : ℕ) (entry : Entry) → entry_at 
     → IsPlacedOn keys (now (log_at log (tally_of origin (take i history)).moment)) (rows_at rows history i) entry.made
 
 -- A folder's log on which a store stands for a history: a stop at any moment recovers to a prefix of it; until a commit fails the tree in
--- memory is that of what reads give; each entry is answered in the rows before it, and names the place that is taken.
+-- memory is that of the disk once what waits is done, which can be done; each entry is answered in the rows before it, and names the place
+-- that is taken. What was committed since the last entry has changed no more than bytes of files.
 pub record IsStoredIn (found : Option Log) (store : StoreView) (rows : Rows) (origin : Origin) (history : List Entry) (log : Log) : Type 0 where
-  pub state : (opened : ℕ) → IsSaidFrom found origin opened → IsInState (shows_under store.keys) opened rows history [] log (tally_of origin history).stopped
-  pub tree : IsNone (tally_of origin history).stopped → HasRows store (now log) rows history
+  pub state : (opened : ℕ) → IsSaidFrom found origin opened → IsInState (shows_under store.keys) opened rows history store.waiting log (tally_of origin history).stopped
+  pub waits : IsNone (tally_of origin history).stopped → CanWait store.waiting (now log)
+  pub tree : IsNone (tally_of origin history).stopped → HasRows store (laid store.waiting (now log)) rows history
+  pub since : IsNone (tally_of origin history).stopped → LookAlike (now (log_at log (tally_of origin history).moment)) (now log)
   pub answered : AreAnswered rows (tally_at origin) history
   pub placed : ArePlaced store.keys rows origin history log
 
@@ -93,6 +106,6 @@ pub record IsStoreOf (found : Option Log) (store : StoreView) (folder : FolderVi
   pub grown : Changes found folder.log (λ old new. IsSoundlyFound (now old) → LogGoesOn old new)
   pub caused : AreCaused (tally_at origin) history
   pub faults : (tally_of origin history).folder_faults ≤ folder.faults
-  pub moment : (tally_of origin history).moment ≡ moment_of folder.log
+  pub moment : (tally_of origin history).moment ≤ moment_of folder.log
   pub stopped : store.stopped ≡ option_map bounded (tally_of origin history).stopped
   pub count : store.entries ≡ bounded (length history)

@@ -2,8 +2,10 @@
 use Rattle.std.specs.Prelude.{◌≡◌, ℕ, suc, ◌≤◌, List, [], ◌∷◌, ◌++◌, Bool, true, false, Option, Some, None, IsSome, IsNone}
 use Rattle.outside.specs.Calls.{Changes, Told}
 use Rattle.outside.specs.Disk.{Path as HostPath}
-use Rattle.outside.specs.Images.{Log, disk_in}
+use Rattle.outside.specs.Images.{Log, disk_in, now}
 use Rattle.outside.specs.Views.{FolderView, EntropyView}
+use Rattle.chunk_journal.specs.Journal.{AnyMoment, HasCommitted}
+use Rattle.pending_files.specs.Laid.{CanWait, laid}
 use Rattle.tree_model.specs.declared.refusal.Refusal.TheVariants as refusals
 use Rattle.tree_model.specs.Rows.{Content, Rows}
 use Rattle.tree_model.specs.Asked.{Asked, PlainRequest, refused}
@@ -12,7 +14,8 @@ use Rattle.directory_scan.specs.Format.{sealing_of}
 use Rattle.live_tree.specs.Held.{live_rows}
 use Rattle.node_changes.specs.Changed.{StandsOn, ShowsRows, HasChanged, MayHaveChanged}
 use Rattle.node_changes.specs.Placed.{taken_for, IfDrawn, IsIdentifierOf}
-use Rattle.store_history.specs.Store.{StoreView, IsStoreOf, bounded, moment_of}
+use Rattle.stop_history.specs.Stable.{is_kept}
+use Rattle.store_history.specs.Store.{StoreView, IsStoreOf, bounded, moment_of, shown_in}
 
 -- ---- entries
 
@@ -90,28 +93,32 @@ pub record IsTurn (old new : StoreView) (before after : FolderView) (source sour
 
 -- the answer is allowed in all rows that the tree in memory may have on a disk
 abbrev pub IsAllowed : StoreView → FolderView → Made → Type 0
-IsAllowed store folder made = Told (disk_in folder.log) (λ d. (contents : ℕ → Content) → StandsOn (sealing_of store.keys) d store.live store.claims contents
+IsAllowed store folder made = Told (shown_in store folder) (λ d. (contents : ℕ → Content) → StandsOn (sealing_of store.keys) d store.live store.claims contents
     → IsAnswered (live_rows contents store.live) made)
 
--- ---- nothing is changed on the disk: a request that only reads, a refusal, a fault, an mtime
+-- ---- nothing is changed on the disk: a request that only reads, a refusal, a fault, an mtime, a write that waits
 
--- The rows after it are shown by the same disk.
+-- The rows after it are shown by the disk once all is done that waits then, and that can be done.
 abbrev pub StaysShown : StoreView → StoreView → FolderView → Made → Type 0
-StaysShown old new folder made = Told (disk_in folder.log) (λ d. (contents : ℕ → Content) → StandsOn (sealing_of old.keys) d old.live old.claims contents
-    → ShowsRows (sealing_of old.keys) (rows_then (live_rows contents old.live) made) d new.live new.claims)
+StaysShown old new folder made = Told folder.log (λ log. (contents : ℕ → Content) → StandsOn (sealing_of old.keys) (laid old.waiting (now log)) old.live old.claims contents
+    → ShowsRows (sealing_of old.keys) (rows_then (live_rows contents old.live) made) (laid new.waiting (now log)) new.live new.claims)
 
+-- What is answered as stable doesn't wait.
 pub record IsQuietTurn (old new : StoreView) (before after : FolderView) (source source' : EntropyView) (turn : Turn) : Type 0 where
   pub is_turn : IsTurn old new before after source source' turn
   pub goes_on : IsNone new.stopped
   pub whole : turn.commit_failed ≡ false
   pub log : after.log ≡ before.log
   pub allowed : IsAllowed old before (made_of turn before after source source')
+  pub waits : Told before.log (λ log. CanWait new.waiting (now log))
   pub shown : StaysShown old new before (made_of turn before after source source')
+  pub kept : is_kept turn.asked.request turn.asked.reply ≡ true → (old.waiting ≡ []) × (new.waiting ≡ [])
 
--- ---- a change is committed
+-- ---- a change is committed, with nothing that waits
 
 pub record IsChangedTurn (old new : StoreView) (before after : FolderView) (source source' : EntropyView) (turn : Turn) : Type 0 where
   pub is_turn : IsTurn old new before after source source' turn
+  pub none : (old.waiting ≡ []) × (new.waiting ≡ [])
   pub goes_on : IsNone new.stopped
   pub whole : turn.commit_failed ≡ false
   pub accepted : is_refusal turn.asked.reply ≡ false
@@ -123,6 +130,7 @@ pub record IsChangedTurn (old new : StoreView) (before after : FolderView) (sour
 
 pub record IsBrokenTurn (old new : StoreView) (before after : FolderView) (source source' : EntropyView) (turn : Turn) : Type 0 where
   pub is_turn : IsTurn old new before after source source' turn
+  pub none : old.waiting ≡ []
   pub stops : new.stopped ≡ Some old.entries
   pub failed : turn.commit_failed ≡ true
   pub reply : turn.asked.reply ≡ refused refusals.DeviceFault
@@ -130,6 +138,26 @@ pub record IsBrokenTurn (old new : StoreView) (before after : FolderView) (sourc
   pub allowed : IsAllowed old before (made_of turn before after source source')
   pub changed : Changes before.log after.log (MayHaveChanged (sealing_of old.keys) turn.asked.request turn.asked.second
       old.live new.live old.claims new.claims)
+
+-- ---- what waits is committed, without an entry
+
+-- nothing waits any more, and all else in memory is as it was
+pub record IsFlushed (old new : StoreView) (before after : FolderView) : Type 0 where
+  pub running : IsNone old.stopped
+  pub new_is : new ≡ record old { waiting = [] }
+  pub faults : before.faults ≤ after.faults
+  pub committed : Changes before.log after.log (HasCommitted old.waiting)
+  pub any_moment : Changes before.log after.log (AnyMoment old.waiting)
+
+-- that commit failed, before a request's own work: the store stops
+pub record IsUnflushedTurn (old new : StoreView) (before after : FolderView) (source source' : EntropyView) (turn : Turn) : Type 0 where
+  pub is_turn : IsTurn old new before after source source' turn
+  pub stops : new.stopped ≡ Some old.entries
+  pub failed : turn.commit_failed ≡ true
+  pub reply : turn.asked.reply ≡ refused refusals.DeviceFault
+  pub may_commit : MayCommit turn.asked.request
+  pub allowed : IsAllowed old before (made_of turn before after source source')
+  pub any_moment : Changes before.log after.log (AnyMoment old.waiting)
 
 -- ---- a store that stopped: nothing is done
 
@@ -161,3 +189,18 @@ BrokenTurnsAdd = (old new : StoreView) (before after : FolderView) (source sourc
 abbrev pub StoppedTurnsAdd : Type 0
 StoppedTurnsAdd = (old new : StoreView) (before after : FolderView) (source source' : EntropyView) (turn : Turn)
     → IsStoppedTurn old new before after source source' turn → AddsEntry old new before after turn.asked source source'
+
+abbrev pub UnflushedTurnsAdd : Type 0
+UnflushedTurnsAdd = (old new : StoreView) (before after : FolderView) (source source' : EntropyView) (turn : Turn)
+    → IsUnflushedTurn old new before after source source' turn → AddsEntry old new before after turn.asked source source'
+
+-- what a store stands for, it stands for once what waits is committed
+abbrev pub FlushesStand : Type 0
+FlushesStand = (old new : StoreView) (before after : FolderView) → IsFlushed old new before after
+    → (found : Option Log) (rows : Rows) (origin : Origin) (history : List Entry) → IsStoreOf found old before rows origin history
+    → IsStoreOf found new after rows origin history
+
+-- an entry that is added then is added to what the store stood for before
+abbrev pub FlushedTurnsAdd : Type 0
+FlushedTurnsAdd = (old between new : StoreView) (before amid after : FolderView) (asked : Asked) (source source' : EntropyView)
+    → IsFlushed old between before amid → AddsEntry between new amid after asked source source' → AddsEntry old new before after asked source source'

@@ -1,5 +1,5 @@
 //! What an open vault stands for: one legal history of the plain file tree, and at each moment of it a prefix of the history to which a
-//! stop recovers. Each turn of a store, read-only, committed, failed or stopped, adds one entry.
+//! stop recovers. Each turn of a store, read-only, waiting, committed, failed or stopped, adds one entry.
 //!
 //! ```
 //! // Of a turn whose change was committed: whatever the store stood for, it stands for that with this entry.
@@ -9,16 +9,24 @@
 //! Its functions are laws: they do nothing, and their clauses hold.
 #![tactic(auto)]
 
-ghost use Rattle.store_history.specs.Ends.{FailedOpeningsRecover, OpeningsStand, StoresAreWhole, StoresRecover};
-ghost use Rattle.store_history.specs.Turns.{BrokenTurnsAdd, ChangedTurnsAdd, QuietTurnsAdd, StoppedTurnsAdd};
+ghost use Rattle.store_history.specs.Ends.{ClosingsRecover, FailedOpeningsRecover, OpeningsStand, StoresAreWhole, StoresRecover};
+ghost use Rattle.store_history.specs.Turns.{BrokenTurnsAdd, ChangedTurnsAdd, FlushedTurnsAdd, FlushesStand, QuietTurnsAdd, StoppedTurnsAdd, UnflushedTurnsAdd};
 
-/// Each turn adds an entry to whatever history the store stood for: one that changes nothing on the disk, one whose change is committed,
+/// Each turn adds an entry to whatever history the store stood for: one that changes nothing on the disk, also where a write waits, one whose change is committed,
 /// one whose commit fails, and one of a store that stopped.
 pub fn turns_add_entries()
     ensures quiet { QuietTurnsAdd }
     ensures changed { ChangedTurnsAdd }
     ensures broken { BrokenTurnsAdd }
     ensures stopped { StoppedTurnsAdd }
+{}
+
+/// What a store stands for, it stands for once what waits is committed, and an entry that is added then is added to that; where the commit
+/// fails an entry is added that says so.
+pub fn flushes_stand()
+    ensures stand { FlushesStand }
+    ensures add { FlushedTurnsAdd }
+    ensures failed { UnflushedTurnsAdd }
 {}
 
 /// A vault whose journal is opened and whose tree is loaded stands for no entries, from the rows on of what its folder recovers to;
@@ -28,9 +36,10 @@ pub fn openings_stand()
     ensures failed { FailedOpeningsRecover }
 {}
 
-/// A stop at any moment recovers to a prefix of the history that holds all that was synced; and of a store none of whose commits failed
-/// the disk shows all entries.
+/// A stop at any moment recovers to a prefix of the history that holds all that was synced; of a store none of whose commits failed and in
+/// which nothing waits the disk shows all entries; and where the commit of what waits fails at the end, a stop still recovers to a prefix.
 pub fn stores_recover()
     ensures recover { StoresRecover }
     ensures whole { StoresAreWhole }
+    ensures cut_short { ClosingsRecover }
 {}
