@@ -6,3 +6,4 @@ pub mod Batched
 pub mod Written
 pub mod Later
 pub mod RoomLeft
+pub mod Laying

@@ -1,5 +1,5 @@
 -- What waits, laid over a disk: the disk once all of it is done.
-use Rattle.std.specs.Prelude.{◌≡◌, ℕ, ◌<◌, List, [], ◌∷◌, length, Option, Some, None}
+use Rattle.std.specs.Prelude.{◌≡◌, ◌<◌, List, [], ◌∷◌, length, Option, Some, None}
 use Rattle.outside.specs.Disk.{Disk, Path, Node, folder, file, node_at}
 use Rattle.outside.specs.Images.{Log, now}
 use Rattle.deeds.specs.Deeds.{PlainDeed, DoesAll, done_deed, in_order}
