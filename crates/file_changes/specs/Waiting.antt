@@ -1,0 +1,50 @@
+-- A write whose chunks wait to be committed.
+use Rattle.std.specs.Prelude.{◌≡◌, ◌⊎◌, ℕ, List, [], ◌++◌}
+use Rattle.outside.specs.Disk.{Path as HostPath}
+use Rattle.outside.specs.Images.{Log, now}
+use Rattle.deeds.specs.Deeds.{PlainDeed}
+use Rattle.chunk_journal.specs.Journal.{AnyMoment, HasCommitted, IsQuiet}
+use Rattle.pending_files.specs.Laid.{CanWait, laid}
+use Rattle.tree_model.specs.Rows.{Content}
+use Rattle.tree_model.specs.Asked.{PlainRequest}
+use Rattle.tree_model.specs.Step.{Answer, step}
+use Rattle.clear_tree.specs.Walk.{Sealing}
+use Rattle.live_tree.specs.Held.{HeldTree, live_rows}
+use Rattle.content_changes.specs.Rewriting.{Rewriting}
+use Rattle.content_deeds.specs.Deeds.{rewriting_in}
+use Rattle.node_changes.specs.Changed.{IsLate, IsStepAnswer, ShowsRows, StandsOn}
+
+-- the journal is quiet, what waits can be done, and the tree in memory is that of the disk once it is
+pub record IsAtRestOver (s : Sealing) (live : HeldTree) (claims : List (List ℕ × ℕ)) (waiting : List PlainDeed) (log : Log) : Type 0 where
+  pub quiet : IsQuiet log
+  pub waits : CanWait waiting (now log)
+  pub contents : ℕ → Content
+  pub stands : StandsOn s (laid waiting (now log)) live claims contents
+
+-- what waited was committed, so that nothing waits
+pub record IsFlush (waiting : List PlainDeed) (old new : Log) : Type 0 where
+  pub committed : HasCommitted waiting old new
+  pub any_moment : AnyMoment waiting old new
+
+-- all of it waits still, or it was committed
+abbrev pub MayBeFlushed : List PlainDeed → List PlainDeed → Log → Log → Type 0
+MayBeFlushed waiting middle old new = ((middle ≡ waiting) × (new ≡ old)) ⊎ ((middle ≡ []) × IsFlush waiting old new)
+
+-- Chunks that were sealed for a host file wait besides: what waited before may have been committed, the answer is the step's, and the tree
+-- in memory is that of the step's rows once all is done.
+pub record HasPut (s : Sealing) (request : PlainRequest) (second : ℕ) (answer : Answer) (live live' : HeldTree) (claims claims' : List (List ℕ × ℕ)) (waiting waiting' : List PlainDeed) (old new : Log) : Type 0 where
+  pub middle : List PlainDeed
+  pub flushed : MayBeFlushed waiting middle old new
+  pub path : HostPath
+  pub len : ℕ
+  pub rewriting : Rewriting
+  pub are : waiting' ≡ rewriting_in path len rewriting middle
+  pub waits : CanWait waiting' (now new)
+  pub answer_is : IsStepAnswer s request second answer (laid middle (now new)) live claims
+  pub stepped : (contents : ℕ → Content) → StandsOn s (laid middle (now new)) live claims contents
+      → ShowsRows s (step (live_rows contents live) request second).rows (laid waiting' (now new)) live' claims'
+
+-- what waited couldn't be committed, once no refusal of the step had come
+pub record IsNotFlushed (s : Sealing) (request : PlainRequest) (live : HeldTree) (claims : List (List ℕ × ℕ)) (waiting : List PlainDeed) (old new : Log) : Type 0 where
+  pub late : IsLate s request (laid waiting (now old)) live claims
+  pub any_moment : AnyMoment waiting old new
