@@ -27,13 +27,6 @@ looks_beside a b same q deep = ap outline (same q (λ e. absurd (top journal_fil
     top : (p : HostPath) → length p ≡ 1 → q ≡ p → ⊥
     top p one e = omega (arith, deep, one, ap length e)
 
--- nothing can always wait
-pub nothing_waits : (d : Disk) → CanWait [] d
-nothing_waits d = record { pending = record { each = tt; apart = tt; few_files = omega arith; few_chunks = omega arith }; does = refl }
-
-pub looks_laid : (deeds : List PlainDeed) (d : Disk) → CanWait deeds d → LookAlike d (laid deeds d)
-looks_laid deeds d waits = ?
-
 -- ---- what is there
 
 there_alike : (p : HostPath) (x y : Option Thing) → outline y ≡ outline x → if_there p x ≡ if_there p y

@@ -11,6 +11,7 @@ use Rattle.deeds.specs.Deeds.{PlainDeed}
 use Rattle.chunk_journal.specs.Journal.{AnyMoment, HasCommitted, IsAlike, IsBeforeOrAfter}
 use Rattle.pending_files.specs.Laid.{CanWait, LookAlike, laid}
 use Rattle.pending_files.proofs.Batched.{is_repeatable}
+use Rattle.pending_files.proofs.Laying.{looks_alike, none_waits}
 use Rattle.tree_model.specs.Rows.{Rows}
 use Rattle.tree_model.specs.Asked.{Asked, PlainRequest}
 use Rattle.tree_history.specs.History.{Entry, Origin, Tally, tally_of}
@@ -22,7 +23,7 @@ use Rattle.stop_history.proofs.Moves.{settles}
 use Rattle.stop_history.proofs.States.{state_runs}
 use Rattle.store_history.specs.Store.{StoreView, HasRows, IsStoredIn, IsStoreOf, LogGoesOn, moment_of, shows_under}
 use Rattle.store_history.specs.Turns.{AddsEntry, FlushedTurnsAdd, FlushesStand, IsFlushed, IsMadeOf, IsTakenFor}
-use Rattle.store_history.proofs.Alike.{for_alike, looks_beside, looks_laid, looks_through, nothing_waits}
+use Rattle.store_history.proofs.Alike.{for_alike, looks_beside, looks_through}
 use Rattle.store_history.proofs.Placed.{grows_on, goes_later, leaves_go_on, places_go_on, read_then}
 use Rattle.store_history.proofs.Shows.{shows_blind, stands_beside}
 use Rattle.store_history.proofs.Turns.{moments_rise, none_back}
@@ -53,7 +54,7 @@ module _ (old : StoreView) (before after : FolderView) (found : Option Log) (row
 
   looks : (a b : Log) → Stored a → HasCommitted old.waiting a b → LookAlike (now a) (now b)
   looks a b stored committed =
-      looks_through (now a) (laid old.waiting (now a)) (now b) (looks_laid old.waiting (now a) (stored.waits none)) (looks_beside (laid old.waiting (now a)) (now b) (beside a b stored committed))
+      looks_through (now a) (laid old.waiting (now a)) (now b) (looks_alike old.waiting (now a) (stored.waits none)) (looks_beside (laid old.waiting (now a)) (now b) (beside a b stored committed))
 
   goes : (a b : Log) → Stored a → AnyMoment old.waiting a b → LogGoesOn a b
   goes a b stored any = leaves_go_on a b (IsBeforeOrAfter (now a) (laid old.waiting (now a))) (any (laid old.waiting (now a)) (stored.waits none).does)
@@ -66,7 +67,7 @@ module _ (old : StoreView) (before after : FolderView) (found : Option Log) (row
         state = λ opened from. in_state (shows_under old.keys) opened rows history [] b tally.stopped none
             (settles (shows_under old.keys) opened rows (shows_blind old.keys) history old.waiting a b (is_repeatable old.waiting waits.pending)
             (state_runs (shows_under old.keys) opened rows history old.waiting a tally.stopped none (stored.state opened from)) any committed);
-        waits = λ _. nothing_waits (now b);
+        waits = λ _. none_waits (now b);
         tree = λ _. record {
           contents = has.contents;
           stands = stands_beside (sealing_of old.keys) (laid old.waiting (now a)) (now b) old.live old.claims has.contents has.stands committed.at_rest.steady.tree (beside a b stored committed);

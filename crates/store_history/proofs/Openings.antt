@@ -13,6 +13,7 @@ use Rattle.chunk_journal.specs.Opening.{HasOpened, IsOpening, StaysOpening}
 use Rattle.chunk_journal.specs.Commits.{IsReopenable}
 use Rattle.chunk_journal.proofs.Found.{opening_keeps, stays_found, opened_alike}
 use Rattle.pending_files.specs.Laid.{CanWait, LookAlike, laid}
+use Rattle.pending_files.proofs.Laying.{none_waits}
 use Rattle.tree_model.specs.Rows.{Content, bad_size, Rows}
 use Rattle.tree_history.specs.History.{Origin}
 use Rattle.clear_tree.specs.Walk.{Sealing, Node}
@@ -38,7 +39,7 @@ use Rattle.stop_history.proofs.Openings.{begins_now}
 use Rattle.store_history.specs.Store.{StoreView, moment_of, shows_under, HasRows, IsStoredIn, IsStoreOf, LogGoesOn}
 use Rattle.store_history.specs.Ends.{IsFoundClear, IsOpened, HasBeenOpened, OpeningsStand}
 use Rattle.store_history.proofs.Shows.{shows_blind, stands_shows}
-use Rattle.store_history.proofs.Alike.{looks_itself, nothing_waits}
+use Rattle.store_history.proofs.Alike.{looks_itself}
 use Rattle.store_history.proofs.Placed.{at_its_end, goes_through, leaves_go_on}
 use Rattle.store_history.proofs.Turns.{none_is}
 
@@ -170,7 +171,7 @@ module _ (unlocked : ℕ) (kept : KeptTree) (store : StoreView) (live_is : store
                 (begins_now Shows (shows_blind store.keys) (rows_of tells.contents) opened.disk old new (stays_soundly old new (inr opening) sound)
                 (record { at_rest = opened.at_rest; since = opened_later old new opened opening sound; found = λ other recovers. opened_alike old new other opened recovers }) opened.recovers shows)
           ]);
-          waits = λ none. subst (λ (w : List PlainDeed). CanWait w (now new)) (sym idle) (nothing_waits (now new));
+          waits = λ none. subst (λ (w : List PlainDeed). CanWait w (now new)) (sym idle) (none_waits (now new));
           since = λ none. subst (λ (d : Disk). LookAlike d (now new)) (sym (ap (λ (m : ℕ). now (log_at new m)) at ∙ ap now (at_its_end new))) (looks_itself (now new));
           tree = λ none. subst (λ (d : Disk). HasRows store d (rows_of tells.contents) []) (sym (ap (λ (w : List PlainDeed). laid w (now new)) idle)) has;
           answered = tt;

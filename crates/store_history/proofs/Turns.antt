@@ -12,6 +12,7 @@ use Rattle.deeds.specs.Deeds.{PlainDeed}
 use Rattle.chunk_journal.specs.Journal.{AnyMoment, IsBeforeOrAfter}
 use Rattle.pending_files.specs.Laid.{CanWait, LookAlike, laid, laid_log}
 use Rattle.pending_files.proofs.Batched.{is_repeatable}
+use Rattle.pending_files.proofs.Laying.{looks_alike, none_waits}
 use Rattle.tree_model.specs.declared.refusal.Refusal.TheVariants as refusals
 use Rattle.tree_model.specs.Rows.{Content, Rows}
 use Rattle.tree_model.specs.Asked.{PlainReply, refused}
@@ -37,7 +38,7 @@ use Rattle.stop_history.proofs.States.{state_runs, running_state, broken_state}
 use Rattle.store_history.specs.Store.{StoreView, bounded, moment_of, shows_under, ArePlaced, HasRows, IsPlacedOn, IsSaidFrom, IsStoredIn, IsStoreOf, LogGoesOn}
 use Rattle.store_history.specs.Turns.{Draws, IsMadeOf, Turn, made_in, made_of, IsTurn, IsQuietTurn, IsChangedTurn, IsBrokenTurn, IsUnflushedTurn, QuietTurnsAdd, ChangedTurnsAdd, BrokenTurnsAdd, UnflushedTurnsAdd}
 use Rattle.store_history.proofs.Shows.{shows_blind, stands_beside, stands_shows}
-use Rattle.store_history.proofs.Alike.{for_alike, looks_itself, looks_laid, looks_through, nothing_waits}
+use Rattle.store_history.proofs.Alike.{for_alike, looks_itself, looks_through}
 use Rattle.store_history.proofs.Placed.{at_its_end, goes_later, goes_nowhere, grows_on, leaves_go_on, placed_more}
 
 pub bounded_suc : (n : ℕ) → bounded (suc (bounded n)) ≡ bounded (suc n)
@@ -232,7 +233,7 @@ module _ (old new : StoreView) (before after : FolderView) (source source' : Ent
           claims = old.claims;
           contents = has.contents;
           later = laid old.waiting (now log);
-          alike = looks_through then (now log) (laid old.waiting (now log)) since (looks_laid old.waiting (now log) (stored.waits none));
+          alike = looks_through then (now log) (laid old.waiting (now log)) since (looks_alike old.waiting (now log) (stored.waits none));
           stands = has.stands;
           current = has.current;
           taken = taken ∙ sym (for_alike s then (now log) old.live turn.drawn since turn.asked.request);
@@ -306,7 +307,7 @@ module _ (old new : StoreView) (before after : FolderView) (source source' : Ent
         let stands = stands_beside s change.makes.after (now b) new.live new.claims to.contents to.stands change.committed.at_rest.steady.tree (change.committed.after change.makes.after change.makes.does) in
         let none : laid new.waiting (now b) ≡ now b = ap (λ (w : List PlainDeed). laid w (now b)) idle.1 in
         runs_next b store whole at stored.answered (answered_next (now a) (subst AllowedOn (shown_idle idle.0 a) allowed) has)
-        (subst (λ (w : List PlainDeed). CanWait w (now b)) (sym idle.1) (nothing_waits (now b))) to.contents (subst (λ (d : Disk). StandsOn s d new.live new.claims to.contents) (sym none) stands) same
+        (subst (λ (w : List PlainDeed). CanWait w (now b)) (sym idle.1) (none_waits (now b))) to.contents (subst (λ (d : Disk). StandsOn s d new.live new.claims to.contents) (sym none) stands) same
         (λ opened from. subst (λ (w : List PlainDeed). IsRunning Shows opened rows (history ++ entry ∷ []) w b) (sym idle.1)
         (commits Shows opened rows (shows_blind old.keys) history change.deeds a b entry change.makes.after change.makes.repeatable (runs_idle idle.0 a store stored opened from) change.makes.does shows at (stable store).within
         change.any_moment change.committed))

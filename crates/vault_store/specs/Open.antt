@@ -1,14 +1,15 @@
 -- An open vault as clauses see it.
-use Rattle.std.specs.Prelude.{◌≡◌, ℕ, ◌≤◌, suc, List, Option, Some, None, IsNone}
+use Rattle.std.specs.Prelude.{◌≡◌, ℕ, ◌≤◌, suc, List, [], Option, Some, None, IsNone}
 use Rattle.outside.specs.Calls.{Told}
 use Rattle.outside.specs.Images.{Log, now}
+use Rattle.deeds.specs.Deeds.{PlainDeed}
 use Rattle.siv_mode.specs.Keys.{KeyPair}
 use Rattle.clear_tree.specs.Kept.{KeptTree, IsKept}
 use Rattle.directory_scan.specs.Format.{sealing_of}
 use Rattle.live_tree.specs.Held.{HeldTree}
 use Rattle.held_changes.specs.Loading.{loaded_tree}
 use Rattle.name_places.specs.Claims.{AreClaimsOf}
-use Rattle.node_changes.specs.Changed.{IsAtRest}
+use Rattle.file_changes.specs.Waiting.{IsAtRestOver}
 use Rattle.node_changes.specs.declared.tree.VaultTree.{VaultTree}
 use Rattle.store_history.specs.Store.{StoreView, bounded}
 
@@ -18,12 +19,12 @@ pub record OpenVault (D : Type 0) : Type 0 where
   pub threshold : ℕ
   pub folder : D
 
-abbrev pub view_of : VaultTree → ℕ → Option ℕ → StoreView
-view_of tree entries stopped = record { keys = tree.keys; live = tree.live; claims = tree.claims; entries = entries; stopped = stopped }
+abbrev pub view_of : VaultTree → List PlainDeed → ℕ → Option ℕ → StoreView
+view_of tree waiting entries stopped = record { keys = tree.keys; live = tree.live; claims = tree.claims; waiting = waiting; entries = entries; stopped = stopped }
 
--- one that runs
+-- one that runs, in which nothing waits
 abbrev pub running : KeyPair → HeldTree → List (List ℕ × ℕ) → ℕ → StoreView
-running keys live claims entries = record { keys = keys; live = live; claims = claims; entries = entries; stopped = None }
+running keys live claims entries = record { keys = keys; live = live; claims = claims; waiting = []; entries = entries; stopped = None }
 
 -- what was kept of a disk, in memory
 pub record IsLoadedTree (keys : KeyPair) (unlocked threshold : ℕ) (log : Option Log) (tree : VaultTree) : Type 0 where
@@ -38,7 +39,7 @@ pub record IsLoadedTree (keys : KeyPair) (unlocked threshold : ℕ) (log : Optio
 pub record IsResting (log : Option Log) (threshold : ℕ) (store : StoreView) : Type 0 where
   pub least : 1 ≤ threshold
   pub most : threshold ≤ 250
-  pub rests : IsNone store.stopped → Told log (IsAtRest (sealing_of store.keys) store.live store.claims)
+  pub rests : IsNone store.stopped → Told log (IsAtRestOver (sealing_of store.keys) store.live store.claims store.waiting)
 
 -- with one entry more
 abbrev pub counted : StoreView → StoreView

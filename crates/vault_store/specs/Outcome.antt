@@ -5,7 +5,7 @@ use Rattle.tree_model.specs.declared.reply.Reply.{Reply}
 use Rattle.tree_model.specs.declared.refusal.Refusal.TheVariants as refusals
 use Rattle.tree_model.specs.Asked.{Asked, PlainRequest, plain_reply, refused, asked_of, bytes_put, is_exhausted, HasCount, IsReplyTo, KeepsRest}
 use Rattle.store_history.specs.Store.{StoreView}
-use Rattle.store_history.specs.Turns.{Turn, IsQuietTurn, IsChangedTurn, IsBrokenTurn}
+use Rattle.store_history.specs.Turns.{Turn, IsQuietTurn, IsChangedTurn, IsBrokenTurn, IsFlushed, IsUnflushedTurn}
 use Rattle.vault_store.specs.declared.answering.Broken.{Broken}
 use Rattle.vault_store.specs.Open.{counted, stopped_in}
 
@@ -22,15 +22,24 @@ pub record IsFormed (request : PlainRequest) (reply : Reply) (old new : List ℕ
   pub enters : is_exhausted (plain_reply reply) ≡ false
   pub rest : KeepsRest request (plain_reply reply) old new
 
+-- a turn, before whose own work what waits may have been committed
+pub record IsFrom (old : StoreView) (before : FolderView) (P : StoreView → FolderView → Type 0) : Type 0 where
+  pub between : StoreView
+  pub amid : FolderView
+  pub flushed : ((between ≡ old) × (amid ≡ before)) ⊎ IsFlushed old between before amid
+  pub is : P between amid
+
 -- a reply: nothing was changed on the disk, or a change was committed
 pub record HasReply (old new : StoreView) (before after : FolderView) (source source' : EntropyView) (request : PlainRequest) (second : ℕ) (reply : Reply) (buffer buffer' : List ℕ) : Type 0 where
   pub formed : IsFormed request reply buffer buffer'
-  pub turn : IsTurnOf (asked_of request second (plain_reply reply) buffer') (λ turn.
-      IsQuietTurn old (counted new) before after source source' turn ⊎ IsChangedTurn old (counted new) before after source source' turn)
+  pub turn : IsTurnOf (asked_of request second (plain_reply reply) buffer') (λ turn. IsFrom old before (λ between amid.
+      IsQuietTurn between (counted new) amid after source source' turn ⊎ IsChangedTurn between (counted new) amid after source source' turn))
 
--- a commit failed
+-- a commit failed: that of what waits, or the request's own
 pub record HasBroken (old new : StoreView) (before after : FolderView) (source source' : EntropyView) (request : PlainRequest) (second : ℕ) (buffer buffer' : List ℕ) : Type 0 where
-  pub turn : IsTurnOf (asked_of request second (refused refusals.DeviceFault) buffer') (λ turn. IsBrokenTurn old (stopped_in new) before after source source' turn)
+  pub turn : IsTurnOf (asked_of request second (refused refusals.DeviceFault) buffer') (λ turn.
+      IsUnflushedTurn old (stopped_in new) before after source source' turn
+      ⊎ IsFrom old before (λ between amid. IsBrokenTurn between (stopped_in new) amid after source source' turn))
   pub buffer_is : buffer' ≡ buffer
 
 abbrev pub IsOutcome : StoreView → StoreView → FolderView → FolderView → EntropyView → EntropyView → PlainRequest → ℕ → Result Reply Broken → List ℕ → List ℕ → Type 0
