@@ -48,3 +48,7 @@ counted store = record store { entries = bounded (suc store.entries) }
 -- and stopped in that entry
 abbrev pub stopped_in : StoreView → StoreView
 stopped_in store = record store { entries = bounded (suc store.entries); stopped = Some store.entries }
+
+-- with nothing that waits
+abbrev pub idle_of : StoreView → StoreView
+idle_of store = record store { waiting = [] }

@@ -1,6 +1,7 @@
 -- Which nodes of a tree have bytes to be read, and what refuses the others.
-use Rattle.std.specs.Prelude.{◌≡◌, ℕ, false, Option, Some, None, if◌then◌else◌}
+use Rattle.std.specs.Prelude.{◌≡◌, ⊤, ℕ, false, Option, Some, None, if◌then◌else◌}
 use Rattle.outside.specs.Disk.{Disk}
+use Rattle.tree_model.specs.Asked.{PlainRequest, look, walk, open_node, create, read, list, write, remove, stat_of, change, sync}
 use Rattle.tree_model.specs.Rows.{Content}
 use Rattle.tree_model.specs.declared.refusal.Refusal.{Refusal}
 use Rattle.tree_model.specs.declared.refusal.Refusal.TheVariants as refusals
@@ -34,3 +35,17 @@ pub record IsHostOf (tree : HeldTree) (number : ℕ) (host : SealedFile) : Type 
 pub record HasContents (s : Sealing) (live : HeldTree) (d : Disk) : Type 0 where
   pub contents : ℕ → Content
   pub are : AreLiveContents s d live contents
+
+-- the request is no sync
+abbrev pub IsUnsynced : PlainRequest → Type 0
+IsUnsynced (look n) = ⊤
+IsUnsynced (walk n names) = ⊤
+IsUnsynced (open_node n mode) = ⊤
+IsUnsynced (create n name is_dir mode) = ⊤
+IsUnsynced (read n at most) = ⊤
+IsUnsynced (list n after most) = ⊤
+IsUnsynced (write n at bytes) = ⊤
+IsUnsynced (remove n) = ⊤
+IsUnsynced (stat_of n) = ⊤
+IsUnsynced (change n c) = ⊤
+IsUnsynced (sync n) = ⊥

@@ -8,7 +8,7 @@ ghost use Rattle.clear_tree.specs.Kept.{KeptTree};
 ghost use Rattle.directory_scan.specs.Format.{sealing_of};
 ghost use Rattle.tree_model.specs.Asked.{CanAsk, plain_request};
 ghost use Rattle.tree_loading.specs.Clear.{root_folder, HasTooMany};
-ghost use Rattle.node_changes.specs.Changed.{IsAtRest};
+ghost use Rattle.file_changes.specs.Waiting.{IsAtRestOver};
 ghost use Rattle.store_history.specs.Ends.{HasBeenOpened};
 ghost use Rattle.vault_store.specs.declared.opening.OpenErr.TheVariants as open_errs;
 ghost use Rattle.vault_store.specs.Open.{IsLoadedTree, view_of};
@@ -21,20 +21,23 @@ use file_changes::FileChanges;
 use live_tree::LiveTree;
 use node_changes::VaultTree;
 use outside::{Entropy, Folder, Refused};
+use pending_files::Pending;
 use siv_mode::VaultKeys;
 use std::alloc::Global;
 use tree_answers::is_truncating;
 use tree_loading::load;
 use tree_model::{Reply, Request};
+use write_back::WriteBack;
 
 /// A commit failed: the folder's count of faults rose, and nothing can be answered any more.
 #[derive(Clone, Copy, Debug, PartialEq, Eq)]
 pub(crate) struct Broken;
 
-/// What a store answers from: its folder behind the journal, its tree, and room for reads and for changes of contents.
+/// What a store answers from: its folder behind the journal, with what waits to be committed; its tree; and room for reads and for changes
+/// of contents.
 #[derive(Drop)]
-pub(crate) struct Vault<D> {
-    pub journal: Journal<D>,
+pub(crate) struct Vault<D: Folder> {
+    pub back: WriteBack<D>,
     pub tree: VaultTree,
     pub reader: ContentReader,
     pub files: FileChanges,
@@ -52,10 +55,10 @@ impl<D: Folder> Vault<D> {
     ) -> Result<Vault<D>, Refused<D, OpenErr>>
         requires { (1 ≤ threshold) × (threshold ≤ 250) }
         ensures opened { IfOk result (λ vault. (kept : KeptTree) × HasBeenOpened (folder_view D.log D.faults D.changes folder) keys.now now kept
-            (view_of vault.tree 0 None) (folder_view D.log D.faults D.changes vault.journal)) }
-        ensures rest { IfOk result (λ vault. Told (D.log vault.journal) (IsAtRest (sealing_of vault.tree.keys) vault.tree.live vault.tree.claims)) }
+            (view_of vault.tree vault.back.waiting 0 None) (folder_view D.log D.faults D.changes vault.back.folder)) }
+        ensures rest { IfOk result (λ vault. Told (D.log vault.back.folder) (IsAtRestOver (sealing_of vault.tree.keys) vault.tree.live vault.tree.claims vault.back.waiting)) }
         ensures threshold { IfOk result (λ vault. vault.tree.threshold ≡ threshold) }
-        ensures later { IfOk result (λ vault. D.faults folder ≤ D.faults vault.journal) }
+        ensures later { IfOk result (λ vault. D.faults folder ≤ D.faults vault.back.folder) }
         ensures damaged { IfErr result (λ refused. (at : ℕ) → refused.cause ≡ open_errs.JournalDamaged at
             → Told (D.log folder) (λ log. IsDamagedAt (disk_now log) at ⊎ LeavesFolder (disk_now log) at)) }
         ensures too_many { IfErr result (λ refused. (n : ℕ) → refused.cause ≡ open_errs.TooMany n
@@ -84,6 +87,15 @@ impl<D: Folder> Vault<D> {
                 });
             }
         };
+        let pending = match Pending::new(alloc) {
+            Ok(pending) => pending,
+            Err(_) => {
+                return Err(Refused {
+                    folder,
+                    cause: OpenErr::Memory,
+                });
+            }
+        };
         let mut journal = match Journal::open(alloc, folder) {
             Ok(journal) => journal,
             Err(Refused { folder, cause }) => {
@@ -95,7 +107,7 @@ impl<D: Folder> Vault<D> {
         };
         match load_tree(alloc, &mut journal, keys, threshold, now) {
             Ok(tree) => Ok(Vault {
-                journal,
+                back: WriteBack::new(journal, pending),
                 tree,
                 reader,
                 files,
@@ -117,16 +129,16 @@ impl<D: Folder> Vault<D> {
         buffer: &mut [u8],
     ) -> Result<Reply, Broken>
         requires form { CanAsk request.now (length buffer.old) }
-        requires rest { Told (D.log self.old.journal) (IsAtRest (sealing_of self.old.tree.keys) self.old.tree.live self.old.tree.claims) }
+        requires rest { Told (D.log self.old.back.folder) (IsAtRestOver (sealing_of self.old.tree.keys) self.old.tree.live self.old.tree.claims self.old.back.waiting) }
         requires threshold { (1 ≤ self.old.tree.threshold) × (self.old.tree.threshold ≤ 250) }
-        ensures outcome { (entries : ℕ) → IsOutcome (view_of self.old.tree entries None) (view_of self.new.tree entries None)
-            (folder_view D.log D.faults D.changes self.old.journal) (folder_view D.log D.faults D.changes self.new.journal)
+        ensures outcome { (entries : ℕ) → IsOutcome (view_of self.old.tree self.old.back.waiting entries None) (view_of self.new.tree self.new.back.waiting entries None)
+            (folder_view D.log D.faults D.changes self.old.back.folder) (folder_view D.log D.faults D.changes self.new.back.folder)
             (entropy_view E.drawn E.faults entropy.old) (entropy_view E.drawn E.faults entropy.new)
             (plain_request request.now) now result buffer.old buffer.new }
-        ensures rest { OnOk result (Told (D.log self.new.journal) (IsAtRest (sealing_of self.new.tree.keys) self.new.tree.live self.new.tree.claims)) }
+        ensures rest { OnOk result (Told (D.log self.new.back.folder) (IsAtRestOver (sealing_of self.new.tree.keys) self.new.tree.live self.new.tree.claims self.new.back.waiting)) }
         ensures threshold { self.new.tree.threshold ≡ self.old.tree.threshold }
         ensures keys { self.new.tree.keys ≡ self.old.tree.keys }
-        ensures faults { D.faults self.old.journal ≤ D.faults self.new.journal }
+        ensures faults { D.faults self.old.back.folder ≤ D.faults self.new.back.folder }
         ensures entropy { E.faults entropy.old ≤ E.faults entropy.new }
     {
         match request {
@@ -142,6 +154,7 @@ impl<D: Folder> Vault<D> {
             Request::OpenNode { node, mode } if is_truncating(*mode) => {
                 self.truncate(*node, *mode, now, entropy)
             }
+            Request::Sync { node } => self.sync(*node),
             _ => Ok(self.look_up(request, buffer)),
         }
     }

@@ -18,8 +18,8 @@ use outside::{Entropy, Folder};
 use tree_model::{Refusal, Reply, StatChange};
 
 impl<D: Folder> Vault<D> {
-    /// Makes a file or a directory.
-    pub(crate) fn create<E: Entropy>(
+    /// Makes a file or a directory, where nothing waits.
+    pub(crate) fn create_idle<E: Entropy>(
         &mut self,
         parent: u64,
         name: &str,
@@ -27,80 +27,87 @@ impl<D: Folder> Vault<D> {
         now: u32,
         entropy: &mut E,
     ) -> Result<Reply, Broken>
-        requires rest { Told (D.log self.old.journal) (IsAtRest (sealing_of self.old.tree.keys) self.old.tree.live self.old.tree.claims) }
+        requires idle { self.old.back.waiting ≡ [] }
+        requires rest { Told (D.log self.old.back.folder) (IsAtRest (sealing_of self.old.tree.keys) self.old.tree.live self.old.tree.claims) }
         requires threshold { (1 ≤ self.old.tree.threshold) × (self.old.tree.threshold ≤ 250) }
-        ensures outcome { (entries mode : ℕ) (buffer : List ℕ) → IsOutcome (view_of self.old.tree entries None) (view_of self.new.tree entries None)
-            (folder_view D.log D.faults D.changes self.old.journal) (folder_view D.log D.faults D.changes self.new.journal)
+        ensures outcome { (entries mode : ℕ) (buffer : List ℕ) → IsOutcome (view_of self.old.tree [] entries None) (view_of self.new.tree [] entries None)
+            (folder_view D.log D.faults D.changes self.old.back.folder) (folder_view D.log D.faults D.changes self.new.back.folder)
             (entropy_view E.drawn E.faults entropy.old) (entropy_view E.drawn E.faults entropy.new)
             (create_request parent name.now is_dir mode) now result buffer buffer }
+        ensures idle { self.new.back.waiting ≡ [] }
         ensures threshold { self.new.tree.threshold ≡ self.old.tree.threshold }
         ensures keys { self.new.tree.keys ≡ self.old.tree.keys }
-        ensures faults { D.faults self.old.journal ≤ D.faults self.new.journal }
+        ensures faults { D.faults self.old.back.folder ≤ D.faults self.new.back.folder }
         ensures entropy { E.faults entropy.old ≤ E.faults entropy.new }
     {
         match self
             .tree
-            .create(&mut self.journal, entropy, parent, name, is_dir, now)
+            .create(self.back.journal(), entropy, parent, name, is_dir, now)
         {
             Ok(qid) => Ok(Reply::Qid(qid)),
             Err(error) => refused(error),
         }
     }
 
-    /// Removes a node.
-    pub(crate) fn remove(&mut self, number: u64, now: u32) -> Result<Reply, Broken>
-        requires rest { Told (D.log self.old.journal) (IsAtRest (sealing_of self.old.tree.keys) self.old.tree.live self.old.tree.claims) }
+    /// Removes a node, where nothing waits.
+    pub(crate) fn remove_idle(&mut self, number: u64, now: u32) -> Result<Reply, Broken>
+        requires idle { self.old.back.waiting ≡ [] }
+        requires rest { Told (D.log self.old.back.folder) (IsAtRest (sealing_of self.old.tree.keys) self.old.tree.live self.old.tree.claims) }
         requires threshold { (1 ≤ self.old.tree.threshold) × (self.old.tree.threshold ≤ 250) }
-        ensures outcome { (entries : ℕ) (source : EntropyView) (buffer : List ℕ) → IsOutcome (view_of self.old.tree entries None) (view_of self.new.tree entries None)
-            (folder_view D.log D.faults D.changes self.old.journal) (folder_view D.log D.faults D.changes self.new.journal)
+        ensures outcome { (entries : ℕ) (source : EntropyView) (buffer : List ℕ) → IsOutcome (view_of self.old.tree [] entries None) (view_of self.new.tree [] entries None)
+            (folder_view D.log D.faults D.changes self.old.back.folder) (folder_view D.log D.faults D.changes self.new.back.folder)
             source source (remove_request number) now result buffer buffer }
+        ensures idle { self.new.back.waiting ≡ [] }
         ensures threshold { self.new.tree.threshold ≡ self.old.tree.threshold }
         ensures keys { self.new.tree.keys ≡ self.old.tree.keys }
-        ensures faults { D.faults self.old.journal ≤ D.faults self.new.journal }
+        ensures faults { D.faults self.old.back.folder ≤ D.faults self.new.back.folder }
     {
-        match self.tree.remove(&mut self.journal, number, now) {
+        match self.tree.remove(self.back.journal(), number, now) {
             Ok(()) => Ok(Reply::Done),
             Err(error) => refused(error),
         }
     }
 
-    /// Changes attributes of a node: its name or its length, and its mtime.
-    pub(crate) fn change<E: Entropy>(
+    /// Changes attributes of a node as it was planned, where nothing waits: its name or its length, and its mtime.
+    pub(crate) fn change_idle<E: Entropy>(
         &mut self,
         number: u64,
-        change: &StatChange<'_>,
+        plan: Plan,
+        modified: Option<u32>,
         now: u32,
         entropy: &mut E,
     ) -> Result<Reply, Broken>
-        requires rest { Told (D.log self.old.journal) (IsAtRest (sealing_of self.old.tree.keys) self.old.tree.live self.old.tree.claims) }
+        requires idle { self.old.back.waiting ≡ [] }
+        requires rest { Told (D.log self.old.back.folder) (IsAtRest (sealing_of self.old.tree.keys) self.old.tree.live self.old.tree.claims) }
         requires threshold { (1 ≤ self.old.tree.threshold) × (self.old.tree.threshold ≤ 250) }
-        ensures outcome { (entries : ℕ) (buffer : List ℕ) → IsOutcome (view_of self.old.tree entries None) (view_of self.new.tree entries None)
-            (folder_view D.log D.faults D.changes self.old.journal) (folder_view D.log D.faults D.changes self.new.journal)
+        requires planned { (c : PlainChange) × IsPlanned self.old.tree.live number c plan }
+        ensures outcome { (entries : ℕ) (buffer : List ℕ) (c : PlainChange) → c.modified ≡ modified → IsPlanned self.old.tree.live number c plan
+            → IsOutcome (view_of self.old.tree [] entries None) (view_of self.new.tree [] entries None)
+            (folder_view D.log D.faults D.changes self.old.back.folder) (folder_view D.log D.faults D.changes self.new.back.folder)
             (entropy_view E.drawn E.faults entropy.old) (entropy_view E.drawn E.faults entropy.new)
-            (change_request number (plain_change change.now)) now result buffer buffer }
+            (change_request number c) now result buffer buffer }
+        ensures idle { self.new.back.waiting ≡ [] }
         ensures threshold { self.new.tree.threshold ≡ self.old.tree.threshold }
         ensures keys { self.new.tree.keys ≡ self.old.tree.keys }
-        ensures faults { D.faults self.old.journal ≤ D.faults self.new.journal }
+        ensures faults { D.faults self.old.back.folder ≤ D.faults self.new.back.folder }
         ensures entropy { E.faults entropy.old ≤ E.faults entropy.new }
     {
         have_sizes(self.tree.keys());
-        match plan_change(self.alloc, self.tree.live(), number, change) {
-            Ok(Ok(Plan::Rename(name))) => {
+        match plan {
+            Plan::Rename(name) => {
                 match self
                     .tree
-                    .rename(&mut self.journal, number, name, change.modified, now)
+                    .rename(self.back.journal(), number, name, modified, now)
                 {
                     Ok(()) => Ok(Reply::Done),
                     Err(error) => refused(error),
                 }
             }
-            Ok(Ok(Plan::Date)) => {
-                set_mtime(&mut self.tree, number, change.modified);
+            Plan::Date => {
+                set_mtime(&mut self.tree, number, modified);
                 Ok(Reply::Done)
             }
-            Ok(Ok(Plan::Resize(len))) => self.resize(number, len, change.modified, now, entropy),
-            Ok(Err(refusal)) => Ok(Reply::Refused(refusal)),
-            Err(_) => Ok(Reply::Refused(Refusal::OutOfMemory)),
+            Plan::Resize(len) => self.resize_idle(number, len, modified, now, entropy),
         }
     }
 }

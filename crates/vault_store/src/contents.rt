@@ -1,4 +1,4 @@
-ghost use Rattle.std.specs.Prelude.{◌≡◌, ◌≤◌, ℕ, List, None, true, length};
+ghost use Rattle.std.specs.Prelude.{◌≡◌, ◌≤◌, ℕ, List, [], None, OnOk, true, length};
 ghost use Rattle.outside.specs.Calls.{Told};
 ghost use Rattle.outside.specs.Views.{entropy_view, folder_view};
 ghost use Rattle.directory_scan.specs.Format.{sealing_of};
@@ -6,7 +6,8 @@ ghost use Rattle.tree_model.specs.Asked.{PlainChange, change as change_request, 
 ghost use Rattle.tree_model.specs.Step.{truncates};
 ghost use Rattle.change_plans.specs.declared.planning.Plan.TheVariants.{Resize};
 ghost use Rattle.change_plans.specs.Files.{IsResizable};
-ghost use Rattle.change_plans.specs.Plans.{IsPlanned};
+ghost use Rattle.change_plans.specs.Plans.{IsOpenRefusal, IsPlanned};
+ghost use Rattle.file_changes.specs.Waiting.{IsAtRestOver};
 ghost use Rattle.node_changes.specs.Changed.{IsAtRest};
 ghost use Rattle.vault_store.specs.Contents.{IsChangedQid};
 ghost use Rattle.vault_store.specs.Open.{view_of};
@@ -15,13 +16,13 @@ ghost use Rattle.vault_store.specs.Outcome.{IsOutcome};
 use crate::answering::{Broken, Vault};
 use crate::changing::refused;
 use crate::sizes::have_sizes;
-use change_plans::{truncation_refusal, write_refusal};
+use change_plans::write_refusal;
 use live_tree::LiveTree;
 use outside::{Entropy, Folder};
 use tree_model::{Qid, Reply};
 
 impl<D: Folder> Vault<D> {
-    /// Writes at most 65,537 bytes into a file from the byte `at` on. A write of no byte changes nothing.
+    /// Writes at most 65,537 bytes into a file from the byte `at` on; they wait to be committed. A write of no byte changes nothing.
     pub(crate) fn write<E: Entropy>(
         &mut self,
         number: u64,
@@ -31,14 +32,15 @@ impl<D: Folder> Vault<D> {
         entropy: &mut E,
     ) -> Result<Reply, Broken>
         requires few { length bytes.now ≤ 65537 }
-        requires rest { Told (D.log self.old.journal) (IsAtRest (sealing_of self.old.tree.keys) self.old.tree.live self.old.tree.claims) }
-        ensures outcome { (entries : ℕ) (buffer : List ℕ) → IsOutcome (view_of self.old.tree entries None) (view_of self.new.tree entries None)
-            (folder_view D.log D.faults D.changes self.old.journal) (folder_view D.log D.faults D.changes self.new.journal)
+        requires rest { Told (D.log self.old.back.folder) (IsAtRestOver (sealing_of self.old.tree.keys) self.old.tree.live self.old.tree.claims self.old.back.waiting) }
+        ensures outcome { (entries : ℕ) (buffer : List ℕ) → IsOutcome (view_of self.old.tree self.old.back.waiting entries None) (view_of self.new.tree self.new.back.waiting entries None)
+            (folder_view D.log D.faults D.changes self.old.back.folder) (folder_view D.log D.faults D.changes self.new.back.folder)
             (entropy_view E.drawn E.faults entropy.old) (entropy_view E.drawn E.faults entropy.new)
             (write_request number at bytes.now) now result buffer buffer }
+        ensures rest { OnOk result (Told (D.log self.new.back.folder) (IsAtRestOver (sealing_of self.new.tree.keys) self.new.tree.live self.new.tree.claims self.new.back.waiting)) }
         ensures threshold { self.new.tree.threshold ≡ self.old.tree.threshold }
         ensures keys { self.new.tree.keys ≡ self.old.tree.keys }
-        ensures faults { D.faults self.old.journal ≤ D.faults self.new.journal }
+        ensures faults { D.faults self.old.back.folder ≤ D.faults self.new.back.folder }
         ensures entropy { E.faults entropy.old ≤ E.faults entropy.new }
     {
         have_sizes(self.tree.keys());
@@ -50,7 +52,7 @@ impl<D: Folder> Vault<D> {
         }
         match self.files.write(
             &mut self.tree,
-            &mut self.journal,
+            &mut self.back,
             entropy,
             number,
             at,
@@ -62,8 +64,8 @@ impl<D: Folder> Vault<D> {
         }
     }
 
-    /// Opens a node in a mode that truncates: gives a file the length 0.
-    pub(crate) fn truncate<E: Entropy>(
+    /// Opens a node in a mode that truncates, where nothing waits and no refusal comes early: gives a file the length 0.
+    pub(crate) fn truncate_idle<E: Entropy>(
         &mut self,
         number: u64,
         mode: u8,
@@ -71,24 +73,25 @@ impl<D: Folder> Vault<D> {
         entropy: &mut E,
     ) -> Result<Reply, Broken>
         requires cuts { truncates mode ≡ true }
-        requires rest { Told (D.log self.old.journal) (IsAtRest (sealing_of self.old.tree.keys) self.old.tree.live self.old.tree.claims) }
-        ensures outcome { (entries : ℕ) (buffer : List ℕ) → IsOutcome (view_of self.old.tree entries None) (view_of self.new.tree entries None)
-            (folder_view D.log D.faults D.changes self.old.journal) (folder_view D.log D.faults D.changes self.new.journal)
+        requires file { IsResizable self.old.tree.live number 0 }
+        requires late { IsOpenRefusal self.old.tree.live number mode None }
+        requires idle { self.old.back.waiting ≡ [] }
+        requires rest { Told (D.log self.old.back.folder) (IsAtRest (sealing_of self.old.tree.keys) self.old.tree.live self.old.tree.claims) }
+        ensures outcome { (entries : ℕ) (buffer : List ℕ) → IsOutcome (view_of self.old.tree [] entries None) (view_of self.new.tree [] entries None)
+            (folder_view D.log D.faults D.changes self.old.back.folder) (folder_view D.log D.faults D.changes self.new.back.folder)
             (entropy_view E.drawn E.faults entropy.old) (entropy_view E.drawn E.faults entropy.new)
             (open_request number mode) now result buffer buffer }
+        ensures idle { self.new.back.waiting ≡ [] }
         ensures threshold { self.new.tree.threshold ≡ self.old.tree.threshold }
         ensures keys { self.new.tree.keys ≡ self.old.tree.keys }
-        ensures faults { D.faults self.old.journal ≤ D.faults self.new.journal }
+        ensures faults { D.faults self.old.back.folder ≤ D.faults self.new.back.folder }
         ensures entropy { E.faults entropy.old ≤ E.faults entropy.new }
     {
         have_sizes(self.tree.keys());
-        if let Some(refusal) = truncation_refusal(self.tree.live(), number, mode) {
-            return Ok(Reply::Refused(refusal));
-        }
         let qid = changed_qid(self.tree.live(), number);
         match self.files.resize(
             &mut self.tree,
-            &mut self.journal,
+            self.back.journal(),
             entropy,
             number,
             0,
@@ -100,8 +103,8 @@ impl<D: Folder> Vault<D> {
         }
     }
 
-    /// Gives a file another length in bytes, and an mtime, if one is asked for, as a change that was planned so asks.
-    pub(crate) fn resize<E: Entropy>(
+    /// Gives a file another length in bytes, where nothing waits, and an mtime, if one is asked for, as a change that was planned so asks.
+    pub(crate) fn resize_idle<E: Entropy>(
         &mut self,
         number: u64,
         len: u64,
@@ -110,21 +113,23 @@ impl<D: Folder> Vault<D> {
         entropy: &mut E,
     ) -> Result<Reply, Broken>
         requires file { IsResizable self.old.tree.live number len }
-        requires rest { Told (D.log self.old.journal) (IsAtRest (sealing_of self.old.tree.keys) self.old.tree.live self.old.tree.claims) }
+        requires idle { self.old.back.waiting ≡ [] }
+        requires rest { Told (D.log self.old.back.folder) (IsAtRest (sealing_of self.old.tree.keys) self.old.tree.live self.old.tree.claims) }
         ensures outcome { (entries : ℕ) (buffer : List ℕ) (c : PlainChange) → c.modified ≡ modified → IsPlanned self.old.tree.live number c (Resize len)
-            → IsOutcome (view_of self.old.tree entries None) (view_of self.new.tree entries None)
-            (folder_view D.log D.faults D.changes self.old.journal) (folder_view D.log D.faults D.changes self.new.journal)
+            → IsOutcome (view_of self.old.tree [] entries None) (view_of self.new.tree [] entries None)
+            (folder_view D.log D.faults D.changes self.old.back.folder) (folder_view D.log D.faults D.changes self.new.back.folder)
             (entropy_view E.drawn E.faults entropy.old) (entropy_view E.drawn E.faults entropy.new)
             (change_request number c) now result buffer buffer }
+        ensures idle { self.new.back.waiting ≡ [] }
         ensures threshold { self.new.tree.threshold ≡ self.old.tree.threshold }
         ensures keys { self.new.tree.keys ≡ self.old.tree.keys }
-        ensures faults { D.faults self.old.journal ≤ D.faults self.new.journal }
+        ensures faults { D.faults self.old.back.folder ≤ D.faults self.new.back.folder }
         ensures entropy { E.faults entropy.old ≤ E.faults entropy.new }
     {
         have_sizes(self.tree.keys());
         match self.files.resize(
             &mut self.tree,
-            &mut self.journal,
+            self.back.journal(),
             entropy,
             number,
             len,

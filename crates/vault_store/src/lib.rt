@@ -12,6 +12,7 @@
 mod answering;
 mod changing;
 mod contents;
+mod flushing;
 mod opening;
 mod reading;
 mod sizes;

@@ -10,9 +10,9 @@ ghost use Rattle.tree_model.specs.declared.refusal.Refusal.TheVariants as refusa
 ghost use Rattle.tree_model.specs.declared.reply.Reply.TheVariants as replies;
 ghost use Rattle.tree_model.specs.Step.{IsReading};
 ghost use Rattle.live_tree.specs.Held.{node_of};
-ghost use Rattle.node_changes.specs.Changed.{IsAtRest};
+ghost use Rattle.file_changes.specs.Waiting.{IsAtRestOver};
 ghost use Rattle.vault_store.specs.Open.{running, view_of};
-ghost use Rattle.vault_store.specs.Reading.{HasContents, IsHostOf, read_fault};
+ghost use Rattle.vault_store.specs.Reading.{HasContents, IsHostOf, IsUnsynced, read_fault};
 ghost use Rattle.vault_store.specs.Quiet.{IsKeptReply};
 
 use crate::answering::Vault;
@@ -24,19 +24,21 @@ use live_tree::LiveTree;
 use outside::{Folder, Reads};
 use siv_mode::VaultKeys;
 use std::alloc::AllocError;
-use tree_answers::{list, look, open_node, stat_of, sync, walk};
+use tree_answers::{list, look, open_node, stat_of, walk};
 use tree_model::{Refusal, Reply, Request};
 
 impl<D: Folder> Vault<D> {
-    /// The reply to a request that changes nothing. Only `Walk` and `List` take memory.
+    /// The reply to a request that changes nothing and is no sync. Only `Walk` and `List` take memory.
     pub(crate) fn look_up(&mut self, request: &Request<'_>, buffer: &mut [u8]) -> Reply
         requires form { CanAsk request.now (length buffer.old) }
         requires reads { IsReading (plain_request request.now) }
-        requires rest { Told (D.log self.old.journal) (IsAtRest (sealing_of self.old.tree.keys) self.old.tree.live self.old.tree.claims) }
-        ensures kept { (entries : ℕ) (second : ℕ) → IsKeptReply (view_of self.old.tree entries None)
-            (folder_view D.log D.faults D.changes self.old.journal) (folder_view D.log D.faults D.changes self.new.journal)
+        requires rest { Told (D.log self.old.back.folder) (IsAtRestOver (sealing_of self.old.tree.keys) self.old.tree.live self.old.tree.claims self.old.back.waiting) }
+        requires unsynced { IsUnsynced (plain_request request.now) }
+        ensures kept { (entries : ℕ) (second : ℕ) → IsKeptReply (view_of self.old.tree self.old.back.waiting entries None)
+            (folder_view D.log D.faults D.changes self.old.back.folder) (folder_view D.log D.faults D.changes self.new.back.folder)
             (plain_request request.now) second result buffer.old buffer.new }
         ensures tree { self.new.tree ≡ self.old.tree }
+        ensures waiting { self.new.back.waiting ≡ self.old.back.waiting }
     {
         have_sizes(self.tree.keys());
         let tree = self.tree.live();
@@ -50,7 +52,7 @@ impl<D: Folder> Vault<D> {
                     count: *count,
                 };
                 read(
-                    &mut self.journal,
+                    &mut self.back,
                     self.tree.keys(),
                     tree,
                     &mut self.reader,
@@ -68,8 +70,8 @@ impl<D: Folder> Vault<D> {
                 buffer,
             )),
             Request::StatOf { node } => stat_of(tree, *node, buffer),
-            Request::Sync { node } => sync(tree, *node),
-            Request::Write { .. }
+            Request::Sync { .. }
+            | Request::Write { .. }
             | Request::Create { .. }
             | Request::Remove { .. }
             | Request::Change { .. } => { unreachable!() }

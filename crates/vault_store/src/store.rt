@@ -1,5 +1,6 @@
-ghost use Rattle.std.specs.Prelude.{◌≡◌, ◌≤◌, ◌⊎◌, ℕ, false, IsSome, length, IfOk, IfErr, IsErr};
-ghost use Rattle.outside.specs.Calls.{Changes, HasCause, Told};
+ghost use Rattle.std.specs.Prelude.{◌≡◌, ◌≤◌, ◌⊎◌, ℕ, false, IsSome, IsNone, length, IfOk, IfErr, OnOk, IsErr};
+ghost use Rattle.outside.specs.Calls.{Changes, HasCause, Rose, Told};
+ghost use Rattle.chunk_journal.specs.Journal.{AnyMoment};
 ghost use Rattle.outside.specs.Disk.{IsFolder};
 ghost use Rattle.outside.specs.Images.{disk_in, now as disk_now};
 ghost use Rattle.outside.specs.Views.{folder_view, entropy_view};
@@ -7,7 +8,8 @@ ghost use Rattle.tree_model.specs.Asked.{CanAsk, IsReplyTo, HasCount, KeepsRest,
 ghost use Rattle.chunk_journal.specs.Opening.{HasOpened, IsDamagedAt, LeavesFolder, StaysOpening};
 ghost use Rattle.tree_loading.specs.Clear.{root_folder, HasTooMany};
 ghost use Rattle.store_history.specs.Ends.{IsOpened};
-ghost use Rattle.store_history.specs.Turns.{AddsEntry};
+ghost use Rattle.store_history.specs.Turns.{AddsEntry, IsFlushed};
+ghost use Rattle.vault_store.specs.Open.{idle_of};
 ghost use Rattle.vault_store.specs.declared.opening.OpenErr.TheVariants as open_errs;
 
 use crate::answering::{Broken, Vault};
@@ -18,8 +20,8 @@ use std::alloc::Global;
 use std::marker::Model;
 use tree_model::{Refusal, Reply, Request};
 
-/// A vault that is open: its folder, which changes by whole batches alone, and its tree, which was loaded whole. Clauses see what it is in
-/// memory, and the folder.
+/// A vault that is open: its folder, which changes by whole batches alone, and its tree, which was loaded whole. Writes wait in memory until
+/// a sync, a change that is to last, or a lack of room has them committed. Clauses see what it is in memory, and the folder.
 #[derive(Drop)]
 pub struct Store<D: Folder> {
     vault: Vault<D>,
@@ -33,9 +35,9 @@ impl<D: Folder> Model for Store<D> {
 
     ghost Value = { OpenVault D };
 
-    ghost view = { λ s. record { store = view_of s.vault.tree s.entries s.stopped; threshold = s.vault.tree.threshold; folder = s.vault.journal } };
+    ghost view = { λ s. record { store = view_of s.vault.tree s.vault.back.waiting s.entries s.stopped; threshold = s.vault.tree.threshold; folder = s.vault.back.folder } };
 
-    ghost invariant = { λ s. IsResting (D.log s.vault.journal) s.vault.tree.threshold (view_of s.vault.tree s.entries s.stopped) };
+    ghost invariant = { λ s. IsResting (D.log s.vault.back.folder) s.vault.tree.threshold (view_of s.vault.tree s.vault.back.waiting s.entries s.stopped) };
 }
 
 impl<D: Folder> Store<D> {
@@ -75,8 +77,8 @@ impl<D: Folder> Store<D> {
     /// Answers a request that is made at a second since 1970-01-01: one entry of the history, of whoever has this random
     /// source. Bytes of the reply are put into `buffer`, from its front on. Reads, writes and syncs take no memory.
     ///
-    /// Each change of the tree's shape and of a content is committed before it is answered. Where a commit fails, that is answered as the folder's fault, and
-    /// from then on each request is answered that the store stopped there.
+    /// Each change of the tree's shape or of a length is committed before it is answered, and what waits before it; a write waits, and is shown by reads at
+    /// once. Where a commit fails, that is answered as the folder's fault, and from then on each request is answered that the store stopped there.
     pub fn serve<E: Entropy>(
         &mut self,
         request: &Request<'_>,
@@ -113,18 +115,24 @@ impl<D: Folder> Store<D> {
         reply
     }
 
-    /// Closes the vault and hands its folder back: all that was answered is on the disk already. `Failed` comes only where an earlier
-    /// commit failed.
-    pub fn close(self) -> (D, Result<(), Failed>)
-        ensures folder { result.0 ≡ self.folder }
-        ensures cause { IsErr result.1 → IsSome self.store.stopped }
-        ensures whole { IsSome self.store.stopped → IsErr result.1 }
+    /// Closes the vault, has what waits committed, and hands its folder back. `Failed` comes only where that commit failed, which raised the
+    /// folder's count of faults, or an earlier one did.
+    pub fn close(mut self) -> (D, Result<(), Failed>)
+        ensures flushed { IsNone self.store.stopped → OnOk result.1 (IsFlushed self.store (idle_of self.store)
+            (folder_view D.log D.faults D.changes self.folder) (folder_view D.log D.faults D.changes result.0)) }
+        ensures moments { IsNone self.store.stopped → Changes (D.log self.folder) (D.log result.0) (AnyMoment self.store.waiting) }
+        ensures stopped { IsSome self.store.stopped → (result.0 ≡ self.folder) × IsErr result.1 }
+        ensures later { D.faults self.folder ≤ D.faults result.0 }
+        ensures cause { IsErr result.1 → IsSome self.store.stopped ⊎ Rose (D.faults self.folder) (D.faults result.0) }
     {
         let closed = match self.stopped {
-            None => Ok(()),
+            None => match self.vault.flush() {
+                Ok(()) => Ok(()),
+                Err(_) => Err(Failed),
+            },
             Some(_) => Err(Failed),
         };
-        (self.vault.journal.into_folder(), closed)
+        (self.vault.back.into_folder(), closed)
     }
 
     /// How many entries there are in the history that it stands for, at most 2^64 - 1.
