@@ -1,5 +1,5 @@
 -- What the end of a store leaves, whenever it comes.
-use Rattle.std.proofs.Common.{◌≤◌, ℕ, List, [], length, Option, Some, None, IsNone, refl, subst, sym, inl}
+use Rattle.std.proofs.Common.{◌≤◌, ℕ, List, [], length, Option, Some, None, IsNone, refl, subst, sym, inl, arith}
 use Rattle.outside.specs.Calls.{Changes, Told}
 use Rattle.outside.specs.Disk.{Disk}
 use Rattle.outside.specs.Images.{Log, now}
@@ -23,8 +23,8 @@ use Rattle.store_history.specs.Store.{StoreView, ArePlaced, IsSaidFrom, IsStored
 use Rattle.store_history.specs.Ends.{ClosingsRecover, FailedOpeningsRecover, IsCutShort, StoresRecover, StoresAreWhole}
 use Rattle.store_history.proofs.Shows.{shows_blind}
 use Rattle.store_history.proofs.Openings.{stays_soundly}
-use Rattle.store_history.proofs.Placed.{grows_on, leaves_go_on, places_go_on}
-use Rattle.store_history.proofs.Turns.{none_back}
+use Rattle.store_history.proofs.Placed.{goes_later, grows_on, leaves_go_on, places_go_on}
+use Rattle.store_history.proofs.Turns.{moments_rise, none_back}
 
 pub failed_openings_recover : FailedOpeningsRecover
 failed_openings_recover keys old new stays sound = opening_recovers (shows_under keys) (shows_blind keys) old new (stays_soundly old new stays sound) sound
@@ -85,6 +85,7 @@ module _ (found : Option Log) (store : StoreView) (before after : FolderView) (r
     grown = grows_on found before.log after.log is.grown grown;
     placed = placed_told before.log after.log is.moment is.stored grown;
     recover = recovers_told before.log after.log is.stored any;
+    moment = omega (arith, is.moment, moments_rise before.log after.log LogGoesOn goes_later grown);
   }
 
 pub closings_recover : ClosingsRecover

@@ -72,6 +72,7 @@ pub record IsCutShort (found : Option Log) (store : StoreView) (after : FolderVi
   pub grown : Changes found after.log (λ old new. IsSoundlyFound (now old) → LogGoesOn old new)
   pub placed : Told after.log (ArePlaced store.keys rows origin history)
   pub recover : Told after.log (λ log. (opened : ℕ) → IsSaidFrom found origin opened → StopsRecover (shows_under store.keys) opened rows history log)
+  pub moment : (tally_of origin history).moment ≤ moment_of after.log
 
 abbrev pub ClosingsRecover : Type 0
 ClosingsRecover = (found : Option Log) (store : StoreView) (before after : FolderView) (rows : Rows) (origin : Origin) (history : List Entry)

@@ -135,6 +135,13 @@ impl<D: Folder> Store<D> {
         (self.vault.back.into_folder(), closed)
     }
 
+    /// Hands the vault's folder back as it is; what waits is forgotten.
+    pub fn into_folder(self) -> D
+        ensures { result ≡ self.folder }
+    {
+        self.vault.back.into_folder()
+    }
+
     /// How many entries there are in the history that it stands for, at most 2^64 - 1.
     pub fn entries(&self) -> u64
         ensures { result ≡ self.now.store.entries }
