@@ -1,7 +1,8 @@
 -- What a store leaves that stands for a history.
-use Rattle.std.proofs.Common.{◌≡◌, ℕ, suc, ◌≤◌, List, [], Option, Some, None, IsNone, IsSome, refl, subst, inl, inr, arith}
+use Rattle.std.proofs.Common.{◌≡◌, ◌⊎◌, ℕ, suc, ◌≤◌, List, [], Option, Some, None, IsNone, IsSome, Result, Ok, Err, IsOk, IsErr, refl, sym, subst, inl, inr, arith, true≢false}
 use Rattle.std.specs.Option.{option_map}
-use Rattle.outside.specs.Calls.{Changes, Told}
+use Rattle.outside.specs.Calls.{Changes, Rose, Told}
+use Rattle.outside.specs.declared.stream.Failed.{Failed}
 use Rattle.outside.specs.Images.{Log, moment}
 use Rattle.outside.specs.Views.{FolderView}
 use Rattle.outside.proofs.Told.{told_then}
@@ -10,9 +11,14 @@ use Rattle.tree_model.specs.Rows.{Rows}
 use Rattle.tree_history.specs.History.{Entry, Origin, tally_at, tally_of, AreCaused, IsLegal}
 use Rattle.stop_history.specs.Prefix.{IsWhole, StopsRecover}
 use Rattle.store_history.specs.Store.{StoreView, ArePlaced, IsSaidFrom, IsStoredIn, IsStoreOf, bounded, moment_of, shows_under}
-use Rattle.store_history.proofs.Ends.{stores_recover, stores_are_whole}
+use Rattle.store_history.specs.Turns.{IsFlushed}
+use Rattle.store_history.proofs.Ends.{closings_recover, stores_recover, stores_are_whole}
+use Rattle.store_history.proofs.Flushed.{flushes_stand}
 use Rattle.store_history.proofs.Placed.{goes_nowhere}
+use Rattle.vault_store.specs.Open.{OpenVault, idle_of}
 use Rattle.vault_top.specs.Served.{HasStops}
+use Rattle.vault_top.specs.Serving.{IsClosing, IsCutOff}
+use Rattle.vault_top.proofs.Faults.{rose_within}
 
 -- ---- a commit that failed
 
@@ -37,9 +43,8 @@ pub record Leaves (keys : KeyPair) (rows : Rows) (origin : Origin) (entries : Li
   pub legal : Told before.log (λ log. IsLegal rows origin entries)
   pub placed : Told after.log (ArePlaced keys rows origin entries)
   pub stops : HasStops keys rows origin entries before after
-  pub whole : IsNone (tally_of origin entries).stopped → Told after.log (λ log. IsWhole (shows_under keys) rows entries log)
   pub faults : (tally_of origin entries).folder_faults ≤ after.faults
-  pub moment : (tally_of origin entries).moment ≡ moment_of after.log
+  pub moment : (tally_of origin entries).moment ≤ moment_of after.log
 
 pub left_by : (before after : FolderView) (store : StoreView) (rows : Rows) (origin : Origin) (entries : List Entry) → IsStoreOf before.log store after rows origin entries → Leaves store.keys rows origin entries before after
 left_by before after store rows origin entries is = record {
@@ -47,10 +52,58 @@ left_by before after store rows origin entries is = record {
   legal = told_before before.log after.log _ _ (IsLegal rows origin entries) is.grown is.stored (λ log stored. record { caused = is.caused; answered = stored.answered });
   placed = told_then after.log (IsStoredIn before.log store rows origin entries) (ArePlaced store.keys rows origin entries) is.stored (λ log stored. stored.placed);
   stops = record { grown = is.grown; recover = stores_recover before.log store after rows origin entries is };
-  whole = λ none. stores_are_whole before.log store after rows origin entries is none;
   faults = is.faults;
   moment = is.moment;
 }
+
+-- ---- a vault that was closed
+
+module _ {D X : Type 0} (view : D → FolderView) (before : FolderView) (vault : OpenVault D) (folder : D) (rows : Rows) (origin : Origin) (entries : List Entry) (is : IsStoreOf before.log vault.store (view vault.folder) rows origin entries) where
+  -- what waited was committed
+  flushed : IsFlushed vault.store (idle_of vault.store) (view vault.folder) (view folder) → IsStoreOf before.log (idle_of vault.store) (view folder) rows origin entries
+  flushed done = flushes_stand vault.store (idle_of vault.store) (view vault.folder) (view folder) done before.log rows origin entries is
+
+  -- that failed
+  cut_off : IsCutOff view vault folder → (view vault.folder).faults ≤ (view folder).faults → Leaves vault.store.keys rows origin entries before (view folder)
+  cut_off cut later =
+      let short = closings_recover before.log vault.store (view vault.folder) (view folder) rows origin entries is cut.running cut.moments in
+      record {
+        caused = is.caused;
+        legal = told_before before.log (view vault.folder).log _ _ (IsLegal rows origin entries) is.grown is.stored (λ log stored. record { caused = is.caused; answered = stored.answered });
+        placed = short.placed;
+        stops = record { grown = short.grown; recover = short.recover };
+        faults = omega (arith, is.faults, later);
+        moment = short.moment;
+      }
+
+  not_closed : (IsSome vault.store.stopped × (folder ≡ vault.folder)) ⊎ IsCutOff view vault folder → (view vault.folder).faults ≤ (view folder).faults → Leaves vault.store.keys rows origin entries before (view folder)
+  not_closed (inl same) later = subst (λ (d : D). Leaves vault.store.keys rows origin entries before (view d)) (sym same.1) (left_by before (view vault.folder) vault.store rows origin entries is)
+  not_closed (inr cut) later = cut_off cut later
+
+  left_by_result : (closing : Result X Failed) → IsClosing view vault folder closing → Leaves vault.store.keys rows origin entries before (view folder)
+  left_by_result (Ok done) how = left_by before (view folder) (idle_of vault.store) rows origin entries (flushed how.well)
+  left_by_result (Err failed) how = not_closed how.badly how.later
+
+  pub left_closed : (closing : Result X Failed) → IsClosing view vault folder closing → Leaves vault.store.keys rows origin entries before (view folder)
+  left_closed closing how = left_by_result closing how
+
+  -- closed well, no commit had failed, and all entries are on the disk
+  pub none_failed : (closing : Result X Failed) → IsClosing view vault folder closing → IsOk closing → IsNone (tally_of origin entries).stopped
+  none_failed (Ok done) how ok = none_stopped (tally_of origin entries).stopped vault.store.stopped is.stopped how.well.running
+  none_failed (Err failed) how ok = absurd (true≢false (sym ok))
+
+  pub whole_closed : (closing : Result X Failed) → IsClosing view vault folder closing → IsOk closing → Told (view folder).log (λ log. IsWhole (shows_under vault.store.keys) rows entries log)
+  whole_closed (Ok done) how ok =
+      stores_are_whole before.log (idle_of vault.store) (view folder) rows origin entries (flushed how.well) refl (none_stopped (tally_of origin entries).stopped vault.store.stopped is.stopped how.well.running)
+  whole_closed (Err failed) how ok = absurd (true≢false (sym ok))
+
+  -- closed badly, one had, or the folder failed since
+  pub failed_closed : (closing : Result X Failed) → IsClosing view vault folder closing → IsErr closing → IsSome (tally_of origin entries).stopped ⊎ Rose (tally_of origin entries).folder_faults (view folder).faults
+  failed_closed (Ok done) how bad = absurd (true≢false (sym bad))
+  failed_closed (Err failed) how bad = elim how.badly [
+    | inl same ↦ inl (some_stopped (tally_of origin entries).stopped vault.store.stopped is.stopped same.0)
+    | inr cut ↦ inr (rose_within (tally_of origin entries).folder_faults (view vault.folder).faults (view folder).faults (view folder).faults is.faults how.later (omega arith) cut.rose)
+  ]
 
 -- ---- nothing is said of a folder that is as it was, where the history's moment is still to come
 

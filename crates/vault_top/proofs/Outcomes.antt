@@ -28,13 +28,13 @@ counts_of ends outcome counts e h = subst (λ o. AreCounted ends o) e h
 pub may_end : (ends : List SessionEnd) (outcome other : Outcome) (ending : Ending) → outcome ≡ other → MayEnd ends other ending → MayEnd ends outcome ending
 may_end ends outcome other ending e h = subst (λ o. MayEnd ends o ending) (sym e) h
 
-counted_as : (counts : Result SessionCounts Failed) (stopped : Option ℕ) (all ends : List SessionEnd) (outcome : Outcome) → HasOutcome counts stopped outcome → IfOk counts (λ c. AreCounts c all) → all ≡ ends → AreCounted ends outcome
-counted_as counts stopped all ends (Served c) h counted same =
+counted_as : {X : Type 0} (counts : Result SessionCounts Failed) (closing : Result X Failed) (all ends : List SessionEnd) (outcome : Outcome) → HasOutcome counts closing outcome → IfOk counts (λ c. AreCounts c all) → all ≡ ends → AreCounted ends outcome
+counted_as counts closing all ends (Served c) h counted same =
     let counted' : AreCounts c all = subst (λ (r : Result SessionCounts Failed). IfOk r (λ c. AreCounts c all)) h.0 counted in
     subst (λ (l : List SessionEnd). AreCounts c l) same counted'
-counted_as counts stopped all ends ListenerFault h counted same = tt
-counted_as counts stopped all ends FolderFault h counted same = tt
-counted_as counts stopped all ends NoMemory h counted same = tt
+counted_as counts closing all ends ListenerFault h counted same = tt
+counted_as counts closing all ends FolderFault h counted same = tt
+counted_as counts closing all ends NoMemory h counted same = tt
 
 pub counted_in : {D N C E : Type 0} (start : Rows → Origin → Type 0) (since : FolderView → KeyPair → Rows → Type 0) (views : Views D N C E) (second : Option ℕ) (service : Service) (workers workers' : List (Worker N E)) (ends : List SessionEnd) (back : HandedBack D)
     → HasServed start since views second service workers workers' ends back → AreCounted ends back.outcome

@@ -1,8 +1,8 @@
 -- Why the program ends as it does.
-use Rattle.std.proofs.Common.{◌≡◌, ◌⊎◌, ℕ, suc, ◌≤◌, List, [], ◌∷◌, length, min, Option, Some, None, Result, Ok, refl, sym, ap, subst, ◌∙◌, inl, inr, arith}
-use Rattle.std.specs.Prelude.{IfSome, option_map}
+use Rattle.std.proofs.Common.{◌≡◌, ◌⊎◌, ℕ, suc, ◌≤◌, List, [], ◌∷◌, length, min, Option, Some, None, IsSome, IsNone, Result, Ok, IsOk, IsErr, refl, sym, ap, subst, ◌∙◌, inl, inr, arith}
+use Rattle.std.specs.Prelude.{IfSome}
 use Rattle.outside.specs.declared.stream.Failed.{Failed}
-use Rattle.outside.specs.Calls.{Told, Changes}
+use Rattle.outside.specs.Calls.{Changes, Rose, Told}
 use Rattle.outside.specs.Images.{Log, disk_in, now}
 use Rattle.outside.specs.Views.{FolderView, EntropyView}
 use Rattle.siv_mode.specs.Keys.{KeyPair}
@@ -12,7 +12,8 @@ use Rattle.session_server.specs.declared.ending.SessionEnd.{SessionEnd}
 use Rattle.session_workers.specs.declared.counts.SessionCounts.{SessionCounts}
 use Rattle.session_workers.specs.Workers.{MayStop, ListenerFailed, SomeFailed}
 use Rattle.shared_sessions.specs.declared.workers.Worker.{Worker}
-use Rattle.store_history.specs.Store.{bounded, moment_of}
+use Rattle.stop_history.specs.Prefix.{IsWhole}
+use Rattle.store_history.specs.Store.{moment_of, shows_under}
 use Rattle.store_history.specs.Ends.{IsFoundClear}
 use Rattle.vault_unlock.specs.Secret.{IsAfterLine}
 use Rattle.vault_unlock.specs.Unlock.{IsUnlocking}
@@ -28,13 +29,13 @@ use Rattle.vault_top.specs.Served.{AreShares}
 use Rattle.vault_top.specs.Sharing.{IsSharedStore, AreBeginnings, IsBegun, IsAlone}
 use Rattle.vault_top.specs.Opening.{IsUnlocked, IsUnopened, IsUnlockedStore}
 use Rattle.vault_top.specs.Ending.{Ending, refused, no_memory_to_serve, AreIdle, IsUntouched, IsMaking, DrawsAlone, IsServed, IsUnshared, Never, HasReason, IsReported, HasRun}
-use Rattle.vault_top.specs.Serving.{HasOutcome, HasServedAll, HasServed, HasServedVault, IsUnasked, MayEnd}
+use Rattle.vault_top.specs.Serving.{HasOutcome, HasServedAll, HasServed, HasServedVault, IsClosing, IsUnasked, MayEnd}
 use Rattle.vault_top.specs.declared.program.Ended.{Ended}
 use Rattle.vault_top.specs.declared.serving.HandedBack.{HandedBack}
 use Rattle.vault_top.specs.declared.serving.Outcome.{Outcome}
 use Rattle.vault_top.specs.declared.serving.Outcome.TheVariants.{Served, ListenerFault, FolderFault, NoMemory}
 use Rattle.vault_top.specs.declared.task.Service.{Service}
-use Rattle.vault_top.proofs.Left.{Leaves, left_by, none_stopped, some_stopped, stops_nowhere}
+use Rattle.vault_top.proofs.Left.{Leaves, failed_closed, left_by, left_closed, none_failed, stops_nowhere, whole_closed}
 use Rattle.vault_top.proofs.Callers.{faults_stay, all_drawn, callers_at, faults_at, spans_count, before_same, none_past}
 use Rattle.vault_top.proofs.Shares.{shares_as, may_stop, on_error}
 
@@ -47,19 +48,35 @@ idle views (worker ∷ workers) = ((refl, refl), idle views workers)
 -- ---- a vault that was served
 
 -- where a store's history begins is the folder as it was, under the keys that were unlocked
-module _ {D : Type 0} (since : FolderView → KeyPair → Rows → Type 0) (view : D → FolderView) (kind : SecretKind) (secret : SourceView) (second : Option ℕ) (folder : D) (store : OpenVault D) (kept : D) (rows : Rows) (origin : Origin) (entries : List Entry)
-    (right : IsSharedStore view since store rows origin entries) (closed : kept ≡ store.folder) (begun : IsBegun kind (view folder) secret second right.start store.store.keys rows) where
-  leaves : Leaves begun.vault.keys rows origin entries (view folder) (view kept)
-  leaves =
-      subst (λ (d : D). Leaves begun.vault.keys rows origin entries (view folder) (view d)) (sym closed)
-      (subst (λ (keys : KeyPair). Leaves keys rows origin entries (view folder) (view store.folder)) (sym begun.keys_are)
-      (subst (λ (v : FolderView). Leaves store.store.keys rows origin entries v (view store.folder)) begun.folder_is
-      (left_by right.start (view store.folder) store.store rows origin entries right.stands)))
+module _ {D : Type 0} (since : FolderView → KeyPair → Rows → Type 0) (view : D → FolderView) (kind : SecretKind) (secret : SourceView) (second : Option ℕ) (folder : D) (store : OpenVault D) (rows : Rows) (origin : Origin) (entries : List Entry)
+    (right : IsSharedStore view since store rows origin entries) (begun : IsBegun kind (view folder) secret second right.start store.store.keys rows) where
+  -- the same of the folder as it was, and under those keys
+  begins_at : (after : FolderView) → Leaves store.store.keys rows origin entries right.start after → Leaves begun.vault.keys rows origin entries (view folder) after
+  begins_at after left =
+      subst (λ (keys : KeyPair). Leaves keys rows origin entries (view folder) after) (sym begun.keys_are)
+      (subst (λ (v : FolderView). Leaves store.store.keys rows origin entries v after) begun.folder_is left)
 
-  later : (view folder).faults ≤ (view kept).faults
-  later =
-      subst (λ (d : D). (view folder).faults ≤ (view d).faults) (sym closed)
-      (subst (λ (v : FolderView). v.faults ≤ (view store.folder).faults) begun.folder_is right.faults)
+  leaves : Leaves begun.vault.keys rows origin entries (view folder) (view store.folder)
+  leaves = begins_at (view store.folder) (left_by right.start (view store.folder) store.store rows origin entries right.stands)
+
+  later : (view folder).faults ≤ (view store.folder).faults
+  later = subst (λ (v : FolderView). v.faults ≤ (view store.folder).faults) begun.folder_is right.faults
+
+  -- of a vault that was closed
+  module _ (kept : D) (closing : Result (Unit {0}) Failed) (how : IsClosing view store kept closing) where
+    leaves_closed : Leaves begun.vault.keys rows origin entries (view folder) (view kept)
+    leaves_closed = begins_at (view kept) (left_closed view right.start store kept rows origin entries right.stands closing how)
+
+    none_closed : IsOk closing → IsNone (tally_of origin entries).stopped
+    none_closed ok = none_failed view right.start store kept rows origin entries right.stands closing how ok
+
+    whole_under : IsOk closing → Told (view kept).log (λ log. IsWhole (shows_under begun.vault.keys) rows entries log)
+    whole_under ok =
+        subst (λ (keys : KeyPair). Told (view kept).log (λ log. IsWhole (shows_under keys) rows entries log)) (sym begun.keys_are)
+        (whole_closed view right.start store kept rows origin entries right.stands closing how ok)
+
+    failed_under : IsErr closing → IsSome (tally_of origin entries).stopped ⊎ Rose (tally_of origin entries).folder_faults (view kept).faults
+    failed_under bad = failed_closed view right.start store kept rows origin entries right.stands closing how bad
 
 unlocked_by : {D : Type 0} (view : D → FolderView) (secret : Course SourceView) (second : Option ℕ) (folder kept : D) (serving : Serving) (service : Service) (keys : KeyPair) (was : FolderView) (rows : Rows) → IsServiceOf serving service
     → Changes secret.before.left secret.after.left IsAfterLine → (begun : IsBegun service.kind (view folder) secret.before second was keys rows)
@@ -84,7 +101,7 @@ module _ {D N C E : Type 0} (start : Rows → Origin → Type 0) (since : Folder
       let joined = h.joined in
       let begins = starts.only h.rows h.origin h.begins in
       let begun = alone.only joined.right.start h.store.store.keys h.rows joined.right.begins in
-      let left = leaves since views.folder service.kind secret.before second folder h.store h.folder h.rows h.origin joined.entries joined.right h.closed begun in
+      let left = leaves_closed since views.folder service.kind secret.before second folder h.store h.rows h.origin joined.entries joined.right begun h.folder h.closing h.closed in
       let spans = worker_spans views workers workers' in
       let many : length spans ≡ length workers = spans_count views workers workers' joined.count in
       let many' : length (worker_spans views workers workers) ≡ length workers = spans_count views workers workers refl in
@@ -120,44 +137,53 @@ module _ {D N C E : Type 0} (start : Rows → Origin → Type 0) (since : Folder
                 let stays = faults_stay i (tally_at h.origin) joined.entries (joined.no_others i (omega arith)) in
                 let e = ap (λ (faults : ℕ → ℕ). faults i) begins.entropy_faults in
                 let none = none_past (worker_spans views workers workers) i (omega arith) in omega arith);
-            moment = omega (arith, left.moment);
+            moment = left.moment;
           };
           unlocked = begun.unlocked;
           clear = clear_by service.kind (views.folder folder) secret.before second h.store.store.keys joined.right.start h.rows begun;
           second = begun.at_second;
           stops = left.stops;
-          whole = left.whole;
         };
         ended = h.ended;
       }
 
-  -- whether a commit failed in an entry is what the store says
-  stopped_is : (h : HasServedAll start since views second service workers workers' ends back) → h.store.store.stopped ≡ option_map bounded (tally_of h.origin h.joined.entries).stopped
-  stopped_is h = h.joined.right.stands.stopped
+  -- how it began
+  begun_as : (h : HasServedAll start since views second service workers workers' ends back) → IsBegun service.kind (views.folder folder) secret.before second h.joined.right.start h.store.store.keys h.rows
+  begun_as h = alone.only h.joined.right.start h.store.store.keys h.rows h.joined.right.begins
 
-  reason_of : (outcome : Outcome) (ending : Ending) (h : HasServedAll start since views second service workers workers' ends back) → HasOutcome h.counts h.store.store.stopped outcome → MayEnd ends outcome ending
+  none_in : (h : HasServedAll start since views second service workers workers' ends back) → IsOk h.closing → IsNone (tally_of h.origin h.joined.entries).stopped
+  none_in h ok = none_closed since views.folder service.kind secret.before second folder h.store h.rows h.origin h.joined.entries h.joined.right (begun_as h) h.folder h.closing h.closed ok
+
+  whole_in : (h : HasServedAll start since views second service workers workers' ends back) → IsOk h.closing
+      → Told (views.folder h.folder).log (λ log. IsWhole (shows_under (begun_as h).vault.keys) h.rows h.joined.entries log)
+  whole_in h ok = whole_under since views.folder service.kind secret.before second folder h.store h.rows h.origin h.joined.entries h.joined.right (begun_as h) h.folder h.closing h.closed ok
+
+  reason_of : (outcome : Outcome) (ending : Ending) (h : HasServedAll start since views second service workers workers' ends back) → HasOutcome h.counts h.closing outcome → MayEnd ends outcome ending
       → HasReason views (span_of views words secret second folder h.folder workers workers') ending
   unfolding served_of
   reason_of (Served c) ending h is (inl e) =
       subst (λ (x : Ending). HasReason views (span_of views words secret second folder h.folder workers workers') x) (sym e) (
         served_of Never h (λ worker stop. subst (λ (r : Result SessionCounts Failed). MayStop r worker) is.0 stop),
-        none_stopped _ _ (stopped_is h) is.1,
+        none_in h is.1,
+        whole_in h is.1,
       )
   reason_of (Served c) ending h is (inr e) =
       subst (λ (x : Ending). HasReason views (span_of views words secret second folder h.folder workers workers') x) (sym e) (
         served_of ListenerFailed h (may_stop h.counts),
-        none_stopped _ _ (stopped_is h) is.1,
+        none_in h is.1,
+        whole_in h is.1,
       )
   reason_of ListenerFault ending h is e =
       subst (λ (x : Ending). HasReason views (span_of views words secret second folder h.folder workers workers') x) (sym e) (
         served_of ListenerFailed h (may_stop h.counts),
         on_error h.counts (SomeFailed (worker_spans views workers workers')) is.0 h.joined.failed,
-        none_stopped _ _ (stopped_is h) is.1,
+        none_in h is.1,
+        whole_in h is.1,
       )
   reason_of FolderFault ending h is e =
       subst (λ (x : Ending). HasReason views (span_of views words secret second folder h.folder workers workers') x) (sym e) (
         served_of ListenerFailed h (may_stop h.counts),
-        some_stopped _ _ (stopped_is h) is,
+        failed_under since views.folder service.kind secret.before second folder h.store h.rows h.origin h.joined.entries h.joined.right (begun_as h) h.folder h.closing h.closed is,
       )
   reason_of NoMemory ending h is e = absurd is
 
@@ -177,7 +203,7 @@ unshared_kept : {D N C E : Type 0} (start : Rows → Origin → Type 0) (since :
 unshared_kept start since views words secret second folder kept serving service workers asked same starts alone line h =
     let store : OpenVault _ = record { store = h.store; threshold = h.threshold; folder = kept } in
     let begun = alone.only h.shared.start h.store.keys h.rows h.shared.begins in
-    let left = leaves since views.folder service.kind secret.before second folder store kept h.rows h.origin [] h.shared refl begun in
+    let left = leaves since views.folder service.kind secret.before second folder store h.rows h.origin [] h.shared begun in
     record {
       serving = serving;
       words = asked;
@@ -189,7 +215,7 @@ unshared_kept start since views words secret second folder kept serving service 
       clear = clear_by service.kind (views.folder folder) secret.before second h.store.keys h.shared.start h.rows begun;
       second = begun.at_second;
       stops = left.stops;
-      later = later since views.folder service.kind secret.before second folder store kept h.rows h.origin [] h.shared refl begun;
+      later = later since views.folder service.kind secret.before second folder store h.rows h.origin [] h.shared begun;
       idle = idle views workers;
     }
 

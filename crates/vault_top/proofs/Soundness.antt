@@ -29,7 +29,7 @@ use Rattle.vault_top.specs.Words.{Ask, kind_of}
 use Rattle.vault_top.specs.Span.{Course, SourceView, SinkView, Views, Span, span_of, Given, IsOnlyRead}
 use Rattle.vault_top.specs.Served.{Share, HasHistory}
 use Rattle.vault_top.specs.Opening.{IsLocked, IsClosedBy, FailsToUnlock, FailsToOpen, of_opening}
-use Rattle.vault_top.specs.Ending.{Ending, refused, usage_said, version_said, made, no_memory_to_serve, served, listener_fault, closing_fault, no_memory_to_report, IsRefused, HasReason, HasRun, status_of, stopped_in}
+use Rattle.vault_top.specs.Ending.{Ending, refused, usage_said, version_said, made, no_memory_to_serve, served, listener_fault, closing_fault, no_memory_to_report, FailsAtTheEnd, IsRefused, HasReason, HasRun, status_of, stopped_in}
 use Rattle.vault_top.specs.Sound.{IsVaultFor, IsSound, IsSoundRun, IsFaultless, IsServedOrFull}
 use Rattle.shared_sessions.specs.declared.workers.Worker.{Worker}
 use Rattle.vault_top.specs.declared.program.Ended.{Ended}
@@ -146,6 +146,15 @@ commit_rose span keys shares history stopped =
     rose_within span.given.folder.before.faults history.origin.folder_faults (tally_of history.origin history.entries).folder_faults span.given.folder.after.faults
     history.since.folder rise history.up_to.folder (stopped_rose (tally_at history.origin) history.entries refl history.caused stopped)
 
+-- also where it was the last one
+closing_rose : {C : Type 0} (span : Span C) (keys : KeyPair) (shares : List (Share C)) (history : HasHistory span keys shares) → IsSome (stopped_in history) ⊎ FailsAtTheEnd history
+    → Rose span.given.folder.before.faults span.given.folder.after.faults
+closing_rose span keys shares history (inl stopped) = commit_rose span keys shares history stopped
+closing_rose span keys shares history (inr rose) =
+    let rise = faults_rise (tally_at history.origin) history.entries history.caused in
+    rose_within span.given.folder.before.faults (tally_of history.origin history.entries).folder_faults span.given.folder.after.faults span.given.folder.after.faults
+    (omega (arith, history.since.folder, rise)) history.up_to.folder (omega arith) rose
+
 pub sound : {D N C E : Type 0} (views : Views D N C E) (span : Span C) (ending : Ending) → IsSound span → IsFaultless span → HasReason views span ending → IsServedOrFull ending
 sound views span (refused cause) is faultless h = refused_sound span cause is faultless h
 sound views span usage_said is faultless h =
@@ -158,7 +167,7 @@ sound views span no_memory_to_serve is faultless h = tt
 sound views span (served ends) is faultless h = tt
 sound views span (listener_fault ends) is faultless h = absurd (faultless.listeners h.1)
 sound views span (closing_fault ends) is faultless h =
-    absurd (faultless.folder (commit_rose span h.0.vault.keys h.0.shares h.0.history h.1))
+    absurd (faultless.folder (closing_rose span h.0.vault.keys h.0.shares h.0.history h.1))
 sound views span (no_memory_to_report ends) is faultless h = tt
 
 -- ---- the status

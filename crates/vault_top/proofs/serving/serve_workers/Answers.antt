@@ -3,7 +3,7 @@ use Rattle.outside.specs.Views.{folder_view}
 use Rattle.vault_store.specs.Open.{OpenVault}
 use Rattle.vault_top.specs.Span.{views_of}
 use Rattle.vault_top.specs.Sharing.{IsSharedStore}
-use Rattle.vault_top.proofs.Handed.{unasked, served_all}
+use Rattle.vault_top.proofs.Handed.{closing_of, unasked, served_all}
 use Rattle.vault_top.proofs.serving.serve_workers.Goals as goal
 
 pub returns-in-Ok : goal.returns-in-Ok
@@ -18,8 +18,9 @@ returns-in-Ok g c =
           (c.sharers-at_once.ensures ∙ ap (λ (n : ℕ). min c.args.service.at_once n) many)
           c.in-Ok.ensures.joined
           (λ rows origin history h. subst (λ (s : OpenVault _). IsSharedStore views.folder g.B.Since.since s rows origin history) (sym c.into_store.ensures) h)
-          refl c.close-folder.ensures.folder
-          (c.outcome_of.ensures store.store.stopped c.close-folder.ensures.cause c.close-folder.ensures.whole);
+          refl c.close-folder.result.1
+          (closing_of views.folder store c.close-folder.result.0 c.close-folder.result.1 c.close-folder.ensures.later c.close-folder.ensures.flushed c.close-folder.ensures.stopped c.close-folder.ensures.moments c.close-folder.ensures.cause)
+          c.outcome_of.ensures;
     }
 
 pub returns-in-Err : goal.returns-in-Err
