@@ -1,11 +1,10 @@
 -- Disks that look alike but for bytes of files, and the places that are taken on them.
-use Rattle.std.proofs.Common.{◌≡◌, ℕ, ◌<◌, Bool, true, false, cond, List, [], ◌∷◌, length, Option, Some, None, refl, sym, ap, ap₂, ◌∙◌, arith}
+use Rattle.std.proofs.Common.{◌≡◌, ℕ, Bool, true, false, cond, List, length, Option, Some, None, refl, ap, ap₂, ◌∙◌, arith}
 use Rattle.std.specs.Option.{option_and_then}
 use Rattle.outside.specs.Disk.{Disk, Node as Thing, folder as Folder, file as Bytes, node_at as thing_at, Path as HostPath}
 use Rattle.chunk_journal.specs.Journal.{IsAlike, journal_file, new_file}
-use Rattle.deeds.specs.Deeds.{PlainDeed}
-use Rattle.pending_files.specs.Laid.{CanWait, LookAlike, laid, outline}
-use Rattle.tree_model.specs.Asked.{PlainRequest, PlainChange, look, walk, open_node, create, read, list, write, remove, stat_of, change, sync}
+use Rattle.pending_files.specs.Laid.{LookAlike, outline}
+use Rattle.tree_model.specs.Asked.{PlainRequest, look, walk, open_node, create, read, list, write, remove, stat_of, change, sync}
 use Rattle.tree_model.specs.Names.{clear_name}
 use Rattle.clear_tree.specs.Walk.{Sealing}
 use Rattle.clear_tree.specs.Places.{entry_at, host_two, host_folder, host_entry}

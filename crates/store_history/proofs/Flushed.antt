@@ -1,11 +1,9 @@
 -- A store once what waits is committed.
-use Rattle.std.proofs.Common.{◌≡◌, ℕ, ◌≤◌, List, [], Option, Some, None, IsNone, refl, sym, ap, subst, ◌∙◌, arith}
-use Rattle.std.specs.Option.{option_map}
+use Rattle.std.proofs.Common.{◌≡◌, ℕ, ◌≤◌, List, [], Option, Some, None, IsNone, sym, subst, ◌∙◌, arith}
 use Rattle.outside.specs.Calls.{Changes, Told}
 use Rattle.outside.specs.Disk.{Disk, Path as HostPath}
 use Rattle.outside.specs.Images.{Log, disk_in, log_at, moment, now}
 use Rattle.outside.specs.Views.{FolderView, EntropyView}
-use Rattle.outside.proofs.Moments.{moment_later}
 use Rattle.outside.proofs.Told.{changed_from}
 use Rattle.deeds.specs.Deeds.{PlainDeed}
 use Rattle.chunk_journal.specs.Journal.{AnyMoment, HasCommitted, IsAlike, IsBeforeOrAfter}
@@ -22,7 +20,7 @@ use Rattle.stop_history.specs.Stands.{IsRunning, IsInState}
 use Rattle.stop_history.proofs.Moves.{settles}
 use Rattle.stop_history.proofs.States.{state_runs}
 use Rattle.store_history.specs.Store.{StoreView, HasRows, IsStoredIn, IsStoreOf, LogGoesOn, moment_of, shows_under}
-use Rattle.store_history.specs.Turns.{AddsEntry, FlushedTurnsAdd, FlushesStand, IsFlushed, IsMadeOf, IsTakenFor}
+use Rattle.store_history.specs.Turns.{AddsEntry, FlushedTurnsAdd, FlushesStand, IsFlushed}
 use Rattle.store_history.proofs.Alike.{for_alike, looks_beside, looks_through}
 use Rattle.store_history.proofs.Placed.{grows_on, goes_later, leaves_go_on, places_go_on, read_then}
 use Rattle.store_history.proofs.Shows.{shows_blind, stands_beside}
@@ -124,8 +122,7 @@ from_idle old new before amid after asked source source' is adds found rows orig
     let stands = flush_stands old before amid found rows origin history store is.running is.committed is.any_moment is.faults in
     let added = adds found rows origin history caller stands drew in
     let made = added.1 in
-    let look = look_on old before amid found rows origin history store is.running is.committed is.any_moment in
-    (
+    let look = look_on old before amid found rows origin history store is.running is.committed is.any_moment in (
       added.0,
       record {
         same = made.same;

@@ -264,7 +264,7 @@ module _ (old new : StoreView) (before after : FolderView) (source source' : Ent
       answered = answered_more rows (tally_at origin) history entry answered (λ none. so);
     }
 
-    Kept : Type 0
+    abbrev Kept : Type 0
     Kept = is_kept turn.asked.request turn.asked.reply ≡ true → (old.waiting ≡ []) × (new.waiting ≡ [])
 
     -- it stays on top of what waits, or all that there was is on the disk
@@ -294,7 +294,7 @@ module _ (old new : StoreView) (before after : FolderView) (source source' : Ent
     accepted_rows : (r : Rows) → is_refusal turn.asked.reply ≡ false → rows_then r made ≡ (step r turn.asked.request turn.asked.second).rows
     accepted_rows r accepted = ap (λ (b : Bool). cond b r (step r turn.asked.request turn.asked.second).rows) accepted
 
-    Idle : Type 0
+    abbrev Idle : Type 0
     Idle = (old.waiting ≡ []) × (new.waiting ≡ [])
 
     changed_on : (a b : Log) → Before → Idle → turn.commit_failed ≡ false → is_refusal turn.asked.reply ≡ false → moment_of before.log ≡ moment a → made.moment ≡ moment b → Stored a → AllowedOn (laid old.waiting (now a)) → TakenOn (now a) → ChangedTo a b

@@ -1,5 +1,5 @@
 -- What an open vault stands for: a legal history of the plain file tree, and what a stop at each moment of it recovers to.
-use Rattle.std.specs.Prelude.{◌≡◌, ◌⊎◌, ℕ, suc, ◌≤◌, ◌^◌, ◌-◌, min, List, [], ◌++◌, length, take, Option, Some, IsNone, IsSomeAnd}
+use Rattle.std.specs.Prelude.{◌≡◌, ◌⊎◌, ℕ, suc, ◌≤◌, ◌^◌, ◌-◌, min, List, ◌++◌, length, take, Option, Some, IsNone, IsSomeAnd}
 use Rattle.std.specs.Option.{option_map, option_map_or}
 use Rattle.outside.specs.Calls.{Changes, Told}
 use Rattle.outside.specs.Disk.{Disk}

@@ -128,10 +128,14 @@ pub record IsChangedTurn (old new : StoreView) (before after : FolderView) (sour
 
 -- ---- its commit failed: the store stops
 
+-- it answers the number of this entry from now on
+abbrev pub StopsThere : StoreView → StoreView → Type 0
+StopsThere old new = new.stopped ≡ Some old.entries
+
 pub record IsBrokenTurn (old new : StoreView) (before after : FolderView) (source source' : EntropyView) (turn : Turn) : Type 0 where
   pub is_turn : IsTurn old new before after source source' turn
   pub none : old.waiting ≡ []
-  pub stops : new.stopped ≡ Some old.entries
+  pub stops : StopsThere old new
   pub failed : turn.commit_failed ≡ true
   pub reply : turn.asked.reply ≡ refused refusals.DeviceFault
   pub may_commit : MayCommit turn.asked.request
@@ -152,7 +156,7 @@ pub record IsFlushed (old new : StoreView) (before after : FolderView) : Type 0 
 -- that commit failed, before a request's own work: the store stops
 pub record IsUnflushedTurn (old new : StoreView) (before after : FolderView) (source source' : EntropyView) (turn : Turn) : Type 0 where
   pub is_turn : IsTurn old new before after source source' turn
-  pub stops : new.stopped ≡ Some old.entries
+  pub stops : StopsThere old new
   pub failed : turn.commit_failed ≡ true
   pub reply : turn.asked.reply ≡ refused refusals.DeviceFault
   pub may_commit : MayCommit turn.asked.request

@@ -1,5 +1,5 @@
 -- A sound vault is served.
-use Rattle.std.proofs.Common.{◌≡◌, ◌⊎◌, ℕ, List, Option, Some, None, Result, Ok, IsSome, IsSomeAnd, refl, sym, subst, ◌∙◌, inl, inr}
+use Rattle.std.proofs.Common.{◌≡◌, ◌⊎◌, ℕ, List, Option, Some, None, Result, Ok, IsSome, IsSomeAnd, refl, sym, subst, ◌∙◌, inl, inr, arith}
 use Rattle.outside.specs.Calls.{Rose, Told, Changes}
 use Rattle.outside.specs.Disk.{Disk, IsFolder}
 use Rattle.outside.specs.Images.{Log, disk_in, now}
