@@ -419,10 +419,10 @@ module _ (old new : StoreView) (before after : FolderView) (source source' : Ent
     adds_to store
         (caused is.is_turn store drew
         (moments_rise before.log after.log MayChangeTo (λ a b change. moment_later a b (IsBeforeOrAfter (now a) change.makes.after) (change.any_moment change.makes.after change.makes.does)) is.changed)
-        (λ failed. (is.reply, is.may_commit)))
+        (λ failed. (is.stops.reply, is.stops.may_commit)))
         (changed_by before.log after.log MayChangeTo LogGoesOn (λ a b change. leaves_go_on a b (IsBeforeOrAfter (now a) change.makes.after) (change.any_moment change.makes.after change.makes.does)) is.changed)
-        (broken_told is.is_turn before.log after.log store is.none is.failed is.reply refl refl store.stored is.allowed is.is_turn.taken is.changed)
-        (is.stops ∙ ap Some (store.count ∙ ap bounded (sym counted)) ∙ sym (ap (λ (o : Option ℕ). option_map bounded o) (flagged is.is_turn is.failed))) is.is_turn.entries,
+        (broken_told is.is_turn before.log after.log store is.none is.stops.failed is.stops.reply refl refl store.stored is.allowed is.is_turn.taken is.changed)
+        (is.stops.named ∙ ap Some (store.count ∙ ap bounded (sym counted)) ∙ sym (ap (λ (o : Option ℕ). option_map bounded o) (flagged is.is_turn is.stops.failed))) is.is_turn.entries,
   )
 
   -- the commit of what waited failed
@@ -433,9 +433,9 @@ module _ (old new : StoreView) (before after : FolderView) (source source' : Ent
     unflushed_on : (a b : Log) → Before → moment_of before.log ≡ moment a → made.moment ≡ moment b → Stored a → AllowedOn (laid old.waiting (now a)) → TakenOn (now a) → AnyMoment old.waiting a b → StoredNext b
     unflushed_on a b store was at stored allowed taken any =
         let waits : CanWait old.waiting (now a) = stored.waits (not_stopped is.is_turn.running store) in
-        broken_next is.is_turn a b store is.failed was (leaves_go_on a b (IsBeforeOrAfter (now a) (laid old.waiting (now a))) (any (laid old.waiting (now a)) waits.does)) stored allowed taken
+        broken_next is.is_turn a b store is.stops.failed was (leaves_go_on a b (IsBeforeOrAfter (now a) (laid old.waiting (now a))) (any (laid old.waiting (now a)) waits.does)) stored allowed taken
         (λ opened from. stays_broken Shows opened rows origin history b entry
-        (settles_broken Shows opened rows (shows_blind old.keys) history old.waiting a b (is_repeatable old.waiting waits.pending) (runs is.is_turn a store stored opened from) any) at (same_stable is.reply))
+        (settles_broken Shows opened rows (shows_blind old.keys) history old.waiting a b (is_repeatable old.waiting waits.pending) (runs is.is_turn a store stored opened from) any) at (same_stable is.stops.reply))
 
     unflushed_told : (a b : Option Log) → Before → moment_of before.log ≡ moment_of a → made.moment ≡ moment_of b → Told a Stored → Told (disk_in (option_map (laid_log old.waiting) a)) AllowedOn → Told (disk_in a) TakenOn → Changes a b (AnyMoment old.waiting)
         → Told b StoredNext
@@ -458,10 +458,10 @@ module _ (old new : StoreView) (before after : FolderView) (source source' : Ent
       made,
       made_so is.is_turn,
       adds_to store
-          (caused is.is_turn store drew (moments_rise before.log after.log LogGoesOn goes_later (grown_so store)) (λ failed. (is.reply, is.may_commit)))
+          (caused is.is_turn store drew (moments_rise before.log after.log LogGoesOn goes_later (grown_so store)) (λ failed. (is.stops.reply, is.stops.may_commit)))
           (grown_so store)
           (unflushed_told before.log after.log store refl refl store.stored is.allowed is.is_turn.taken is.any_moment)
-          (is.stops ∙ ap Some (store.count ∙ ap bounded (sym counted)) ∙ sym (ap (λ (o : Option ℕ). option_map bounded o) (flagged is.is_turn is.failed))) is.is_turn.entries,
+          (is.stops.named ∙ ap Some (store.count ∙ ap bounded (sym counted)) ∙ sym (ap (λ (o : Option ℕ). option_map bounded o) (flagged is.is_turn is.stops.failed))) is.is_turn.entries,
     )
 
 -- ---- the laws

@@ -128,17 +128,17 @@ pub record IsChangedTurn (old new : StoreView) (before after : FolderView) (sour
 
 -- ---- its commit failed: the store stops
 
--- it answers the number of this entry from now on
-abbrev pub StopsThere : StoreView → StoreView → Type 0
-StopsThere old new = new.stopped ≡ Some old.entries
+-- a commit failed, of a request that may have one: it is answered as the folder's fault, and the store answers the number of this entry from now on
+pub record StopsStore (old new : StoreView) (turn : Turn) : Type 0 where
+  pub named : new.stopped ≡ Some old.entries
+  pub failed : turn.commit_failed ≡ true
+  pub reply : turn.asked.reply ≡ refused refusals.DeviceFault
+  pub may_commit : MayCommit turn.asked.request
 
 pub record IsBrokenTurn (old new : StoreView) (before after : FolderView) (source source' : EntropyView) (turn : Turn) : Type 0 where
   pub is_turn : IsTurn old new before after source source' turn
   pub none : old.waiting ≡ []
-  pub stops : StopsThere old new
-  pub failed : turn.commit_failed ≡ true
-  pub reply : turn.asked.reply ≡ refused refusals.DeviceFault
-  pub may_commit : MayCommit turn.asked.request
+  pub stops : StopsStore old new turn
   pub allowed : IsAllowed old before (made_of turn before after source source')
   pub changed : Changes before.log after.log (MayHaveChanged (sealing_of old.keys) turn.asked.request turn.asked.second
       old.live new.live old.claims new.claims)
@@ -156,10 +156,7 @@ pub record IsFlushed (old new : StoreView) (before after : FolderView) : Type 0 
 -- that commit failed, before a request's own work: the store stops
 pub record IsUnflushedTurn (old new : StoreView) (before after : FolderView) (source source' : EntropyView) (turn : Turn) : Type 0 where
   pub is_turn : IsTurn old new before after source source' turn
-  pub stops : StopsThere old new
-  pub failed : turn.commit_failed ≡ true
-  pub reply : turn.asked.reply ≡ refused refusals.DeviceFault
-  pub may_commit : MayCommit turn.asked.request
+  pub stops : StopsStore old new turn
   pub allowed : IsAllowed old before (made_of turn before after source source')
   pub any_moment : Changes before.log after.log (AnyMoment old.waiting)
 
