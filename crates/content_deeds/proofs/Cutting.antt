@@ -21,7 +21,7 @@ shifted bytes from (suc count) =
     ∙ ap (λ (l : List (List ℕ)). slice_chunk (drop 32796 bytes) 32796 from ∷ l) (shifted bytes (from + 1) count)
 
 -- the first piece, and those behind it
-first_piece : (bytes : List ℕ) → 0 < length bytes → chunks_of 32796 bytes ≡ take 32796 bytes ∷ chunks_of 32796 (drop 32796 bytes)
+pub first_piece : (bytes : List ℕ) → 0 < length bytes → chunks_of 32796 bytes ≡ take 32796 bytes ∷ chunks_of 32796 (drop 32796 bytes)
 first_piece bytes some =
     let count : div_ceil (length bytes) 32796 ≡ suc (div_ceil (length (drop 32796 bytes)) 32796) = omega (arith, length-drop 32796 bytes) in
     ap (λ (n : ℕ). map (slice_chunk bytes 32796) (range_with_len 0 n)) count

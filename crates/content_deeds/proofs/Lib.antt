@@ -1,3 +1,5 @@
 pub mod Cutting
 pub mod Waiting
 pub mod Doing
+pub mod Laying
+pub mod Chunkwise

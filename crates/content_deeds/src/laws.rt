@@ -1,10 +1,16 @@
-ghost use Rattle.content_deeds.specs.Deeds.{DeedsRewrite};
+ghost use Rattle.content_deeds.specs.Deeds.{DeedsRewrite, WaitingRewrites};
 ghost use Rattle.content_deeds.specs.Sealed.{CutAgain};
 
 /// The one deed does the change. On a disk where the file has bytes that can be so rewritten it can be done, and again after a
 /// stop, and leaves the file with the rewritten bytes and all else as it was.
 pub fn deeds_rewrite()
     ensures { DeedsRewrite }
+{}
+
+/// A change of a file that would be there, behind what waits on a disk: it can wait too, and rewrites the file over what the disk
+/// would have been, and leaves all else.
+pub fn waiting_rewrites()
+    ensures { WaitingRewrites }
 {}
 
 /// The chunks of a change that can be made, one behind the other and none of them empty, are cut at their borders: so they

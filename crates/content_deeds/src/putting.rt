@@ -38,7 +38,7 @@ pub fn put_chunks(pending: &mut Pending, path: &VaultPath, change: &SealedChunks
 }
 
 /// Where the chunk of an index stands in its host file, in bytes from its beginning.
-fn place_of(index: u64) -> u64
+pub(crate) fn place_of(index: u64) -> u64
     requires { place_of_chunk index < 2 ^ 64 }
     ensures { result ≡ place_of_chunk index }
 {
