@@ -11,7 +11,7 @@ use Rattle.tree_model.specs.declared.refusal.Refusal.TheVariants as refusals
 use Rattle.tree_model.specs.Names.{NameFault, clear_name}
 use Rattle.tree_model.specs.Rows.{Content, Row, Rows, content_length, length_of, root}
 use Rattle.tree_model.specs.Asked.{PlainChange}
-use Rattle.tree_model.specs.Step.{Stepped, stepped, refuses, change_refusal, change_step, file_limit, gap_limit, growth_refusal, is_bad, is_bad_size as is_bad_content, length_refusal, new_length, new_name, open_refusal, place_refusal, place_step, raw_name_refusal, rename_step, resize_step, touches_fixed, truncates, write_refusal, writes}
+use Rattle.tree_model.specs.Step.{Stepped, stepped, refuses, change_refusal, change_step, file_limit, gap_limit, growth_refusal, is_bad, is_bad_size as is_bad_content, create_refusal, length_refusal, new_length, new_name, open_refusal, place_refusal, place_step, raw_name_refusal, rename_step, resize_step, touches_fixed, truncates, write_refusal, writes}
 use Rattle.clear_tree.specs.Kept.{What, KeptFile, KeptLink, KeptDir, KeptBad, kind_of, content_of, size_in}
 use Rattle.live_tree.specs.Held.{HeldNode, live_row}
 use Rattle.file_chunks.specs.File.{is_bad_size}
@@ -19,7 +19,7 @@ use Rattle.tree_answers.specs.Answers.{length_by, shown_length}
 use Rattle.change_plans.specs.declared.planning.Plan.{Plan}
 use Rattle.change_plans.specs.declared.planning.Plan.TheVariants.{Resize, Date}
 use Rattle.change_plans.specs.Plans.{IsPlan}
-use Rattle.change_plans.specs.Deciding.{bare_row, growth_fault, has_name, inner_plan, length_fault, named_plan, other_length, place_plan, plan_of, plan_or, name_or_refusal, resize_plan, root_plan, write_fault}
+use Rattle.change_plans.specs.Deciding.{bare_row, creation_fault, growth_fault, has_name, inner_plan, length_fault, named_plan, other_length, place_plan, plan_of, plan_or, name_or_refusal, resize_plan, root_plan, write_fault}
 
 -- ---- lengths
 
@@ -52,6 +52,12 @@ write_is (KeptFile size) content at len tells = ap (cond (len == 0) None) (growt
 write_is (KeptLink size) content at len tells = refl
 write_is (KeptDir identifier folder) content at len tells = refl
 write_is (KeptBad text) content at len tells = refl
+
+pub creation_is : (what : What) (name : List ℕ) → create_refusal (kind_of what) name ≡ creation_fault what name
+creation_is (KeptFile size) name = refl
+creation_is (KeptLink size) name = refl
+creation_is (KeptDir identifier folder) name = refl
+creation_is (KeptBad text) name = refl
 
 -- no mode that truncates is 0
 truncates-zero : (mode : ℕ) → truncates mode ≡ true → (mode == 0) ≡ false

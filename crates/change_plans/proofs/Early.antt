@@ -1,13 +1,13 @@
--- What refuses a write and a truncation early, by what is held of the node.
-use Rattle.std.proofs.Common.{◌≡◌, ℕ, true, length, Option, Some, None, sym, ap, ◌∙◌}
+-- What refuses a write, a truncation and a creation early, by what is held of the node.
+use Rattle.std.proofs.Common.{◌≡◌, ℕ, true, List, length, Option, Some, None, sym, ap, ◌∙◌}
 use Rattle.tree_model.specs.declared.refusal.Refusal.{Refusal}
 use Rattle.tree_model.specs.declared.refusal.Refusal.TheVariants as refusals
-use Rattle.tree_model.specs.Asked.{open_node, write}
+use Rattle.tree_model.specs.Asked.{create, open_node, write}
 use Rattle.tree_model.specs.Step.{truncates}
 use Rattle.live_tree.specs.Held.{HeldNode, HeldTree, live_row, live_rows, node_of}
-use Rattle.change_plans.specs.Plans.{IsOpenRefusal, IsWriteRefusal}
-use Rattle.change_plans.specs.Deciding.{length_fault, write_fault}
-use Rattle.change_plans.proofs.Deciding.{truncation_is, write_is}
+use Rattle.change_plans.specs.Plans.{IsCreationRefusal, IsOpenRefusal, IsWriteRefusal}
+use Rattle.change_plans.specs.Deciding.{creation_fault, length_fault, write_fault}
+use Rattle.change_plans.proofs.Deciding.{creation_is, truncation_is, write_is}
 use Rattle.change_plans.proofs.Rows.{early_by, row_absent, row_there, tells_by}
 
 -- ---- of a number without a node
@@ -19,6 +19,10 @@ write_removed live number at len none contents have bytes long =
 pub open_removed : (live : HeldTree) (number mode : ℕ) → node_of live number ≡ None → IsOpenRefusal live number mode (Some refusals.Removed)
 open_removed live number mode none contents have =
     early_by (live_rows contents live) (open_node number mode) None (row_absent contents live number none)
+
+pub creation_removed : (live : HeldTree) (number : ℕ) (name : List ℕ) → node_of live number ≡ None → IsCreationRefusal live number name (Some refusals.Removed)
+creation_removed live number name none contents is_dir mode =
+    early_by (live_rows contents live) (create number name is_dir mode) None (row_absent contents live number none)
 
 -- ---- of a node
 
@@ -33,3 +37,8 @@ module _ (live : HeldTree) (number : ℕ) (node : HeldNode) (there : node_of liv
   truncation_refused mode refusal truncating is contents have =
       early_by (live_rows contents live) (open_node number mode) (Some (live_row contents (number, node))) (row_there contents live number node there)
       ∙ truncation_is node.kept.what (contents number) mode truncating (tells_by contents live number node have there) ∙ sym is
+
+  pub creation_refused : (name : List ℕ) (refusal : Option Refusal) → refusal ≡ creation_fault node.kept.what name → IsCreationRefusal live number name refusal
+  creation_refused name refusal is contents is_dir mode =
+      early_by (live_rows contents live) (create number name is_dir mode) (Some (live_row contents (number, node))) (row_there contents live number node there)
+      ∙ creation_is node.kept.what name ∙ sym is

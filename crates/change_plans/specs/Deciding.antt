@@ -57,6 +57,13 @@ plan_or (Some refusal) plan = Err refusal
 abbrev pub resize_plan : What → ℕ → Result Plan Refusal
 resize_plan what n = plan_or (length_fault what n) (Ok (Resize n))
 
+-- what keeps a node from having another one of a name made in it, before the name's form NFC is needed
+abbrev pub creation_fault : What → List ℕ → Option Refusal
+creation_fault (KeptDir identifier folder) name = raw_name_refusal name
+creation_fault (KeptFile size) name = Some refusals.NotADirectory
+creation_fault (KeptLink size) name = Some refusals.NotADirectory
+creation_fault (KeptBad text) name = Some refusals.NotADirectory
+
 -- ---- names
 
 -- the name that is asked for is the node's own in its form NFC

@@ -1,10 +1,10 @@
--- What a change of a node's attributes comes to, in the rows of a tree, where nothing refuses it before its own work, and what refuses a
--- write and a truncation before the content is looked at.
-use Rattle.std.specs.Prelude.{◌≡◌, ◌≢◌, ⊤, ℕ, List, length, Option, Some, None, Ok}
+-- What a change of a node's attributes comes to, in the rows of a tree, where nothing refuses it before its own work, what refuses a
+-- write and a truncation before the content is looked at, and what refuses a creation before the name's form NFC is needed.
+use Rattle.std.specs.Prelude.{◌≡◌, ◌≢◌, ⊤, ℕ, List, Bool, length, Option, Some, None, Ok}
 use Rattle.tree_model.specs.declared.refusal.Refusal.{Refusal}
 use Rattle.tree_model.specs.Names.{clear_name}
 use Rattle.tree_model.specs.Rows.{Content, Row, Rows, root, row_of}
-use Rattle.tree_model.specs.Asked.{PlainChange, change, open_node, write}
+use Rattle.tree_model.specs.Asked.{PlainChange, change, create, open_node, write}
 use Rattle.tree_model.specs.Step.{early_refusal, is_bad_size as is_bad_content, length_refusal, new_length, new_name, refuses, step}
 use Rattle.live_tree.specs.Held.{HeldTree, live_rows, size_of}
 use Rattle.file_chunks.specs.File.{is_bad_size}
@@ -80,3 +80,10 @@ IsWriteRefusal live number at len refusal =
 abbrev pub IsOpenRefusal : HeldTree → ℕ → ℕ → Option Refusal → Type 0
 IsOpenRefusal live number mode refusal =
     (contents : ℕ → Content) → HaveSizes live contents → early_refusal (live_rows contents live) (open_node number mode) ≡ refusal
+
+-- ---- before a name's form NFC is needed
+
+-- what refuses early that a node of a name is made in a directory, if anything does, whatever the tree's files hold
+abbrev pub IsCreationRefusal : HeldTree → ℕ → List ℕ → Option Refusal → Type 0
+IsCreationRefusal live number name refusal =
+    (contents : ℕ → Content) (is_dir : Bool) (mode : ℕ) → early_refusal (live_rows contents live) (create number name is_dir mode) ≡ refusal

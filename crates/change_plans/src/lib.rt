@@ -1,6 +1,6 @@
 //! What a change of a node's attributes (wstat, stat(5)) comes to in the tree of an open vault, or why it is refused, as far as
 //! the node itself tells. Nothing is changed: others make the plan true. Of a write and a truncation likewise what refuses them
-//! before the file's content is looked at.
+//! before the file's content is looked at, and of a creation what refuses it before the name's form NFC is needed.
 //!
 //! ```
 //! match change_plans::plan_change(alloc, &tree, number, &change)? {
@@ -17,10 +17,12 @@
 #![tactic(auto)]
 
 mod contents;
+mod creating;
 mod fixed;
 mod lengths;
 mod names;
 mod planning;
 
 pub use contents::{truncation_refusal, write_refusal};
+pub use creating::creation_refusal;
 pub use planning::{Plan, plan_change};

@@ -8,11 +8,10 @@ use Rattle.deeds.proofs.Doing.{same_run}
 use Rattle.siv_mode.specs.Keys.{KeyPair}
 use Rattle.tree_model.specs.declared.refusal.Refusal.{Refusal}
 use Rattle.tree_model.specs.declared.refusal.Refusal.TheVariants as refusals
-use Rattle.tree_model.specs.Rows.{Content, Row, Rows, row_of}
+use Rattle.tree_model.specs.Rows.{Content, Row, row_of}
 use Rattle.vault_path.specs.Parts.{is_part}
-use Rattle.tree_model.specs.Asked.{PlainRequest, remove, done, refused}
-use Rattle.tree_model.specs.Step.{Answer, Stepped, stepped, early, early_refusal, says, refuses, step, work}
-use Rattle.tree_model.specs.Step.{node_of as request_node}
+use Rattle.tree_model.specs.Asked.{remove, done, refused}
+use Rattle.tree_model.specs.Step.{Answer, Stepped, early, says, refuses, step, work}
 use Rattle.tree_model.proofs.Steps.{step_worked}
 use Rattle.clear_tree.specs.Walk.{Path, Sealing, Node, File, Link, Dir, Bad, claimed, node_at}
 use Rattle.clear_tree.specs.Places.{folders_of, text_contents, text_symlink}

@@ -128,8 +128,14 @@ fn folder_of(live: &LiveTree, number: u64) -> Option<[u8; 32]>
     live.node(number)?.folder().copied()
 }
 
-// Why a node can't be removed.
-fn removal_refusal(live: &LiveTree, number: u64) -> Option<Refusal>
+/// What refuses that the node of a number is removed, before any work begins. It is the first of these:
+///
+/// - `Removed`: the number has no node.
+/// - `NotPermitted` of the root, and `Damaged` of a Bad node.
+/// - Of a directory: `DirectoryNotEmpty` with nodes in it; `Foreign` if its folder has entries that are no nodes' files, another
+///   entry has its name, or an identifier is named twice in the tree.
+/// - Of a file or a link: `Foreign` if another entry has its name.
+pub fn removal_refusal(live: &LiveTree, number: u64) -> Option<Refusal>
     ensures refusal { IsRemovalRefusal live.now number result }
     ensures own { IfSome result (λ refusal. RefusalCause (remove number) ⊥ ⊥ refusal) }
     ensures tree { IsTree live.now }
