@@ -1,4 +1,4 @@
-ghost use Rattle.std.specs.Prelude.{◌≡◌, ◌≤◌, ℕ, List, None, Ok, IsErr};
+ghost use Rattle.std.specs.Prelude.{◌≡◌, ◌≤◌, ℕ, List, [], None, Ok, IsErr};
 ghost use Rattle.outside.specs.Calls.{Told};
 ghost use Rattle.outside.specs.Views.{EntropyView, entropy_view, folder_view};
 ghost use Rattle.directory_scan.specs.Format.{sealing_of};
