@@ -1,5 +1,5 @@
 -- Turns in which what waits is committed, or is to be.
-use Rattle.std.proofs.Common.{◌≡◌, ℕ, suc, ◌≤◌, List, [], Bool, true, false, cond, Option, Some, None, IsErr, Result, Ok, Err, refl, sym, ap, subst, ◌∙◌, inl, inr, true≢false, arith}
+use Rattle.std.proofs.Common.{◌≡◌, ℕ, suc, ◌≤◌, List, [], Bool, true, false, cond, Option, Some, None, IsNone, IsErr, Result, Ok, Err, refl, sym, ap, subst, ◌∙◌, inl, inr, true≢false, arith}
 use Rattle.std.specs.Option.{option_map}
 use Rattle.outside.specs.Calls.{Changes, Rose, Told}
 use Rattle.outside.specs.Disk.{Disk, Path as HostPath}
@@ -16,8 +16,8 @@ use Rattle.tree_model.specs.declared.refusal.Refusal.TheVariants as refusals
 use Rattle.tree_model.specs.declared.reply.Reply.{Reply}
 use Rattle.tree_model.specs.declared.reply.Reply.TheVariants as replies
 use Rattle.tree_model.specs.Rows.{Content, Rows}
-use Rattle.tree_model.specs.Asked.{Asked, PlainReply, PlainRequest, remove, asked_of, bytes_put, plain_reply, refused}
-use Rattle.tree_model.specs.Step.{refuses, says, step}
+use Rattle.tree_model.specs.Asked.{Asked, PlainReply, PlainRequest, remove, sync, HasCount, IsReplyTo, asked_of, bytes_put, plain_reply, refused}
+use Rattle.tree_model.specs.Step.{Answer, early_refusal, refuses, says, step}
 use Rattle.tree_history.specs.History.{Made, is_refusal, is_stopped, places, rows_then, HasCause, IsAnswered, MayCommit}
 use Rattle.clear_tree.specs.Walk.{Sealing}
 use Rattle.directory_scan.specs.Format.{sealing_of}
@@ -38,7 +38,9 @@ use Rattle.vault_store.specs.declared.answering.Broken.{Broken}
 use Rattle.vault_store.specs.Open.{running, counted, stopped_in, view_of}
 use Rattle.vault_store.specs.Outcome.{HasNotFlushed, HasReply, IsFormed, IsFrom, IsOutcome}
 use Rattle.vault_store.specs.Quiet.{IsStill}
+use Rattle.tree_answers.specs.Answers.{IsOwn, IsStepOf}
 use Rattle.vault_store.proofs.ContentTurns.{content_refused, early_answer}
+use Rattle.vault_store.proofs.Lookups.{looked_up, plain_read, reading_keeps}
 use Rattle.vault_store.proofs.Replies.{no_bytes, said_unplaced}
 use Rattle.vault_store.proofs.Turns.{HasDrawn, IsCome, come_undrawn, refused_reply, told_path, told_path_is}
 use Rattle.vault_store.proofs.Waiting.{over, refused_outcome, same_over, told_shown}
@@ -261,14 +263,17 @@ flush_failed tree tree' waiting waiting' entries before after source request sec
 
 -- ---- removals that are refused early
 
-removal_may : (s : Sealing) (number second : ℕ) (taken : Option HostPath) (refusal : Refusal) (d : Disk) (live : HeldTree) (claims : List (List ℕ × ℕ)) → RefusalCause (remove number) ⊥ ⊥ refusal
-    → IsStepAnswer s (remove number) second (refuses refusal) d live claims → MayRefuse s (remove number) second taken refusal d live claims
-removal_may s number second taken refusals.DeviceFault d live claims cause is = absurd cause
-removal_may s number second taken refusals.RandomFault d live claims cause is = absurd cause
-removal_may s number second taken refusals.OutOfMemory d live claims cause is =
-    λ contents stands no. let both : refuses refusals.OutOfMemory ≡ refuses refusals.Removed = sym (is contents stands) ∙ no in absurd cc
-removal_may s number second taken (refusals.PlaceTaken path) d live claims cause is = absurd cause
-removal_may s number second taken refusal d live claims cause is = is
+removal_may : (form : Sealing) (number second : ℕ) (taken : Option HostPath) (refusal : Refusal) (d : Disk) (live : HeldTree) (claims : List (List ℕ × ℕ)) → RefusalCause (remove number) ⊥ ⊥ refusal
+    → IsStepAnswer form (remove number) second (refuses refusal) d live claims → MayRefuse form (remove number) second taken refusal d live claims
+removal_may form number second taken refusals.DeviceFault d live claims cause is = absurd cause
+removal_may form number second taken refusals.RandomFault d live claims cause is = absurd cause
+removal_may form number second taken refusals.OutOfMemory d live claims cause is =
+    λ contents stands no.
+    let both : refuses refusals.OutOfMemory ≡ refuses refusals.Removed = sym (is contents stands) ∙ no in
+    let replies : refused refusals.OutOfMemory ≡ refused refusals.Removed = ap (λ (a : Answer). a.reply) both in
+    absurd cc
+removal_may form number second taken (refusals.PlaceTaken path) d live claims cause is = absurd cause
+removal_may form number second taken refusal d live claims cause is = is
 
 cause_rises : (number : ℕ) (folder entropy : Type 0) (refusal : Refusal) → RefusalCause (remove number) ⊥ ⊥ refusal → RefusalCause (remove number) folder entropy refusal
 cause_rises number folder entropy refusals.DeviceFault cause = absurd cause
@@ -287,3 +292,27 @@ removal_refused keys live claims entries folder source number second refusal buf
     (cause_rises number (Rose folder.faults folder.faults) (Rose source.faults source.faults) refusal cause)
     (told_always (disk_in folder.log) _ (λ d contents stands path e. absurd (not_placed number refusal path cause e)))
     (told_always (disk_in folder.log) _ (λ d. removal_may (sealing_of keys) number second None refusal d live claims cause (λ contents stands. early_answer (live_rows contents live) (remove number) second refusal (is contents))))
+
+-- ---- syncs
+
+pub sync_reply : (keys : KeyPair) (live live' : HeldTree) (claims : List (List ℕ × ℕ)) (entries : ℕ) (folder : FolderView) (source : EntropyView) (number second : ℕ) (reply : Reply) (buffer : List ℕ) → live ≡ live'
+    → IsStepOf live (sync number) (says (plain_reply reply)) → IsReplyTo (sync number) (plain_reply reply) [] → IsOwn (plain_reply reply) → HasCount reply
+    → IsStill (running keys live' claims entries) (running keys live' claims entries) folder folder source source (sync number) second reply buffer buffer
+sync_reply keys live live' claims entries folder source number second reply buffer same is form own has =
+    looked_up keys live live' claims entries folder source (sync number) (sync number) second reply buffer buffer same refl (record { never = λ may. may; path = λ s d live. refl })
+    (plain_read keys live claims folder folder (sync number) reply buffer (reading_keeps (sync number) (plain_reply reply) tt) refl is form own has)
+
+refused_is : (reply : Reply) → ((refusal : Refusal) → reply ≡ replies.Refused refusal → ⊥) → (refusal : Refusal) → plain_reply reply ≡ refused refusal → ⊥
+refused_is (replies.Refused other) not refusal is = not other refl
+refused_is reply not refusal is = absurd cc
+
+-- where a sync isn't refused, nothing refuses it early
+pub sync_late : (live : HeldTree) (number : ℕ) (contents : ℕ → Content) (reply : Reply) → IsStepOf live (sync number) (says (plain_reply reply)) → ((refusal : Refusal) → reply ≡ replies.Refused refusal → ⊥)
+    → IsNone (early_refusal (live_rows contents live) (sync number))
+sync_late live number contents reply is not = by (early_refusal (live_rows contents live) (sync number)) refl
+  where
+    by : (o : Option Refusal) → early_refusal (live_rows contents live) (sync number) ≡ o → IsNone o
+    by None none = refl
+    by (Some refusal) early =
+        let both : says (plain_reply reply) ≡ refuses refusal = is contents 0 ∙ early_answer (live_rows contents live) (sync number) 0 refusal early in
+        absurd (refused_is reply not refusal (ap (λ (a : Answer). a.reply) both))

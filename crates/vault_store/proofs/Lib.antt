@@ -12,3 +12,4 @@ pub mod Changes
 pub mod Serving
 pub mod Loads
 pub mod Flushes
+pub mod Closing

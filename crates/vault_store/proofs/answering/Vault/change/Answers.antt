@@ -48,16 +48,16 @@ returns-in-Err-clause-outcome g c = λ entries buffer.
 pub change_idle-requires-clause-planned : goal.change_idle-requires-clause-planned
 change_idle-requires-clause-planned g c =
     let asked = plain_change c.args.change.now in
-    subst (λ (l : HeldTree). IsPlanned l c.args.number asked c.in-Ok-Ok.plan) (c.live.ensures ∙ ap (λ (t : VaultTree). t.live) (sym c.in-Ok-flush.ensures.tree))
+    subst (λ (l : HeldTree). IsPlanned l c.args.number asked c.in-Ok-Ok.plan) (c.live.ensures ∙ ap (λ (t : VaultTree). t.live) (sym c.in-Ok.ensures.tree))
     (plan_at (IsPlanned c.live.result.now c.args.number asked) c.in-Ok-Ok.field-0 c.in-Ok-Ok.plan c.in-Ok-Ok.plan c.in-Ok-Ok.field-0-is refl c.in-Ok-Ok.ensures.planned)
 
 pub change_idle-requires-clause-resizable : goal.change_idle-requires-clause-resizable
 change_idle-requires-clause-resizable g c =
-    subst (λ (l : HeldTree). CanResize l c.args.number c.in-Ok-Ok.plan) (c.live.ensures ∙ ap (λ (t : VaultTree). t.live) (sym c.in-Ok-flush.ensures.tree))
+    subst (λ (l : HeldTree). CanResize l c.args.number c.in-Ok-Ok.plan) (c.live.ensures ∙ ap (λ (t : VaultTree). t.live) (sym c.in-Ok.ensures.tree))
     (plan_at (CanResize c.live.result.now c.args.number) c.in-Ok-Ok.field-0 c.in-Ok-Ok.plan c.in-Ok-Ok.plan c.in-Ok-Ok.field-0-is refl c.in-Ok-Ok.ensures.resizable)
 
-pub returns-in-Ok-flush-clause-outcome : goal.returns-in-Ok-flush-clause-outcome
-returns-in-Ok-flush-clause-outcome g c = λ entries buffer.
+pub returns-in-Ok-clause-outcome : goal.returns-in-Ok-clause-outcome
+returns-in-Ok-clause-outcome g c = λ entries buffer.
     let tree = c.args.self.now.tree in
     let back = c.args.self.now.back in
     let before = folder_view g.D.Reads.log g.D.Reads.faults g.D.Reads.changes back.folder in
@@ -66,13 +66,13 @@ returns-in-Ok-flush-clause-outcome g c = λ entries buffer.
     let source = entropy_view g.E.Entropy.drawn g.E.Entropy.faults c.args.entropy.now in
     let source' = entropy_view g.E.Entropy.drawn g.E.Entropy.faults c.change_idle.new.entropy in
     let asked = plain_change c.args.change.now in
-    let planned = subst (λ (l : HeldTree). IsPlanned l c.args.number asked c.in-Ok-Ok.plan) (c.live.ensures ∙ ap (λ (t : VaultTree). t.live) (sym c.in-Ok-flush.ensures.tree))
+    let planned = subst (λ (l : HeldTree). IsPlanned l c.args.number asked c.in-Ok-Ok.plan) (c.live.ensures ∙ ap (λ (t : VaultTree). t.live) (sym c.in-Ok.ensures.tree))
     (plan_at (IsPlanned c.live.result.now c.args.number asked) c.in-Ok-Ok.field-0 c.in-Ok-Ok.plan c.in-Ok-Ok.plan c.in-Ok-Ok.field-0-is refl c.in-Ok-Ok.ensures.planned) in
     after_flush (view_of tree back.waiting entries None) c.flush.new.self.tree c.change_idle.new.self.tree c.change_idle.new.self.back.waiting entries before amid after source source' (change c.args.number asked) c.args.now
-    c.change_idle.result buffer buffer c.change_idle.ensures.idle (c.in-Ok-flush.ensures.flushed entries) (c.change_idle.ensures.outcome entries buffer asked refl planned)
+    c.change_idle.result buffer buffer c.change_idle.ensures.idle (c.in-Ok.ensures.flushed entries) (c.change_idle.ensures.outcome entries buffer asked refl planned)
 
-pub returns-in-Ok-flush-clause-rest : goal.returns-in-Ok-flush-clause-rest
-returns-in-Ok-flush-clause-rest g c =
+pub returns-in-Ok-clause-rest : goal.returns-in-Ok-clause-rest
+returns-in-Ok-clause-rest g c =
     let amid = folder_view g.D.Reads.log g.D.Reads.faults g.D.Reads.changes c.flush.new.self.back.folder in
     let after = folder_view g.D.Reads.log g.D.Reads.faults g.D.Reads.changes c.change_idle.new.self.back.folder in
     let was = c.flush.new.self.tree in
@@ -80,10 +80,10 @@ returns-in-Ok-flush-clause-rest g c =
     let source = entropy_view g.E.Entropy.drawn g.E.Entropy.faults c.args.entropy.now in
     let source' = entropy_view g.E.Entropy.drawn g.E.Entropy.faults c.change_idle.new.entropy in
     let asked = plain_change c.args.change.now in
-    let planned = subst (λ (l : HeldTree). IsPlanned l c.args.number asked c.in-Ok-Ok.plan) (c.live.ensures ∙ ap (λ (t : VaultTree). t.live) (sym c.in-Ok-flush.ensures.tree))
+    let planned = subst (λ (l : HeldTree). IsPlanned l c.args.number asked c.in-Ok-Ok.plan) (c.live.ensures ∙ ap (λ (t : VaultTree). t.live) (sym c.in-Ok.ensures.tree))
     (plan_at (IsPlanned c.live.result.now c.args.number asked) c.in-Ok-Ok.field-0 c.in-Ok-Ok.plan c.in-Ok-Ok.plan c.in-Ok-Ok.field-0-is refl c.in-Ok-Ok.ensures.planned) in
     rests was.keys new.tree.keys was.live new.tree.live was.claims new.tree.claims 0 amid after source source' (change c.args.number asked) c.args.now c.change_idle.result [] [] new.back.waiting
-    c.change_idle.ensures.keys c.change_idle.ensures.idle c.in-Ok-flush.ensures.rest (c.change_idle.ensures.outcome 0 [] asked refl planned)
+    c.change_idle.ensures.keys c.change_idle.ensures.idle c.in-Ok.ensures.rest (c.change_idle.ensures.outcome 0 [] asked refl planned)
 
 pub returns-in-Err-flush-clause-outcome : goal.returns-in-Err-flush-clause-outcome
 returns-in-Err-flush-clause-outcome g c = λ entries buffer.

@@ -1,4 +1,4 @@
-use Rattle.std.proofs.Common.{◌≡◌, ℕ, true, Option, None, refl, sym, subst}
+use Rattle.std.proofs.Common.{◌≡◌, ℕ, [], true, Option, None, Ok, refl, sym, subst}
 use Rattle.outside.specs.Calls.{Rose}
 use Rattle.outside.specs.Disk.{Path as HostPath}
 use Rattle.outside.specs.Images.{disk_in}
@@ -17,6 +17,8 @@ use Rattle.change_plans.specs.declared.planning.Plan.{Plan}
 use Rattle.node_changes.specs.Changed.{StandsOn}
 use Rattle.node_changes.specs.Renaming.{IsRenaming}
 use Rattle.vault_store.specs.Dated.{IsDated}
+use Rattle.vault_store.specs.Open.{view_of}
+use Rattle.vault_store.specs.Outcome.{IsWork}
 use Rattle.vault_store.specs.Sizes.{SizesAreHeld}
 use Rattle.vault_store.proofs.Changes.{asks_place, is_renaming, name_asked}
 use Rattle.vault_store.proofs.Dates.{date_reply}
@@ -26,7 +28,7 @@ use Rattle.vault_store.proofs.answering.Vault.change_idle.Goals as goal
 pub returns-in-Ok-clause-outcome : goal.returns-in-Ok-clause-outcome
 returns-in-Ok-clause-outcome g c = λ entries buffer asked same plan.
     let source = entropy_view g.E.Entropy.drawn g.E.Entropy.faults c.args.entropy.now in
-    let folder = folder_view g.D.Reads.log g.D.Reads.faults g.D.Reads.changes c.args.self.now.back.folder in
+    let folder = folder_view g.D.Reads.log g.D.Reads.faults g.D.Reads.changes c.journal.result.now in
     let after = folder_view g.D.Reads.log g.D.Reads.faults g.D.Reads.changes c.rename.new.journal in
     let tree = c.args.self.now.tree in
     let new = c.rename.new.self in
@@ -35,16 +37,17 @@ returns-in-Ok-clause-outcome g c = λ entries buffer asked same plan.
     let renaming = subst (λ (m : Option ℕ). IsRenaming (sealing_of tree.keys) tree.live tree.claims c.args.number c.in-Rename.name m asked) same
     (is_renaming tree.keys tree.live tree.claims c.args.number asked sizes c.in-Rename.name planned) in
     let changed = c.in-Ok.ensures.changed asked renaming in
-    changed_reply tree.keys new.keys tree.live new.live tree.claims new.claims entries folder after source source (change c.args.number asked) c.args.now
+    subst (λ (d : g.row.D.Denot). IsWork (view_of tree [] entries None) (view_of new [] entries None) (folder_view g.D.Reads.log g.D.Reads.faults g.D.Reads.changes d) after source source (change c.args.number asked) c.args.now (Ok replies.Done) buffer buffer) c.journal.ensures.journal
+    (changed_reply tree.keys new.keys tree.live new.live tree.claims new.claims entries folder after source source (change c.args.number asked) c.args.now
     None replies.Done buffer (come_undrawn tree.keys new.keys folder after source (change c.args.number asked) c.in-Ok.ensures.keys c.in-Ok.ensures.later)
     refl refl tt (record { form = tt; count = tt; enters = refl; rest = refl }) refl
     (untaken_renamed (sealing_of tree.keys) c.args.number asked c.args.now tree.live new.live tree.claims new.claims folder.log after.log changed)
-    (changes_renamed (sealing_of tree.keys) c.args.number asked c.args.now tree.live new.live tree.claims new.claims folder.log after.log changed)
+    (changes_renamed (sealing_of tree.keys) c.args.number asked c.args.now tree.live new.live tree.claims new.claims folder.log after.log changed))
 
 pub returns-in-Err-clause-outcome : goal.returns-in-Err-clause-outcome
 returns-in-Err-clause-outcome g c = λ entries buffer asked same plan.
     let source = entropy_view g.E.Entropy.drawn g.E.Entropy.faults c.args.entropy.now in
-    let folder = folder_view g.D.Reads.log g.D.Reads.faults g.D.Reads.changes c.args.self.now.back.folder in
+    let folder = folder_view g.D.Reads.log g.D.Reads.faults g.D.Reads.changes c.journal.result.now in
     let after = folder_view g.D.Reads.log g.D.Reads.faults g.D.Reads.changes c.rename.new.journal in
     let tree = c.args.self.now.tree in
     let new = c.rename.new.self in
@@ -52,7 +55,8 @@ returns-in-Err-clause-outcome g c = λ entries buffer asked same plan.
     let planned = subst (λ (p : Plan). IsPlanned tree.live c.args.number asked p) c.in-Rename.is plan in
     let renaming = subst (λ (m : Option ℕ). IsRenaming (sealing_of tree.keys) tree.live tree.claims c.args.number c.in-Rename.name m asked) same
     (is_renaming tree.keys tree.live tree.claims c.args.number asked sizes c.in-Rename.name planned) in
-    change_err tree.keys new.keys tree.live new.live tree.claims new.claims entries folder after source source (change c.args.number asked) c.args.now
+    subst (λ (d : g.row.D.Denot). IsWork (view_of tree [] entries None) (view_of new [] entries None) (folder_view g.D.Reads.log g.D.Reads.faults g.D.Reads.changes d) after source source (change c.args.number asked) c.args.now c.refused.result buffer buffer) c.journal.ensures.journal
+    (change_err tree.keys new.keys tree.live new.live tree.claims new.claims entries folder after source source (change c.args.number asked) c.args.now
     None c.in-Err.error c.refused.result buffer c.refused.ensures.refused c.refused.ensures.broken
     (come_undrawn tree.keys new.keys folder after source (change c.args.number asked) c.in-Err.ensures.keys c.in-Err.ensures.later)
     c.in-Err.ensures.unchanged
@@ -61,7 +65,7 @@ returns-in-Err-clause-outcome g c = λ entries buffer asked same plan.
     (λ refusal may. told_always (disk_in folder.log)
     (λ d. (contents : ℕ → Content) → StandsOn (sealing_of tree.keys) d tree.live tree.claims contents → (path : HostPath) → refusal ≡ refusals.PlaceTaken path → places (live_rows contents tree.live) (change c.args.number asked) ≡ true)
     (λ d contents stands path is. asks_place tree.keys tree.live tree.claims c.args.number asked sizes c.in-Rename.name planned d contents stands))
-    (c.in-Err.ensures.refused asked renaming) tt (c.in-Err.ensures.broken asked renaming)
+    (c.in-Err.ensures.refused asked renaming) tt (c.in-Err.ensures.broken asked renaming))
 
 pub returns-in-Date-clause-outcome : goal.returns-in-Date-clause-outcome
 returns-in-Date-clause-outcome g c = λ entries buffer asked same plan.

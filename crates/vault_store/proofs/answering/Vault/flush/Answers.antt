@@ -7,7 +7,7 @@ pub flush-requires : goal.flush-requires
 flush-requires g c =
     let tree = c.args.self.now.tree in
     let back = c.args.self.now.back in
-    rest_quiet (sealing_of tree.keys) tree.live tree.claims back.waiting (g.D.Reads.log back.folder) c.requires
+    rest_quiet (sealing_of tree.keys) tree.live tree.claims back.waiting (g.D.Reads.log back.folder) c.requires.rest
 
 pub returns-in-Ok-clause-flushed : goal.returns-in-Ok-clause-flushed
 returns-in-Ok-clause-flushed g c = λ entries. record {
@@ -22,4 +22,4 @@ pub returns-in-Ok-clause-rest : goal.returns-in-Ok-clause-rest
 returns-in-Ok-clause-rest g c =
     let tree = c.args.self.now.tree in
     let back = c.args.self.now.back in
-    rests_flushed (sealing_of tree.keys) tree.live tree.claims back.waiting (g.D.Reads.log back.folder) (g.D.Reads.log c.flush.new.self.folder) c.requires c.in-Ok.ensures.committed
+    rests_flushed (sealing_of tree.keys) tree.live tree.claims back.waiting (g.D.Reads.log back.folder) (g.D.Reads.log c.flush.new.self.folder) c.requires.rest c.in-Ok.ensures.committed

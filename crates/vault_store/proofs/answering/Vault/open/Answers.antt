@@ -5,13 +5,20 @@ use Rattle.outside.specs.Images.{Log, disk_in}
 use Rattle.chunk_journal.specs.Opening.{HasOpened}
 use Rattle.tree_loading.specs.Clear.{HasTooMany, root_folder}
 use Rattle.vault_store.specs.declared.opening.OpenErr.{OpenErr}
+use Rattle.directory_scan.specs.Format.{sealing_of}
+use Rattle.node_changes.specs.Changed.{IsAtRest}
 use Rattle.vault_store.proofs.Loads.{loaded_rests}
+use Rattle.vault_store.proofs.Rests.{rests_idle}
 use Rattle.vault_store.proofs.answering.Vault.open.Goals as goal
 
 pub returns-in-Ok-load_tree-clause-rest : goal.returns-in-Ok-load_tree-clause-rest
 returns-in-Ok-load_tree-clause-rest g c =
-    loaded_rests (g.D.Reads.log c.args.folder) (g.D.Reads.log c.in-Ok-open.journal) (g.D.Reads.log c.load_tree.new.journal) c.args.keys.now c.args.now c.args.threshold c.in-Ok-load_tree.tree
-    c.in-Ok-open.ensures.opened c.in-Ok-load_tree.ensures.log c.in-Ok-load_tree.ensures.loaded
+    let tree = c.in-Ok-load_tree.tree in
+    let back = c.new-in-Ok-load_tree.result in
+    rests_idle (sealing_of tree.keys) tree.live tree.claims back.waiting (g.D.Reads.log back.folder) c.new-in-Ok-load_tree.ensures.waiting
+    (subst (λ (d : g.row.D.Denot). Told (g.D.Reads.log d) (IsAtRest (sealing_of tree.keys) tree.live tree.claims)) (sym c.new-in-Ok-load_tree.ensures.folder)
+    (loaded_rests (g.D.Reads.log c.args.folder) (g.D.Reads.log c.in-Ok-open.journal) (g.D.Reads.log c.load_tree.new.journal) c.args.keys.now c.args.now c.args.threshold tree
+    c.in-Ok-open.ensures.opened c.in-Ok-load_tree.ensures.log c.in-Ok-load_tree.ensures.loaded))
 
 pub returns-in-Err-load_tree-clause-too_many : goal.returns-in-Err-load_tree-clause-too_many
 returns-in-Err-load_tree-clause-too_many g c = λ n is.
