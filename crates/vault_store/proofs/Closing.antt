@@ -1,5 +1,5 @@
 -- A store that is closed.
-use Rattle.std.proofs.Common.{◌≡◌, ℕ, List, [], false, true, Option, Some, None, IsNone, OnOk, Result, Ok, Err, refl, sym, ap, subst, ◌∙◌}
+use Rattle.std.proofs.Common.{◌≡◌, ℕ, List, [], false, true, Option, Some, None, IsNone, OnOk, Result, Ok, Err, sym, subst}
 use Rattle.outside.specs.Views.{FolderView}
 use Rattle.deeds.specs.Deeds.{PlainDeed}
 use Rattle.node_changes.specs.declared.tree.VaultTree.{VaultTree}

@@ -9,7 +9,6 @@ use Rattle.outside.proofs.Told.{changed_by, told_always, told_then}
 use Rattle.deeds.specs.Deeds.{PlainDeed}
 use Rattle.chunk_journal.specs.Journal.{AnyMoment, HasCommitted}
 use Rattle.pending_files.specs.Laid.{CanWait, laid, laid_log}
-use Rattle.pending_files.proofs.Laying.{none_waits}
 use Rattle.siv_mode.specs.Keys.{KeyPair}
 use Rattle.tree_model.specs.declared.refusal.Refusal.{Refusal}
 use Rattle.tree_model.specs.declared.refusal.Refusal.TheVariants as refusals
@@ -18,11 +17,11 @@ use Rattle.tree_model.specs.declared.reply.Reply.TheVariants as replies
 use Rattle.tree_model.specs.Rows.{Content, Rows}
 use Rattle.tree_model.specs.Asked.{Asked, PlainReply, PlainRequest, remove, sync, HasCount, IsReplyTo, asked_of, bytes_put, plain_reply, refused}
 use Rattle.tree_model.specs.Step.{Answer, early_refusal, refuses, says, step}
-use Rattle.tree_history.specs.History.{Made, is_refusal, is_stopped, places, rows_then, HasCause, IsAnswered, MayCommit}
+use Rattle.tree_history.specs.History.{Made, is_refusal, is_stopped, places, HasCause, IsAnswered, MayCommit}
 use Rattle.clear_tree.specs.Walk.{Sealing}
 use Rattle.directory_scan.specs.Format.{sealing_of}
 use Rattle.live_tree.specs.Held.{HeldTree, live_rows}
-use Rattle.file_changes.specs.Waiting.{HasPut, IsFlush, IsNotFlushed, MayBeFlushed}
+use Rattle.file_changes.specs.Waiting.{HasPut, IsFlush, IsNotFlushed}
 use Rattle.file_changes.specs.Causes.{ContentCause}
 use Rattle.node_changes.specs.declared.tree.VaultTree.{VaultTree}
 use Rattle.node_changes.specs.declared.error.ChangeErr.{ChangeErr}
@@ -33,9 +32,9 @@ use Rattle.node_changes.specs.Placed.{taken_for}
 use Rattle.node_changes.specs.Removal.{IsRemovalRefusal}
 use Rattle.stop_history.specs.Stable.{is_kept}
 use Rattle.store_history.specs.Store.{StoreView, bounded}
-use Rattle.store_history.specs.Turns.{Draws, IsFlushed, IsQuietTurn, IsTurn, IsUnflushedTurn, Turn, made_of}
+use Rattle.store_history.specs.Turns.{Draws, IsFlushed, IsQuietTurn, IsTurn, Turn, made_of}
 use Rattle.vault_store.specs.declared.answering.Broken.{Broken}
-use Rattle.vault_store.specs.Open.{running, counted, stopped_in, view_of}
+use Rattle.vault_store.specs.Open.{running, counted, view_of}
 use Rattle.vault_store.specs.Outcome.{HasNotFlushed, HasReply, IsFormed, IsFrom, IsOutcome}
 use Rattle.vault_store.specs.Quiet.{IsStill}
 use Rattle.tree_answers.specs.Answers.{IsOwn, IsStepOf}

@@ -25,7 +25,6 @@ use Rattle.tree_answers.specs.Answers.{AreSizes, IsOwn, IsStepOf, IsSizedStepOf,
 use Rattle.node_changes.specs.Causes.{RefusalCause}
 use Rattle.node_changes.specs.Changed.{StandsOn, ShowsRows}
 use Rattle.node_changes.specs.Placed.{taken_for}
-use Rattle.store_history.specs.Store.{StoreView}
 use Rattle.store_history.specs.Turns.{Turn, made_of}
 use Rattle.vault_store.specs.Open.{running, counted}
 use Rattle.vault_store.specs.Quiet.{IsStill, IsStillTurn}

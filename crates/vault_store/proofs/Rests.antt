@@ -21,7 +21,6 @@ use Rattle.directory_scan.specs.Format.{sealing_of}
 use Rattle.live_tree.specs.Held.{HeldTree, live_rows}
 use Rattle.file_changes.specs.Waiting.{IsAtRestOver}
 use Rattle.node_changes.specs.Changed.{IsAtRest, StandsOn, ShowsRows, HasChanged}
-use Rattle.node_changes.specs.declared.tree.VaultTree.{VaultTree}
 use Rattle.store_history.specs.Store.{StoreView}
 use Rattle.store_history.specs.Turns.{Turn, IsQuietTurn, IsChangedTurn, made_of}
 use Rattle.store_history.proofs.Shows.{stands_beside}

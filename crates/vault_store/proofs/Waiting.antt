@@ -1,5 +1,5 @@
 -- Turns of a store in which something waits, by what reads give.
-use Rattle.std.proofs.Common.{◌≡◌, ◌⊎◌, ℕ, List, [], Bool, true, false, ◌&&◌, Option, Some, None, IsSome, Result, Ok, Err, refl, sym, ap, subst, ◌∙◌, inl, inr, true≢false}
+use Rattle.std.proofs.Common.{◌≡◌, ℕ, List, [], Bool, true, false, ◌&&◌, Option, Some, None, IsSome, Result, Ok, Err, refl, sym, ap, subst, ◌∙◌, inl, inr, true≢false}
 use Rattle.std.specs.Option.{option_map}
 use Rattle.outside.specs.Calls.{Told}
 use Rattle.outside.specs.Disk.{Disk}
@@ -14,7 +14,7 @@ use Rattle.tree_model.specs.declared.refusal.Refusal.{Refusal}
 use Rattle.tree_model.specs.declared.reply.Reply.{Reply}
 use Rattle.tree_model.specs.declared.reply.Reply.TheVariants as replies
 use Rattle.tree_model.specs.Rows.{Content}
-use Rattle.tree_model.specs.Asked.{Asked, PlainReply, PlainRequest, look, walk, open_node, create, read, list, write, remove, stat_of, change, sync, asked_of, plain_reply, refused}
+use Rattle.tree_model.specs.Asked.{Asked, PlainReply, PlainRequest, look, walk, open_node, create, read, list, write, remove, stat_of, change, sync, plain_reply, refused}
 use Rattle.tree_model.specs.Step.{IsReading}
 use Rattle.tree_history.specs.History.{Made, rows_then, is_stable, HasCause, IsAnswered}
 use Rattle.directory_scan.specs.Format.{sealing_of}
@@ -23,12 +23,12 @@ use Rattle.node_changes.specs.Changed.{StandsOn, ShowsRows}
 use Rattle.node_changes.specs.Placed.{taken_for}
 use Rattle.stop_history.specs.Stable.{is_kept}
 use Rattle.store_history.specs.Store.{StoreView, moment_of}
-use Rattle.store_history.specs.Turns.{Draws, IsFlushed, IsQuietTurn, IsTakenFor, IsTurn, Turn, made_of}
+use Rattle.store_history.specs.Turns.{Draws, IsFlushed, IsQuietTurn, IsTurn, Turn, made_of}
 use Rattle.store_history.proofs.Alike.{for_alike}
 use Rattle.vault_store.specs.declared.answering.Broken.{Broken}
 use Rattle.node_changes.specs.declared.tree.VaultTree.{VaultTree}
 use Rattle.vault_store.specs.Open.{counted, idle_of, view_of}
-use Rattle.vault_store.specs.Outcome.{HasNotFlushed, HasReply, IsFrom, IsOutcome, IsWork}
+use Rattle.vault_store.specs.Outcome.{HasReply, IsFrom, IsOutcome, IsWork}
 use Rattle.vault_store.specs.Quiet.{IsStill, IsStillTurn}
 use Rattle.vault_store.specs.Reading.{IsUnsynced}
 

@@ -1,5 +1,4 @@
-use Rattle.std.proofs.Common.{◌≡◌, [], true, None, IsSome, is_some, refl, ap, subst, sym, ◌∙◌}
-use Rattle.outside.specs.Disk.{Disk}
+use Rattle.std.proofs.Common.{◌≡◌, [], true, None, IsSome, refl, ap, subst, sym, ◌∙◌}
 use Rattle.outside.specs.Views.{entropy_view, folder_view}
 use Rattle.siv_mode.specs.Keys.{KeyPair}
 use Rattle.directory_scan.specs.Format.{sealing_of}
@@ -47,9 +46,11 @@ returns-in-Err-clause-outcome g c = λ entries buffer.
 
 pub change_idle-requires-clause-planned : goal.change_idle-requires-clause-planned
 change_idle-requires-clause-planned g c =
-    let asked = plain_change c.args.change.now in
-    subst (λ (l : HeldTree). IsPlanned l c.args.number asked c.in-Ok-Ok.plan) (c.live.ensures ∙ ap (λ (t : VaultTree). t.live) (sym c.in-Ok.ensures.tree))
-    (plan_at (IsPlanned c.live.result.now c.args.number asked) c.in-Ok-Ok.field-0 c.in-Ok-Ok.plan c.in-Ok-Ok.plan c.in-Ok-Ok.field-0-is refl c.in-Ok-Ok.ensures.planned)
+    let asked = plain_change c.args.change.now in (
+      asked,
+      subst (λ (l : HeldTree). IsPlanned l c.args.number asked c.in-Ok-Ok.plan) (c.live.ensures ∙ ap (λ (t : VaultTree). t.live) (sym c.in-Ok.ensures.tree))
+          (plan_at (IsPlanned c.live.result.now c.args.number asked) c.in-Ok-Ok.field-0 c.in-Ok-Ok.plan c.in-Ok-Ok.plan c.in-Ok-Ok.field-0-is refl c.in-Ok-Ok.ensures.planned),
+    )
 
 pub change_idle-requires-clause-resizable : goal.change_idle-requires-clause-resizable
 change_idle-requires-clause-resizable g c =

@@ -7,7 +7,7 @@ pub flush-requires : goal.flush-requires
 flush-requires g c =
     let tree = c.args.self.now.tree in
     let back = c.args.self.now.back in
-    rest_quiet (sealing_of tree.keys) tree.live tree.claims back.waiting (g.D.Reads.log back.folder) c.requires.rest
+    record { quiet = rest_quiet (sealing_of tree.keys) tree.live tree.claims back.waiting (g.D.Reads.log back.folder) c.requires.rest }
 
 pub returns-in-Ok-clause-flushed : goal.returns-in-Ok-clause-flushed
 returns-in-Ok-clause-flushed g c = λ entries. record {

@@ -1,4 +1,4 @@
-use Rattle.std.proofs.Common.{◌≡◌, [], None, Ok, is_some, refl, sym, ap, subst, ◌∙◌}
+use Rattle.std.proofs.Common.{[], None, Ok, refl, sym, ap, subst, ◌∙◌}
 use Rattle.outside.specs.Views.{folder_view}
 use Rattle.directory_scan.specs.Format.{sealing_of}
 use Rattle.tree_model.specs.declared.reply.Reply.{Reply}

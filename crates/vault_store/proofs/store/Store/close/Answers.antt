@@ -1,7 +1,6 @@
-use Rattle.std.proofs.Common.{◌≡◌, ℕ, List, [], Option, None, IsNone, OnOk, sym, ap, subst, ◌∙◌}
+use Rattle.std.proofs.Common.{IsNone, OnOk, sym, ap, subst, ◌∙◌}
 use Rattle.outside.specs.Calls.{Changes}
 use Rattle.outside.specs.Views.{folder_view}
-use Rattle.deeds.specs.Deeds.{PlainDeed}
 use Rattle.chunk_journal.specs.Journal.{AnyMoment}
 use Rattle.store_history.specs.Turns.{IsFlushed}
 use Rattle.vault_store.specs.declared.store.Store.TheInside.{Inside}
