@@ -29,7 +29,7 @@ use Rattle.node_changes.specs.Causes.{IsUnchanged}
 use Rattle.node_changes.specs.Placed.{taken_for}
 use Rattle.node_changes.specs.Renaming.{IsRenaming}
 use Rattle.vault_store.specs.Open.{running}
-use Rattle.vault_store.specs.Outcome.{HasReply}
+use Rattle.vault_store.specs.Quiet.{IsStill}
 use Rattle.vault_store.specs.Sizes.{SizesAreHeld}
 use Rattle.vault_store.proofs.Presence.{change_not_removed}
 use Rattle.vault_store.proofs.Replies.{own_cause, own_may}
@@ -125,7 +125,7 @@ module _ (keys : KeyPair) (live : HeldTree) (claims : List (List ℕ × ℕ)) (e
   unchanged_here = record { live = refl; claims = refl; log = refl }
 
   abbrev Replies : Refusal → Type 0
-  Replies refusal = HasReply (running keys live claims entries) (running keys live claims entries) folder folder source source (change number c) second (replies.Refused refusal) buffer buffer
+  Replies refusal = IsStill (running keys live claims entries) (running keys live claims entries) folder folder source source (change number c) second (replies.Refused refusal) buffer buffer
 
   reply_by : (refusal : Refusal) → is_own refusal ≡ true → ((d : Disk) → MayRefuse s (change number c) second (path_on d) refusal d live claims) → Replies refusal
   reply_by refusal own may =

@@ -34,17 +34,19 @@ use Rattle.file_changes.specs.Causes.{ContentCause}
 use Rattle.file_changes.specs.Steps.{IsResizing, dated}
 use Rattle.node_changes.specs.declared.error.ChangeErr.{ChangeErr}
 use Rattle.node_changes.specs.declared.error.ChangeErr.TheVariants as change_errs
-use Rattle.node_changes.specs.Causes.{ErrCause, IfBroken, IfRefused, IsUnchanged}
+use Rattle.node_changes.specs.Causes.{ErrCause, IfBroken, IfRefused, IsUnchanged, RefusalCause}
 use Rattle.node_changes.specs.Changed.{StandsOn, ShowsRows, HasChanged, MayHaveChanged, MayRefuse}
 use Rattle.node_changes.specs.Placed.{taken_for}
 use Rattle.store_history.specs.Store.{StoreView}
-use Rattle.store_history.specs.Turns.{Turn, IsChangedTurn, IsQuietTurn, made_of}
+use Rattle.store_history.specs.Turns.{Turn, IsChangedTurn, made_of}
 use Rattle.vault_store.specs.declared.answering.Broken.{Broken}
 use Rattle.vault_store.specs.Contents.{IsChangedQid}
 use Rattle.vault_store.specs.Open.{running, counted}
-use Rattle.vault_store.specs.Outcome.{IsFormed, IsOutcome, HasReply}
+use Rattle.vault_store.specs.Outcome.{IsFormed, IsWork, HasReply}
+use Rattle.vault_store.specs.Quiet.{IsStill, IsStillTurn}
 use Rattle.vault_store.specs.Sizes.{SizesAreHeld}
 use Rattle.vault_store.proofs.HostReads.{answer_of}
+use Rattle.vault_store.proofs.Waiting.{idle_reply, told_idle}
 use Rattle.vault_store.proofs.Replies.{own_cause, own_may, said_unplaced}
 use Rattle.vault_store.proofs.Turns.{HasDrawn, IsCome, broken_turn, not_made, refused_reply, told_before, told_path, told_path_is, turn_is}
 
@@ -239,24 +241,31 @@ module _ (keys keys' : KeyPair) (live live' : HeldTree) (claims claims' : List (
   -- one of the tree's own
   pub own_reply : (refusal : Refusal) (buffer : List ℕ) → IsUnchanged live live' claims claims' before.log after.log → is_own refusal ≡ true
       → ((d : Disk) (contents : ℕ → Content) → StandsOn s d live claims contents → (step (live_rows contents live) request second).answer ≡ refuses refusal)
-      → HasReply old new before after source source' request second (replies.Refused refusal) buffer buffer
+      → IsStill old new before after source source' request second (replies.Refused refusal) buffer buffer
   own_reply refusal buffer same own is =
       refused_reply keys keys' live live' claims claims' entries before after source source' request second None refusal buffer come same
       (own_cause request (Rose before.faults after.faults) (Rose source.faults source'.faults) refusal own)
       (told_always (disk_in before.log) (PlacedOn refusal) (λ d contents stands path e. absurd (own_not_taken refusal path own e)))
       (told_always (disk_in before.log) (λ d. MayRefuse s request second (path_on d) refusal d live claims) (λ d. own_may s request second (path_on d) refusal d live claims own (λ contents stands. is d contents stands)))
 
+  -- one of a change of a content
+  pub content_refused : (refusal : Refusal) (buffer : List ℕ) → IsUnchanged live live' claims claims' before.log after.log → RefusalCause request (Rose before.faults after.faults) (Rose source.faults source'.faults) refusal
+      → ContentCause (Rose before.faults after.faults) (Rose source.faults source'.faults) refusal → Told (disk_in before.log) (λ d. MayRefuse s request second None refusal d live claims)
+      → IsStill old new before after source source' request second (replies.Refused refusal) buffer buffer
+  content_refused refusal buffer same cause own may =
+      refused_reply keys keys' live live' claims claims' entries before after source source' request second None refusal buffer come same cause
+      (told_always (disk_in before.log) (PlacedOn refusal) (λ d contents stands path e. absurd (not_taken (Rose before.faults after.faults) (Rose source.faults source'.faults) refusal path own e)))
+      (told_then (disk_in before.log) (λ d. MayRefuse s request second None refusal d live claims) (λ d. MayRefuse s request second (path_on d) refusal d live claims) may
+      (λ d may. may_anyway s request second (path_on d) (Rose before.faults after.faults) (Rose source.faults source'.faults) refusal d live claims own may))
+
   -- a change of a content that wasn't made, or whose commit failed
   pub content_err : (error : ChangeErr) (result : Result Reply Broken) (buffer : List ℕ) → IfRefused error (λ refusal. result ≡ Ok (replies.Refused refusal)) → IfBroken error (IsErr result)
       → IfRefused error (λ refusal. IsUnchanged live live' claims claims' before.log after.log) → ErrCause request (Rose before.faults after.faults) (Rose source.faults source'.faults) error
       → IfRefused error (ContentCause (Rose before.faults after.faults) (Rose source.faults source'.faults)) → IfRefused error (λ refusal. Told (disk_in before.log) (λ d. MayRefuse s request second None refusal d live claims))
-      → MayCommit request → IfBroken error (Changes before.log after.log (MayHaveChanged s request second live live' claims claims')) → IsOutcome old new before after source source' request second result buffer buffer
+      → MayCommit request → IfBroken error (Changes before.log after.log (MayHaveChanged s request second live live' claims claims')) → IsWork old new before after source source' request second result buffer buffer
   content_err (change_errs.Refused refusal) result buffer is broken same cause own may can changed =
       not_made keys keys' live live' claims claims' entries before after source source' request second (change_errs.Refused refusal) result buffer is broken
-      (refused_reply keys keys' live live' claims claims' entries before after source source' request second None refusal buffer come same cause
-      (told_always (disk_in before.log) (PlacedOn refusal) (λ d contents stands path e. absurd (not_taken (Rose before.faults after.faults) (Rose source.faults source'.faults) refusal path own e)))
-      (told_then (disk_in before.log) (λ d. MayRefuse s request second None refusal d live claims) (λ d. MayRefuse s request second (path_on d) refusal d live claims) may
-      (λ d may. may_anyway s request second (path_on d) (Rose before.faults after.faults) (Rose source.faults source'.faults) refusal d live claims own may))) tt
+      (idle_reply old new before after source source' request second (replies.Refused refusal) buffer buffer refl refl (content_refused refusal buffer same cause own may)) tt
   content_err change_errs.Broken result buffer is broken same cause own may can changed =
       not_made keys keys' live live' claims claims' entries before after source source' request second change_errs.Broken result buffer is broken tt
       (broken_turn keys keys' live live' claims claims' entries before after source source' request second None buffer come cause can changed)
@@ -287,12 +296,13 @@ module _ (keys keys' : KeyPair) (live live' : HeldTree) (claims claims' : List (
       content_turn : is_refusal (plain_reply reply) ≡ false → Changes before.log after.log ChangedTo → IsChangedTurn old (counted new) before after source source' turn
       content_turn accepted changed = record {
         is_turn = turn_is keys keys' live live' claims claims' entries before after source source' request second None (plain_reply reply) [] None taken false come cause unstopped (told_path_is (disk_in before.log) path_on None);
+        none = (refl, refl);
         goes_on = refl;
         whole = refl;
         accepted = accepted;
-        allowed = told_before before.log after.log ChangedTo AllowedOn
+        allowed = told_idle before.log _ (told_before before.log after.log ChangedTo AllowedOn
             (λ a b is contents stands.
-            inl (sym (is.answer_is contents stands) ∙ sym (said_unplaced (live_rows contents live) request taken (step (live_rows contents live) request second).answer (unplaced (now a) contents stands)))) changed;
+            inl (sym (is.answer_is contents stands) ∙ sym (said_unplaced (live_rows contents live) request taken (step (live_rows contents live) request second).answer (unplaced (now a) contents stands)))) changed);
         changed = changed;
       }
 
@@ -321,7 +331,7 @@ module _ (keys keys' : KeyPair) (live live' : HeldTree) (claims claims' : List (
         shown_on d contents stands true = same_shown d contents stands (live_rows contents live) refl
         shown_on d contents stands false = same_shown d contents stands (step (live_rows contents live) request second).rows (ap (λ (s : Stepped). s.rows) (is d contents stands))
 
-        still_turn : IsQuietTurn old (counted new) before after source source' turn
+        still_turn : IsStillTurn old (counted new) before after source source' turn
         still_turn = record {
           is_turn = turn_is keys keys' live live' claims claims' entries before after source source' request second None (plain_reply reply) [] None taken false come cause unstopped (told_path_is (disk_in before.log) path_on None);
           goes_on = refl;
@@ -333,12 +343,12 @@ module _ (keys keys' : KeyPair) (live live' : HeldTree) (claims claims' : List (
           shown = told_always (disk_in before.log) ShownOn (λ d contents stands. shown_on d contents stands (is_refusal (plain_reply reply)));
         }
 
-        pub still_reply : HasReply old new before after source source' request second reply buffer buffer
+        pub still_reply : IsStill old new before after source source' request second reply buffer buffer
         still_reply = record {
           formed = formed;
           turn = record {
             turn = turn;
             same = ap (λ (bytes : List ℕ). record { request = request; second = second; reply = plain_reply reply; bytes = bytes }) (sym none);
-            is = inl still_turn;
+            is = still_turn;
           };
         }

@@ -29,13 +29,15 @@ use Rattle.change_plans.specs.Plans.{IsPlanned, IsPlannedIn}
 use Rattle.change_plans.specs.declared.planning.Plan.TheVariants as plans
 use Rattle.node_changes.specs.Changed.{StandsOn, ShowsRows}
 use Rattle.node_changes.specs.Placed.{taken_for}
-use Rattle.store_history.specs.Turns.{Turn, IsQuietTurn, made_of}
+use Rattle.store_history.specs.Turns.{Turn, made_of}
 use Rattle.vault_store.specs.Dated.{IsDated}
 use Rattle.vault_store.specs.Open.{running, counted}
 use Rattle.vault_store.specs.Outcome.{HasReply}
+use Rattle.vault_store.specs.Quiet.{IsStillTurn}
 use Rattle.vault_store.specs.Sizes.{SizesAreHeld}
 use Rattle.vault_store.proofs.HostReads.{answer_of}
 use Rattle.vault_store.proofs.Replies.{said_unplaced}
+use Rattle.vault_store.proofs.Waiting.{idle_quiet}
 use Rattle.vault_store.proofs.Turns.{come_undrawn, told_path, told_path_is, turn_is}
 
 -- ---- rows
@@ -136,7 +138,7 @@ module _ (keys keys' : KeyPair) (live live' : HeldTree) (claims claims' : List (
         (subst (λ (r : Rows). ShowsRows s r d live' claims) (ap (λ (t : Stepped). t.rows) (sym (step_is d contents stands is)))
         (dated_shows s d live live' claims contents number c.modified is.row dates is.there (own_number contents live number is.row is.there) stands))
 
-    date_turn : IsQuietTurn (running keys live claims entries) (counted (running keys' live' claims' entries)) folder folder source source turn
+    date_turn : IsStillTurn (running keys live claims entries) (counted (running keys' live' claims' entries)) folder folder source source turn
     date_turn = record {
       is_turn = turn_is keys keys' live live' claims claims' entries folder folder source source (change number c) second None done [] None (told_path (disk_in folder.log) path_on None) false
           (come_undrawn keys keys' folder folder source (change number c) same_keys (omega arith)) tt refl (told_path_is (disk_in folder.log) path_on None);
@@ -150,5 +152,5 @@ module _ (keys keys' : KeyPair) (live live' : HeldTree) (claims claims' : List (
     pub date_reply : (buffer : List ℕ) → HasReply (running keys live claims entries) (running keys' live' claims' entries) folder folder source source (change number c) second replies.Done buffer buffer
     date_reply buffer = record {
       formed = record { form = tt; count = tt; enters = refl; rest = refl };
-      turn = record { turn = turn; same = refl; is = inl date_turn };
+      turn = record { turn = turn; same = refl; is = inl (idle_quiet (running keys live claims entries) (counted (running keys' live' claims' entries)) folder folder source source turn refl refl date_turn) };
     }

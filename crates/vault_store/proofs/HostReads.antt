@@ -1,7 +1,7 @@
 -- What a read of a node answers, and what the sizes of host files tell.
 use Rattle.std.proofs.Common.{◌≡◌, ℕ, ◌≤◌, Bool, true, false, cond, List, length, take, drop, Option, Some, None, IsNone, is_some, Result, map, Ok, Err, IfOk, IfSome, refl, sym, ap, subst, ◌∙◌, arith, inl, inr, length-take}
 use Rattle.std.specs.List.{range_with_len}
-use Rattle.std.specs.Option.{option_map_or, option_and_then}
+use Rattle.std.specs.Option.{option_map, option_map_or, option_and_then}
 use Rattle.std.specs.Result.{result_map_both}
 use Rattle.std.proofs.lemmas.Option.{same_Some}
 use Rattle.siv_mode.specs.Keys.{KeyPair}
@@ -32,7 +32,10 @@ use Rattle.content_reader.specs.Reading.{Ends, RoseUntold, IsFileOf, read_of}
 use Rattle.content_reader.specs.declared.error.ReadErr.{ReadErr}
 use Rattle.content_reader.specs.declared.error.ReadErr.TheVariants.{Device, Damaged}
 use Rattle.content_reader.specs.declared.reader.SealedFile.{SealedFile}
-use Rattle.node_changes.specs.Changed.{StandsOn, IsAtRest}
+use Rattle.deeds.specs.Deeds.{PlainDeed}
+use Rattle.pending_files.specs.Laid.{laid, laid_log}
+use Rattle.file_changes.specs.Waiting.{IsAtRestOver}
+use Rattle.node_changes.specs.Changed.{StandsOn}
 use Rattle.vault_store.specs.Reading.{HasContents, IsHostOf, read_fault, read_fault_of}
 use Rattle.vault_store.specs.Sizes.{SizesAreHeld}
 use Rattle.vault_store.proofs.Replies.{own_cause}
@@ -87,13 +90,13 @@ bytes_at keys disk live contents number size path are sized at =
 pub live_contents : (s : Sealing) (d : Disk) (live : HeldTree) (claims : List (List ℕ × ℕ)) (contents : ℕ → Content) → StandsOn s d live claims contents → AreLiveContents s d live contents
 live_contents s d live claims contents stands = (contents_are_held s d stands.tree live contents stands.is stands.holds).0 stands.are
 
--- and are there where a vault is at rest
-pub rest_contents : (log : Option Log) (keys keys' : KeyPair) (live live' : HeldTree) (claims : List (List ℕ × ℕ)) → keys ≡ keys' → live ≡ live' → Told log (IsAtRest (sealing_of keys') live' claims)
-    → Told (disk_in log) (HasContents (sealing_of keys) live)
-rest_contents None keys keys' live live' claims same_keys same_live rest = tt
-rest_contents (Some log) keys keys' live live' claims same_keys same_live rest =
-    subst (λ (k : KeyPair). HasContents (sealing_of k) live (now log)) (sym same_keys) (subst (λ (l : HeldTree). HasContents (sealing_of keys') l (now log)) (sym same_live)
-    (record { contents = rest.contents; are = live_contents (sealing_of keys') (now log) live' claims rest.contents rest.stands }))
+-- and are there where a vault is at rest, once what waits is done
+pub rest_contents : (log : Option Log) (waiting : List PlainDeed) (keys keys' : KeyPair) (live live' : HeldTree) (claims : List (List ℕ × ℕ)) → keys ≡ keys' → live ≡ live' → Told log (IsAtRestOver (sealing_of keys') live' claims waiting)
+    → Told (disk_in (option_map (laid_log waiting) log)) (HasContents (sealing_of keys) live)
+rest_contents None waiting keys keys' live live' claims same_keys same_live rest = tt
+rest_contents (Some log) waiting keys keys' live live' claims same_keys same_live rest =
+    subst (λ (k : KeyPair). HasContents (sealing_of k) live (laid waiting (now log))) (sym same_keys) (subst (λ (l : HeldTree). HasContents (sealing_of keys') l (laid waiting (now log))) (sym same_live)
+    (record { contents = rest.contents; are = live_contents (sealing_of keys') (laid waiting (now log)) live' claims rest.contents rest.stands }))
 
 -- ---- sizes
 

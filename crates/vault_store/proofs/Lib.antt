@@ -1,4 +1,5 @@
 pub mod Replies
+pub mod Waiting
 pub mod Turns
 pub mod Presence
 pub mod Lookups
@@ -10,3 +11,4 @@ pub mod ContentTurns
 pub mod Changes
 pub mod Serving
 pub mod Loads
+pub mod Flushes

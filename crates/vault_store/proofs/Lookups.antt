@@ -26,10 +26,9 @@ use Rattle.node_changes.specs.Causes.{RefusalCause}
 use Rattle.node_changes.specs.Changed.{StandsOn, ShowsRows}
 use Rattle.node_changes.specs.Placed.{taken_for}
 use Rattle.store_history.specs.Store.{StoreView}
-use Rattle.store_history.specs.Turns.{Turn, IsQuietTurn, made_of}
+use Rattle.store_history.specs.Turns.{Turn, made_of}
 use Rattle.vault_store.specs.Open.{running, counted}
-use Rattle.vault_store.specs.Outcome.{HasReply}
-use Rattle.vault_store.specs.Quiet.{IsKeptReply}
+use Rattle.vault_store.specs.Quiet.{IsStill, IsStillTurn}
 use Rattle.vault_store.proofs.Replies.{enters, has_cause, no_bytes, not_stopped, own_cause, said_untaken}
 use Rattle.vault_store.proofs.Turns.{come_undrawn, turn_is}
 
@@ -148,7 +147,7 @@ module _ (keys : KeyPair) (live : HeldTree) (claims : List (List ℕ × ℕ)) (b
     abbrev made : EntropyView → Made
     made source = made_of turn before after source source
 
-    kept_turn : (source : EntropyView) → IsQuietTurn (running keys live claims entries) (counted (running keys live claims entries)) before after source source turn
+    kept_turn : (source : EntropyView) → IsStillTurn (running keys live claims entries) (counted (running keys live claims entries)) before after source source turn
     kept_turn source = record {
       is_turn = turn_is keys keys live live claims claims entries before after source source request second None (plain_reply reply) (bytes_put request (plain_reply reply) buffer') None None false
           (come_undrawn keys keys before after source request refl later) (reply_cause (made source) (plain_reply reply) is.caused unplaced.never) (reply_unstopped request before.faults after.faults (plain_reply reply) is.caused)
@@ -164,10 +163,10 @@ module _ (keys : KeyPair) (live : HeldTree) (claims : List (List ℕ × ℕ)) (b
           (λ d contents stands. record { contents = contents; stands = stands; shows = ap wrapped (sym (stays (live_rows contents live) request second (plain_reply reply) is.rows)) });
     }
 
-    pub kept_reply : IsKeptReply (running keys live claims entries) before after request second reply buffer buffer'
-    kept_reply = record {
+    pub kept_reply : (source : EntropyView) → IsStill (running keys live claims entries) (running keys live claims entries) before after source source request second reply buffer buffer'
+    kept_reply source = record {
       formed = record { form = is.form; count = is.count; enters = reply_enters request before.faults after.faults (plain_reply reply) is.caused; rest = is.rest };
-      turn = λ source. record { turn = turn; same = refl; is = kept_turn source };
+      turn = record { turn = turn; same = refl; is = kept_turn source };
     }
 
   -- ---- by what is said of answers
@@ -228,33 +227,18 @@ module _ (keys : KeyPair) (live : HeldTree) (claims : List (List ℕ × ℕ)) (b
       (subst (λ (b : List ℕ). IsRead (replies.Refused refusals.OutOfMemory) buffer b) (sym same) (memory_read buffer may other))
 
 -- the same of the request as it was asked
-pub kept_here : (keys keys' : KeyPair) (live live' : HeldTree) (claims : List (List ℕ × ℕ)) (entries : ℕ) (before after : FolderView) (request known : PlainRequest) (second : ℕ) (reply : Reply) (buffer buffer' : List ℕ) → keys ≡ keys'
-    → live ≡ live' → request ≡ known → IsKeptReply (running keys live claims entries) before after known second reply buffer buffer' → IsKeptReply (running keys' live' claims entries) before after request second reply buffer buffer'
-kept_here keys keys' live live' claims entries before after request known second reply buffer buffer' same_keys same_live same is =
-    subst (λ (k : KeyPair). IsKeptReply (running k live' claims entries) before after request second reply buffer buffer') same_keys
-    (subst (λ (l : HeldTree). IsKeptReply (running keys l claims entries) before after request second reply buffer buffer') same_live
-    (subst (λ (r : PlainRequest). IsKeptReply (running keys live claims entries) before after r second reply buffer buffer') (sym same) is))
+pub kept_here : (keys keys' : KeyPair) (live live' : HeldTree) (claims : List (List ℕ × ℕ)) (entries : ℕ) (before after : FolderView) (source : EntropyView) (request known : PlainRequest) (second : ℕ) (reply : Reply) (buffer buffer' : List ℕ)
+    → keys ≡ keys' → live ≡ live' → request ≡ known → IsStill (running keys live claims entries) (running keys live claims entries) before after source source known second reply buffer buffer'
+    → IsStill (running keys' live' claims entries) (running keys' live' claims entries) before after source source request second reply buffer buffer'
+kept_here keys keys' live live' claims entries before after source request known second reply buffer buffer' same_keys same_live same is =
+    subst (λ (k : KeyPair). IsStill (running k live' claims entries) (running k live' claims entries) before after source source request second reply buffer buffer') same_keys
+    (subst (λ (l : HeldTree). IsStill (running keys l claims entries) (running keys l claims entries) before after source source request second reply buffer buffer') same_live
+    (subst (λ (r : PlainRequest). IsStill (running keys live claims entries) (running keys live claims entries) before after source source r second reply buffer buffer') (sym same) is))
 
 -- the reply to a known request whose node is looked at in memory alone
-pub looked_up : (keys : KeyPair) (live live' : HeldTree) (claims : List (List ℕ × ℕ)) (entries : ℕ) (folder : FolderView) (request known : PlainRequest) (second : ℕ) (reply : Reply) (buffer buffer' : List ℕ) → live ≡ live' → request ≡ known
-    → IsUnplaced known → IsRead keys live claims folder folder known reply buffer buffer' → IsKeptReply (running keys live' claims entries) folder folder request second reply buffer buffer'
-looked_up keys live live' claims entries folder request known second reply buffer buffer' same_live same unplaced is =
-    kept_here keys keys live live' claims entries folder folder request known second reply buffer buffer' refl same_live same
-    (kept_reply keys live claims folder folder known entries second reply buffer buffer' is unplaced (omega arith) refl)
-
--- such a reply is what a request comes to
-pub kept_outcome : (store : StoreView) (before after : FolderView) (source : EntropyView) (request : PlainRequest) (second : ℕ) (reply : Reply) (buffer buffer' : List ℕ) → IsKeptReply store before after request second reply buffer buffer'
-    → HasReply store store before after source source request second reply buffer buffer'
-kept_outcome store before after source request second reply buffer buffer' is =
-    let turn = is.turn source in record {
-      formed = is.formed;
-      turn = record { turn = turn.turn; same = turn.same; is = inl turn.is };
-    }
-
-pub kept_log : (store : StoreView) (before after : FolderView) (source : EntropyView) (request : PlainRequest) (second : ℕ) (reply : Reply) (buffer buffer' : List ℕ) → IsKeptReply store before after request second reply buffer buffer'
-    → after.log ≡ before.log
-kept_log store before after source request second reply buffer buffer' is = (is.turn source).is.log
-
-pub kept_later : (store : StoreView) (before after : FolderView) (source : EntropyView) (request : PlainRequest) (second : ℕ) (reply : Reply) (buffer buffer' : List ℕ) → IsKeptReply store before after request second reply buffer buffer'
-    → before.faults ≤ after.faults
-kept_later store before after source request second reply buffer buffer' is = (is.turn source).is.is_turn.folder
+pub looked_up : (keys : KeyPair) (live live' : HeldTree) (claims : List (List ℕ × ℕ)) (entries : ℕ) (folder : FolderView) (source : EntropyView) (request known : PlainRequest) (second : ℕ) (reply : Reply) (buffer buffer' : List ℕ) → live ≡ live'
+    → request ≡ known → IsUnplaced known → IsRead keys live claims folder folder known reply buffer buffer'
+    → IsStill (running keys live' claims entries) (running keys live' claims entries) folder folder source source request second reply buffer buffer'
+looked_up keys live live' claims entries folder source request known second reply buffer buffer' same_live same unplaced is =
+    kept_here keys keys live live' claims entries folder folder source request known second reply buffer buffer' refl same_live same
+    (kept_reply keys live claims folder folder known entries second reply buffer buffer' is unplaced (omega arith) refl source)

@@ -1,10 +1,14 @@
 -- After a reply a vault is at rest again.
-use Rattle.std.proofs.Common.{◌≡◌, ◌⊎◌, ℕ, List, OnOk, Option, Result, Ok, Err, sym, subst, inl, inr}
-use Rattle.outside.specs.Calls.{Told}
+use Rattle.std.proofs.Common.{◌≡◌, ◌⊎◌, ℕ, List, [], OnOk, Option, Result, Ok, Err, sym, subst, inl, inr}
+use Rattle.outside.specs.Calls.{Changes, Told}
 use Rattle.outside.specs.Disk.{Disk}
 use Rattle.outside.specs.Images.{Log, now}
 use Rattle.outside.specs.Views.{FolderView, EntropyView}
-use Rattle.outside.proofs.Told.{told_both, told_new, changed_from}
+use Rattle.outside.proofs.Told.{told_both, told_new, told_then, changed_from}
+use Rattle.deeds.specs.Deeds.{PlainDeed}
+use Rattle.chunk_journal.specs.Journal.{HasCommitted, IsQuiet}
+use Rattle.pending_files.specs.Laid.{CanWait, laid}
+use Rattle.pending_files.proofs.Laying.{none_waits}
 use Rattle.siv_mode.specs.Keys.{KeyPair}
 use Rattle.tree_model.specs.declared.reply.Reply.{Reply}
 use Rattle.tree_model.specs.Rows.{Content}
@@ -14,14 +18,47 @@ use Rattle.tree_history.specs.History.{rows_then, answer_of}
 use Rattle.clear_tree.specs.Walk.{Sealing}
 use Rattle.directory_scan.specs.Format.{sealing_of}
 use Rattle.live_tree.specs.Held.{HeldTree, live_rows}
+use Rattle.file_changes.specs.Waiting.{IsAtRestOver}
 use Rattle.node_changes.specs.Changed.{IsAtRest, StandsOn, ShowsRows, HasChanged}
+use Rattle.node_changes.specs.declared.tree.VaultTree.{VaultTree}
 use Rattle.store_history.specs.Store.{StoreView}
 use Rattle.store_history.specs.Turns.{Turn, IsQuietTurn, IsChangedTurn, made_of}
 use Rattle.store_history.proofs.Shows.{stands_beside}
 use Rattle.vault_store.specs.declared.answering.Broken.{Broken}
 use Rattle.vault_store.specs.Open.{running, counted}
-use Rattle.vault_store.specs.Outcome.{IsOutcome}
-use Rattle.vault_store.proofs.Turns.{told_log}
+use Rattle.vault_store.specs.Outcome.{IsWork}
+
+-- ---- with nothing that waits
+
+over_nothing : (s : Sealing) (live : HeldTree) (claims : List (List ℕ × ℕ)) (log : Log) → IsAtRest s live claims log → IsAtRestOver s live claims [] log
+over_nothing s live claims log is = record { quiet = is.quiet; waits = none_waits (now log); contents = is.contents; stands = is.stands }
+
+pub rests_idle : (s : Sealing) (live : HeldTree) (claims : List (List ℕ × ℕ)) (waiting : List PlainDeed) (log : Option Log) → waiting ≡ [] → Told log (IsAtRest s live claims) → Told log (IsAtRestOver s live claims waiting)
+rests_idle s live claims waiting log none rest =
+    subst (λ (w : List PlainDeed). Told log (IsAtRestOver s live claims w)) (sym none) (told_then log (IsAtRest s live claims) (IsAtRestOver s live claims []) rest (over_nothing s live claims))
+
+-- ---- once what waits is committed
+
+flushed_on : (s : Sealing) (live : HeldTree) (claims : List (List ℕ × ℕ)) (waiting : List PlainDeed) (a b : Log) → IsAtRestOver s live claims waiting a → HasCommitted waiting a b → IsAtRest s live claims b
+flushed_on s live claims waiting a b rest committed = record {
+  quiet = committed.at_rest;
+  contents = rest.contents;
+  stands = stands_beside s (laid waiting (now a)) (now b) live claims rest.contents rest.stands committed.at_rest.steady.tree (committed.after (laid waiting (now a)) rest.waits.does);
+}
+
+pub rests_flushed : (s : Sealing) (live : HeldTree) (claims : List (List ℕ × ℕ)) (waiting : List PlainDeed) (before after : Option Log) → Told before (IsAtRestOver s live claims waiting) → Changes before after (HasCommitted waiting) → Told after (IsAtRest s live claims)
+rests_flushed s live claims waiting before after rest committed =
+    told_new before after (λ a b. IsAtRest s live claims b) (IsAtRest s live claims) (λ a b is. is)
+    (changed_from before after (IsAtRestOver s live claims waiting) (HasCommitted waiting) (λ a b. IsAtRest s live claims b) (flushed_on s live claims waiting) rest committed)
+
+-- what a vault at rest has
+pub rest_quiet : (s : Sealing) (live : HeldTree) (claims : List (List ℕ × ℕ)) (waiting : List PlainDeed) (log : Option Log) → Told log (IsAtRestOver s live claims waiting) → Told log IsQuiet
+rest_quiet s live claims waiting log rest = told_then log (IsAtRestOver s live claims waiting) IsQuiet rest (λ l is. is.quiet)
+
+pub rest_waits : (s : Sealing) (live : HeldTree) (claims : List (List ℕ × ℕ)) (waiting : List PlainDeed) (log : Option Log) → Told log (IsAtRestOver s live claims waiting) → Told log (λ log. CanWait waiting (now log))
+rest_waits s live claims waiting log rest = told_then log (IsAtRestOver s live claims waiting) (λ log. CanWait waiting (now log)) rest (λ l is. is.waits)
+
+-- ---- after a request's own work
 
 -- a committed change leaves it so
 rests_changed : (s : Sealing) (request : PlainRequest) (second : ℕ) (answer : Answer) (live live' : HeldTree) (claims claims' : List (List ℕ × ℕ)) (a b : Log) → IsAtRest s live claims a
@@ -51,7 +88,7 @@ module _ (keys keys' : KeyPair) (live live' : HeldTree) (claims claims' : List (
     rests_quiet : IsQuietTurn old (counted new) before after source source' turn → Told after.log (IsAtRest s live' claims')
     rests_quiet is =
         subst (λ (o : Option Log). Told o (IsAtRest s live' claims')) (sym is.log)
-        (told_both before.log (IsAtRest s live claims) (λ log. ShownOn (now log)) (IsAtRest s live' claims') rest (told_log before.log ShownOn is.shown)
+        (told_both before.log (IsAtRest s live claims) (λ log. ShownOn (now log)) (IsAtRest s live' claims') rest is.shown
         (λ log rest shown.
         let shows = shown rest.contents rest.stands in
         record { quiet = rest.quiet; contents = shows.contents; stands = shows.stands }))
@@ -72,8 +109,9 @@ module _ (keys keys' : KeyPair) (live live' : HeldTree) (claims claims' : List (
     rests_turn (inl quiet) = rests_quiet quiet
     rests_turn (inr changed) = rests_after changed
 
-  pub rests : (request : PlainRequest) (second : ℕ) (result : Result Reply Broken) (buffer buffer' : List ℕ) → keys' ≡ keys → Told before.log (IsAtRest (sealing_of keys) live claims)
-      → IsOutcome old new before after source source' request second result buffer buffer' → OnOk result (Told after.log (IsAtRest (sealing_of keys') live' claims'))
-  rests request second (Ok reply) buffer buffer' same rest is =
-      subst (λ (k : KeyPair). Told after.log (IsAtRest (sealing_of k) live' claims')) (sym same) (rests_turn is.turn.turn rest is.turn.is)
-  rests request second (Err broken) buffer buffer' same rest is = tt
+  pub rests : (request : PlainRequest) (second : ℕ) (result : Result Reply Broken) (buffer buffer' : List ℕ) (waiting : List PlainDeed) → keys' ≡ keys → waiting ≡ [] → Told before.log (IsAtRest (sealing_of keys) live claims)
+      → IsWork old new before after source source' request second result buffer buffer' → OnOk result (Told after.log (IsAtRestOver (sealing_of keys') live' claims' waiting))
+  rests request second (Ok reply) buffer buffer' waiting same none rest is =
+      rests_idle (sealing_of keys') live' claims' waiting after.log none
+      (subst (λ (k : KeyPair). Told after.log (IsAtRest (sealing_of k) live' claims')) (sym same) (rests_turn is.turn.turn rest is.turn.is))
+  rests request second (Err broken) buffer buffer' waiting same none rest is = tt

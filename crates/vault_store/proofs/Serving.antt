@@ -11,10 +11,11 @@ use Rattle.directory_scan.specs.Format.{sealing_of}
 use Rattle.node_changes.specs.Placed.{taken_for}
 use Rattle.store_history.specs.Store.{StoreView}
 use Rattle.store_history.specs.Turns.{AddsEntry, Turn, IsQuietTurn, IsChangedTurn}
-use Rattle.store_history.proofs.Turns.{quiet_turns_add, changed_turns_add, broken_turns_add}
+use Rattle.store_history.proofs.Flushed.{flushed_turns_add}
+use Rattle.store_history.proofs.Turns.{quiet_turns_add, changed_turns_add, broken_turns_add, unflushed_turns_add}
 use Rattle.store_history.proofs.Stopped.{stopped_turns_add}
 use Rattle.vault_store.specs.Open.{counted, stopped_in}
-use Rattle.vault_store.specs.Outcome.{IsFormed, HasReply, HasBroken}
+use Rattle.vault_store.specs.Outcome.{IsFormed, IsFrom, HasReply, HasBroken, HasNotFlushed}
 use Rattle.vault_store.proofs.Turns.{told_path, told_path_is}
 
 pub record IsServed (old new : StoreView) (before after : FolderView) (source source' : EntropyView) (request : PlainRequest) (second : ℕ) (reply : Reply) (buffer buffer' : List ℕ) : Type 0 where
@@ -31,28 +32,66 @@ served_as old new new' before after after' source source' source'' request secon
     (subst (λ (r : Reply). IsServed old new' before after' source source'' request second r buffer buffer') (sym d)
     (subst (λ (l : List ℕ). IsServed old new' before after' source source'' request second reply' buffer l) (sym e) is))))
 
+-- what waits may have been committed before
+from_before : (old new : StoreView) (before after : FolderView) (asked : Asked) (source source' : EntropyView) (P : StoreView → FolderView → Type 0) → ((between : StoreView) (amid : FolderView) → P between amid → AddsEntry between new amid after asked source source')
+    → IsFrom old before P → AddsEntry old new before after asked source source'
+from_before old new before after asked source source' P adds is =
+    elim is.flushed [
+      | inl same ↦
+          subst (λ (s : StoreView). AddsEntry s new before after asked source source') same.0
+          (subst (λ (f : FolderView). AddsEntry is.between new f after asked source source') same.1 (adds is.between is.amid is.is))
+      | inr flushed ↦ flushed_turns_add old is.between new before is.amid after asked source source' flushed (adds is.between is.amid is.is)
+    ]
+
 module _ (old new : StoreView) (before after : FolderView) (source source' : EntropyView) (request : PlainRequest) (second : ℕ) where
-  replied : (turn : Turn) → IsQuietTurn old (counted new) before after source source' turn ⊎ IsChangedTurn old (counted new) before after source source' turn → AddsEntry old (counted new) before after turn.asked source source'
-  replied turn (inl quiet) = quiet_turns_add old (counted new) before after source source' turn quiet
-  replied turn (inr changed) = changed_turns_add old (counted new) before after source source' turn changed
+  replied : (between : StoreView) (amid : FolderView) (turn : Turn) → IsQuietTurn between (counted new) amid after source source' turn ⊎ IsChangedTurn between (counted new) amid after source source' turn
+      → AddsEntry between (counted new) amid after turn.asked source source'
+  replied between amid turn (inl quiet) = quiet_turns_add between (counted new) amid after source source' turn quiet
+  replied between amid turn (inr changed) = changed_turns_add between (counted new) amid after source source' turn changed
 
-  pub served_reply : (reply : Reply) (buffer buffer' : List ℕ) → HasReply old new before after source source' request second reply buffer buffer' → IsServed old (counted new) before after source source' request second reply buffer buffer'
-  served_reply reply buffer buffer' is = record {
-    entry = subst (λ (asked : Asked). AddsEntry old (counted new) before after asked source source') is.turn.same (replied is.turn.turn is.turn.is);
-    formed = is.formed;
-  }
+  -- ---- a reply
 
-  pub served_broken : (buffer buffer' : List ℕ) → HasBroken old new before after source source' request second buffer buffer'
-      → IsServed old (stopped_in new) before after source source' request second (replies.Refused refusals.DeviceFault) buffer buffer'
-  served_broken buffer buffer' is = record {
-    entry = subst (λ (asked : Asked). AddsEntry old (stopped_in new) before after asked source source') is.turn.same (broken_turns_add old (stopped_in new) before after source source' is.turn.turn is.turn.is);
-    formed = record {
-      form = tt;
-      count = tt;
-      enters = refl;
-      rest = ap (λ (l : List ℕ). drop (length (bytes_put request (refused refusals.DeviceFault) buffer')) l) is.buffer_is;
-    };
-  }
+  module _ (reply : Reply) (buffer buffer' : List ℕ) where
+    abbrev Replies : StoreView → FolderView → Type 0
+    Replies between amid = HasReply between new amid after source source' request second reply buffer buffer'
+
+    reply_adds : (between : StoreView) (amid : FolderView) → Replies between amid → AddsEntry between (counted new) amid after (asked_of request second (plain_reply reply) buffer') source source'
+    reply_adds between amid is = subst (λ (asked : Asked). AddsEntry between (counted new) amid after asked source source') is.turn.same (replied between amid is.turn.turn is.turn.is)
+
+    pub served_reply : IsFrom old before Replies → IsServed old (counted new) before after source source' request second reply buffer buffer'
+    served_reply is = record {
+      entry = from_before old (counted new) before after (asked_of request second (plain_reply reply) buffer') source source' Replies reply_adds is;
+      formed = is.is.formed;
+    }
+
+  -- ---- a commit that failed
+
+  module _ (buffer buffer' : List ℕ) where
+    abbrev Breaks : StoreView → FolderView → Type 0
+    Breaks between amid = HasBroken between new amid after source source' request second buffer buffer'
+
+    break_adds : (between : StoreView) (amid : FolderView) → Breaks between amid → AddsEntry between (stopped_in new) amid after (asked_of request second (refused refusals.DeviceFault) buffer') source source'
+    break_adds between amid is =
+        subst (λ (asked : Asked). AddsEntry between (stopped_in new) amid after asked source source') is.turn.same (broken_turns_add between (stopped_in new) amid after source source' is.turn.turn is.turn.is)
+
+    faulted : AddsEntry old (stopped_in new) before after (asked_of request second (refused refusals.DeviceFault) buffer') source source' → buffer' ≡ buffer
+        → IsServed old (stopped_in new) before after source source' request second (replies.Refused refusals.DeviceFault) buffer buffer'
+    faulted adds same = record {
+      entry = adds;
+      formed = record {
+        form = tt;
+        count = tt;
+        enters = refl;
+        rest = ap (λ (l : List ℕ). drop (length (bytes_put request (refused refusals.DeviceFault) buffer')) l) same;
+      };
+    }
+
+    pub served_broken : HasNotFlushed old new before after source source' request second buffer buffer' ⊎ IsFrom old before Breaks
+        → IsServed old (stopped_in new) before after source source' request second (replies.Refused refusals.DeviceFault) buffer buffer'
+    served_broken (inl is) =
+        faulted (subst (λ (asked : Asked). AddsEntry old (stopped_in new) before after asked source source') is.turn.same (unflushed_turns_add old (stopped_in new) before after source source' is.turn.turn is.turn.is)) is.buffer_is
+    served_broken (inr is) =
+        faulted (from_before old (stopped_in new) before after (asked_of request second (refused refusals.DeviceFault) buffer') source source' Breaks break_adds is) is.is.buffer_is
 
 -- a store that stopped
 module _ (old : StoreView) (folder : FolderView) (source : EntropyView) (request : PlainRequest) (second number : ℕ) (buffer : List ℕ) (stops : old.stopped ≡ Some number) where

@@ -26,10 +26,12 @@ use Rattle.node_changes.specs.Creation.{HasCreated, IsDraw}
 use Rattle.node_changes.specs.Placed.{GoesOn, IfDrawn, IsIdentifierOf, taken_for}
 use Rattle.node_changes.specs.Renaming.{HasRenamed}
 use Rattle.store_history.specs.Store.{StoreView, bounded}
-use Rattle.store_history.specs.Turns.{Draws, IsTakenFor, IsTurn, IsQuietTurn, IsChangedTurn, Turn, made_of}
+use Rattle.store_history.specs.Turns.{Draws, IsTakenFor, IsTurn, IsChangedTurn, Turn, made_of}
 use Rattle.vault_store.specs.declared.answering.Broken.{Broken}
 use Rattle.vault_store.specs.Open.{running, counted}
-use Rattle.vault_store.specs.Outcome.{IsFormed, IsOutcome, HasReply, HasBroken}
+use Rattle.vault_store.specs.Outcome.{IsFormed, IsWork, HasReply, HasBroken}
+use Rattle.vault_store.specs.Quiet.{IsStill, IsStillTurn}
+use Rattle.vault_store.proofs.Waiting.{idle_reply, told_idle}
 use Rattle.vault_store.proofs.Replies.{has_cause, not_stopped, enters, no_bytes, named_place, may_refuse, said_untaken}
 
 -- ---- what is told
@@ -128,7 +130,7 @@ module _ (keys keys' : KeyPair) (live live' : HeldTree) (claims claims' : List (
 
   pub turn_is : (stopped : Option ℕ) (reply : PlainReply) (bytes : List ℕ) (drawn : Option (List ℕ)) (taken : Option HostPath) (failed : Bool) → HasCome drawn → HasCause (made reply bytes drawn taken failed) reply → is_stopped reply ≡ false
       → IsTakenFor old before request drawn taken
-      → IsTurn old (record { keys = keys'; live = live'; claims = claims'; entries = bounded (suc entries); stopped = stopped }) before after source source' (turn_of reply bytes drawn taken failed)
+      → IsTurn old (record { keys = keys'; live = live'; claims = claims'; waiting = []; entries = bounded (suc entries); stopped = stopped }) before after source source' (turn_of reply bytes drawn taken failed)
   turn_is stopped reply bytes drawn taken failed come cause unstopped place = record {
     running = refl;
     keys = come.keys_are;
@@ -152,7 +154,7 @@ module _ (keys keys' : KeyPair) (live live' : HeldTree) (claims claims' : List (
   refusal_turn : (refusal : Refusal) (drawn : Option (List ℕ)) (taken : Option HostPath) → HasCome drawn → IsUnchanged live live' claims claims' before.log after.log
       → RefusalCause request (Rose before.faults after.faults) (Rose source.faults source'.faults) refusal
       → (MayPlace request → (path : HostPath) → refusal ≡ refusals.PlaceTaken path → taken ≡ Some path) → IsTakenFor old before request drawn taken → AllowedAs (made (refused refusal) [] drawn taken false)
-      → IsQuietTurn old (counted new) before after source source' (turn_of (refused refusal) [] drawn taken false)
+      → IsStillTurn old (counted new) before after source source' (turn_of (refused refusal) [] drawn taken false)
   refusal_turn refusal drawn taken come same cause named place allowed = record {
     is_turn = turn_is None (refused refusal) [] drawn taken false come (has_cause (made (refused refusal) [] drawn taken false) refusal cause named)
         (not_stopped request (Rose before.faults after.faults) (Rose source.faults source'.faults) refusal cause) place;
@@ -171,13 +173,13 @@ module _ (keys keys' : KeyPair) (live live' : HeldTree) (claims claims' : List (
   pub refusal_reply : (refusal : Refusal) (drawn : Option (List ℕ)) (taken : Option HostPath) (buffer : List ℕ) → HasCome drawn → IsUnchanged live live' claims claims' before.log after.log
       → RefusalCause request (Rose before.faults after.faults) (Rose source.faults source'.faults) refusal
       → (MayPlace request → (path : HostPath) → refusal ≡ refusals.PlaceTaken path → taken ≡ Some path) → IsTakenFor old before request drawn taken → AllowedAs (made (refused refusal) [] drawn taken false)
-      → HasReply old new before after source source' request second (replies.Refused refusal) buffer buffer
+      → IsStill old new before after source source' request second (replies.Refused refusal) buffer buffer
   refusal_reply refusal drawn taken buffer come same cause named place allowed = record {
     formed = record { form = tt; count = tt; enters = enters request (Rose before.faults after.faults) (Rose source.faults source'.faults) refusal cause; rest = refl };
     turn = record {
       turn = turn_of (refused refusal) [] drawn taken false;
       same = refusal_asked refusal buffer;
-      is = inl (refusal_turn refusal drawn taken come same cause named place allowed);
+      is = refusal_turn refusal drawn taken come same cause named place allowed;
     };
   }
 
@@ -213,7 +215,7 @@ module _ (keys keys' : KeyPair) (live live' : HeldTree) (claims claims' : List (
 
     pub refused_reply : (refusal : Refusal) (buffer : List ℕ) → HasCome drawn → IsUnchanged live live' claims claims' before.log after.log
         → RefusalCause request (Rose before.faults after.faults) (Rose source.faults source'.faults) refusal → Places refusal → Told (disk_in before.log) (MayOn refusal)
-        → HasReply old new before after source source' request second (replies.Refused refusal) buffer buffer
+        → IsStill old new before after source source' request second (replies.Refused refusal) buffer buffer
     refused_reply refusal buffer come same cause placed may =
         refusal_reply refusal drawn (taken_at refusal) buffer come same cause (λ can path is. named (disk_in before.log) refusal path may is)
         (told_path_is (disk_in before.log) path_on (named_place refusal)) (refusal_allowed refusal placed may)
@@ -233,10 +235,11 @@ module _ (keys keys' : KeyPair) (live live' : HeldTree) (claims claims' : List (
     changed_turn reply come accepted unstopped cause untaken change = record {
       is_turn = turn_is None reply [] drawn None false come cause unstopped
           (told_then (disk_in before.log) (λ d. path_on d ≡ None) (λ d. None ≡ path_on d) untaken (λ d none. sym none));
+      none = (refl, refl);
       goes_on = refl;
       whole = refl;
       accepted = accepted;
-      allowed = changed_allowed reply change;
+      allowed = told_idle before.log _ (changed_allowed reply change);
       changed = change;
     }
 
@@ -273,11 +276,12 @@ module _ (keys keys' : KeyPair) (live live' : HeldTree) (claims claims' : List (
         same = refusal_asked refusals.DeviceFault buffer;
         is = record {
           is_turn = turn_is (Some entries) (refused refusals.DeviceFault) [] drawn broken_at true come rose refl (told_path_is (disk_in before.log) path_on None);
+          none = refl;
           stops = refl;
           failed = refl;
           reply = refl;
           may_commit = can;
-          allowed = broken_allowed change;
+          allowed = told_idle before.log _ (broken_allowed change);
           changed = change;
         };
       };
@@ -288,8 +292,8 @@ module _ (keys keys' : KeyPair) (live live' : HeldTree) (claims claims' : List (
 
   pub not_made : (error : ChangeErr) (result : Result Reply Broken) (buffer : List ℕ) → IfRefused error (λ refusal. result ≡ Ok (replies.Refused refusal)) → IfBroken error (IsErr result)
       → IfRefused error (λ refusal. HasReply old new before after source source' request second (replies.Refused refusal) buffer buffer)
-      → IfBroken error (HasBroken old new before after source source' request second buffer buffer) → IsOutcome old new before after source source' request second result buffer buffer
-  not_made (change_errs.Refused refusal) result buffer is broken reply stop = subst (λ (r : Result Reply Broken). IsOutcome old new before after source source' request second r buffer buffer) (sym is) reply
+      → IfBroken error (HasBroken old new before after source source' request second buffer buffer) → IsWork old new before after source source' request second result buffer buffer
+  not_made (change_errs.Refused refusal) result buffer is broken reply stop = subst (λ (r : Result Reply Broken). IsWork old new before after source source' request second r buffer buffer) (sym is) reply
   not_made change_errs.Broken (Ok reply) buffer is broken made stop = let no : false ≡ true = broken in absurd cc
   not_made change_errs.Broken (Err b) buffer is broken made stop = stop
 
@@ -313,9 +317,9 @@ module _ (keys keys' : KeyPair) (live live' : HeldTree) (claims claims' : List (
     pub change_err : (error : ChangeErr) (result : Result Reply Broken) (buffer : List ℕ) → IfRefused error (λ refusal. result ≡ Ok (replies.Refused refusal)) → IfBroken error (IsErr result) → HasCome drawn
         → IfRefused error (λ refusal. IsUnchanged live live' claims claims' before.log after.log) → ErrCause request (Rose before.faults after.faults) (Rose source.faults source'.faults) error
         → ((refusal : Refusal) → Told (disk_in before.log) (MayOn drawn refusal) → Places drawn refusal) → IfRefused error (λ refusal. Told (disk_in before.log) (MayOn drawn refusal))
-        → MayCommit request → IfBroken error (Changes before.log after.log (MayChangeTo drawn)) → IsOutcome old new before after source source' request second result buffer buffer
+        → MayCommit request → IfBroken error (Changes before.log after.log (MayChangeTo drawn)) → IsWork old new before after source source' request second result buffer buffer
     change_err (change_errs.Refused refusal) result buffer is broken come same cause placing may can change =
-        not_made (change_errs.Refused refusal) result buffer is broken (refused_reply drawn refusal buffer come same cause (placing refusal may) may) tt
+        not_made (change_errs.Refused refusal) result buffer is broken (idle_reply old new before after source source' request second (replies.Refused refusal) buffer buffer refl refl (refused_reply drawn refusal buffer come same cause (placing refusal may) may)) tt
     change_err change_errs.Broken result buffer is broken come same cause placing may can change =
         not_made change_errs.Broken result buffer is broken tt (broken_turn drawn buffer come cause can change)
 

@@ -22,26 +22,39 @@ pub record IsFormed (request : PlainRequest) (reply : Reply) (old new : List ℕ
   pub enters : is_exhausted (plain_reply reply) ≡ false
   pub rest : KeepsRest request (plain_reply reply) old new
 
--- a turn, before whose own work what waits may have been committed
+-- ---- by a request's own work
+
+-- a reply: nothing was changed on the disk, or a change was committed
+pub record HasReply (old new : StoreView) (before after : FolderView) (source source' : EntropyView) (request : PlainRequest) (second : ℕ) (reply : Reply) (buffer buffer' : List ℕ) : Type 0 where
+  pub formed : IsFormed request reply buffer buffer'
+  pub turn : IsTurnOf (asked_of request second (plain_reply reply) buffer') (λ turn.
+      IsQuietTurn old (counted new) before after source source' turn ⊎ IsChangedTurn old (counted new) before after source source' turn)
+
+-- its commit failed
+pub record HasBroken (old new : StoreView) (before after : FolderView) (source source' : EntropyView) (request : PlainRequest) (second : ℕ) (buffer buffer' : List ℕ) : Type 0 where
+  pub turn : IsTurnOf (asked_of request second (refused refusals.DeviceFault) buffer') (IsBrokenTurn old (stopped_in new) before after source source')
+  pub buffer_is : buffer' ≡ buffer
+
+abbrev pub IsWork : StoreView → StoreView → FolderView → FolderView → EntropyView → EntropyView → PlainRequest → ℕ → Result Reply Broken → List ℕ → List ℕ → Type 0
+IsWork old new before after source source' request second (Ok reply) buffer buffer' = HasReply old new before after source source' request second reply buffer buffer'
+IsWork old new before after source source' request second (Err broken) buffer buffer' = HasBroken old new before after source source' request second buffer buffer'
+
+-- ---- what waits may have been committed before it
+
 pub record IsFrom (old : StoreView) (before : FolderView) (P : StoreView → FolderView → Type 0) : Type 0 where
   pub between : StoreView
   pub amid : FolderView
   pub flushed : ((between ≡ old) × (amid ≡ before)) ⊎ IsFlushed old between before amid
   pub is : P between amid
 
--- a reply: nothing was changed on the disk, or a change was committed
-pub record HasReply (old new : StoreView) (before after : FolderView) (source source' : EntropyView) (request : PlainRequest) (second : ℕ) (reply : Reply) (buffer buffer' : List ℕ) : Type 0 where
-  pub formed : IsFormed request reply buffer buffer'
-  pub turn : IsTurnOf (asked_of request second (plain_reply reply) buffer') (λ turn. IsFrom old before (λ between amid.
-      IsQuietTurn between (counted new) amid after source source' turn ⊎ IsChangedTurn between (counted new) amid after source source' turn))
-
--- a commit failed: that of what waits, or the request's own
-pub record HasBroken (old new : StoreView) (before after : FolderView) (source source' : EntropyView) (request : PlainRequest) (second : ℕ) (buffer buffer' : List ℕ) : Type 0 where
-  pub turn : IsTurnOf (asked_of request second (refused refusals.DeviceFault) buffer') (λ turn.
-      IsUnflushedTurn old (stopped_in new) before after source source' turn
-      ⊎ IsFrom old before (λ between amid. IsBrokenTurn between (stopped_in new) amid after source source' turn))
+-- that commit failed
+pub record HasNotFlushed (old new : StoreView) (before after : FolderView) (source source' : EntropyView) (request : PlainRequest) (second : ℕ) (buffer buffer' : List ℕ) : Type 0 where
+  pub turn : IsTurnOf (asked_of request second (refused refusals.DeviceFault) buffer') (IsUnflushedTurn old (stopped_in new) before after source source')
   pub buffer_is : buffer' ≡ buffer
 
 abbrev pub IsOutcome : StoreView → StoreView → FolderView → FolderView → EntropyView → EntropyView → PlainRequest → ℕ → Result Reply Broken → List ℕ → List ℕ → Type 0
-IsOutcome old new before after source source' request second (Ok reply) buffer buffer' = HasReply old new before after source source' request second reply buffer buffer'
-IsOutcome old new before after source source' request second (Err broken) buffer buffer' = HasBroken old new before after source source' request second buffer buffer'
+IsOutcome old new before after source source' request second (Ok reply) buffer buffer' =
+    IsFrom old before (λ between amid. HasReply between new amid after source source' request second reply buffer buffer')
+IsOutcome old new before after source source' request second (Err broken) buffer buffer' =
+    HasNotFlushed old new before after source source' request second buffer buffer'
+    ⊎ IsFrom old before (λ between amid. HasBroken between new amid after source source' request second buffer buffer')

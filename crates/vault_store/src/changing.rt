@@ -8,7 +8,7 @@ ghost use Rattle.node_changes.specs.Changed.{IsAtRest};
 ghost use Rattle.node_changes.specs.Causes.{IfBroken, IfRefused};
 ghost use Rattle.vault_store.specs.Dated.{IsDated};
 ghost use Rattle.vault_store.specs.Open.{view_of};
-ghost use Rattle.vault_store.specs.Outcome.{IsOutcome};
+ghost use Rattle.vault_store.specs.Outcome.{IsWork};
 
 use crate::answering::{Broken, Vault};
 use crate::sizes::have_sizes;
@@ -30,7 +30,7 @@ impl<D: Folder> Vault<D> {
         requires idle { self.old.back.waiting ≡ [] }
         requires rest { Told (D.log self.old.back.folder) (IsAtRest (sealing_of self.old.tree.keys) self.old.tree.live self.old.tree.claims) }
         requires threshold { (1 ≤ self.old.tree.threshold) × (self.old.tree.threshold ≤ 250) }
-        ensures outcome { (entries mode : ℕ) (buffer : List ℕ) → IsOutcome (view_of self.old.tree [] entries None) (view_of self.new.tree [] entries None)
+        ensures outcome { (entries mode : ℕ) (buffer : List ℕ) → IsWork (view_of self.old.tree [] entries None) (view_of self.new.tree [] entries None)
             (folder_view D.log D.faults D.changes self.old.back.folder) (folder_view D.log D.faults D.changes self.new.back.folder)
             (entropy_view E.drawn E.faults entropy.old) (entropy_view E.drawn E.faults entropy.new)
             (create_request parent name.now is_dir mode) now result buffer buffer }
@@ -54,7 +54,7 @@ impl<D: Folder> Vault<D> {
         requires idle { self.old.back.waiting ≡ [] }
         requires rest { Told (D.log self.old.back.folder) (IsAtRest (sealing_of self.old.tree.keys) self.old.tree.live self.old.tree.claims) }
         requires threshold { (1 ≤ self.old.tree.threshold) × (self.old.tree.threshold ≤ 250) }
-        ensures outcome { (entries : ℕ) (source : EntropyView) (buffer : List ℕ) → IsOutcome (view_of self.old.tree [] entries None) (view_of self.new.tree [] entries None)
+        ensures outcome { (entries : ℕ) (source : EntropyView) (buffer : List ℕ) → IsWork (view_of self.old.tree [] entries None) (view_of self.new.tree [] entries None)
             (folder_view D.log D.faults D.changes self.old.back.folder) (folder_view D.log D.faults D.changes self.new.back.folder)
             source source (remove_request number) now result buffer buffer }
         ensures idle { self.new.back.waiting ≡ [] }
@@ -82,7 +82,7 @@ impl<D: Folder> Vault<D> {
         requires threshold { (1 ≤ self.old.tree.threshold) × (self.old.tree.threshold ≤ 250) }
         requires planned { (c : PlainChange) × IsPlanned self.old.tree.live number c plan }
         ensures outcome { (entries : ℕ) (buffer : List ℕ) (c : PlainChange) → c.modified ≡ modified → IsPlanned self.old.tree.live number c plan
-            → IsOutcome (view_of self.old.tree [] entries None) (view_of self.new.tree [] entries None)
+            → IsWork (view_of self.old.tree [] entries None) (view_of self.new.tree [] entries None)
             (folder_view D.log D.faults D.changes self.old.back.folder) (folder_view D.log D.faults D.changes self.new.back.folder)
             (entropy_view E.drawn E.faults entropy.old) (entropy_view E.drawn E.faults entropy.new)
             (change_request number c) now result buffer buffer }

@@ -11,7 +11,7 @@ ghost use Rattle.file_changes.specs.Waiting.{IsAtRestOver};
 ghost use Rattle.node_changes.specs.Changed.{IsAtRest};
 ghost use Rattle.vault_store.specs.Contents.{IsChangedQid};
 ghost use Rattle.vault_store.specs.Open.{view_of};
-ghost use Rattle.vault_store.specs.Outcome.{IsOutcome};
+ghost use Rattle.vault_store.specs.Outcome.{IsOutcome, IsWork};
 
 use crate::answering::{Broken, Vault};
 use crate::changing::refused;
@@ -77,7 +77,7 @@ impl<D: Folder> Vault<D> {
         requires late { IsOpenRefusal self.old.tree.live number mode None }
         requires idle { self.old.back.waiting ≡ [] }
         requires rest { Told (D.log self.old.back.folder) (IsAtRest (sealing_of self.old.tree.keys) self.old.tree.live self.old.tree.claims) }
-        ensures outcome { (entries : ℕ) (buffer : List ℕ) → IsOutcome (view_of self.old.tree [] entries None) (view_of self.new.tree [] entries None)
+        ensures outcome { (entries : ℕ) (buffer : List ℕ) → IsWork (view_of self.old.tree [] entries None) (view_of self.new.tree [] entries None)
             (folder_view D.log D.faults D.changes self.old.back.folder) (folder_view D.log D.faults D.changes self.new.back.folder)
             (entropy_view E.drawn E.faults entropy.old) (entropy_view E.drawn E.faults entropy.new)
             (open_request number mode) now result buffer buffer }
@@ -116,7 +116,7 @@ impl<D: Folder> Vault<D> {
         requires idle { self.old.back.waiting ≡ [] }
         requires rest { Told (D.log self.old.back.folder) (IsAtRest (sealing_of self.old.tree.keys) self.old.tree.live self.old.tree.claims) }
         ensures outcome { (entries : ℕ) (buffer : List ℕ) (c : PlainChange) → c.modified ≡ modified → IsPlanned self.old.tree.live number c (Resize len)
-            → IsOutcome (view_of self.old.tree [] entries None) (view_of self.new.tree [] entries None)
+            → IsWork (view_of self.old.tree [] entries None) (view_of self.new.tree [] entries None)
             (folder_view D.log D.faults D.changes self.old.back.folder) (folder_view D.log D.faults D.changes self.new.back.folder)
             (entropy_view E.drawn E.faults entropy.old) (entropy_view E.drawn E.faults entropy.new)
             (change_request number c) now result buffer buffer }

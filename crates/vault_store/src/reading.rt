@@ -1,9 +1,9 @@
-ghost use Rattle.std.specs.Prelude.{◌≡◌, ◌≤◌, ℕ, List, Some, None, length, IfOk, IfErr};
+ghost use Rattle.std.specs.Prelude.{◌≡◌, ◌≤◌, ℕ, List, Some, None, Ok, length, IfOk, IfErr};
 ghost use Rattle.std.specs.Option.{option_copied};
 ghost use Rattle.std.specs.Result.{result_unwrap_or};
 ghost use Rattle.outside.specs.Calls.{Told};
 ghost use Rattle.outside.specs.Images.{disk_in};
-ghost use Rattle.outside.specs.Views.{folder_view};
+ghost use Rattle.outside.specs.Views.{EntropyView, folder_view};
 ghost use Rattle.directory_scan.specs.Format.{sealing_of};
 ghost use Rattle.tree_model.specs.Asked.{CanAsk, plain_request, read as read_request};
 ghost use Rattle.tree_model.specs.declared.refusal.Refusal.TheVariants as refusals;
@@ -13,7 +13,8 @@ ghost use Rattle.live_tree.specs.Held.{node_of};
 ghost use Rattle.file_changes.specs.Waiting.{IsAtRestOver};
 ghost use Rattle.vault_store.specs.Open.{running, view_of};
 ghost use Rattle.vault_store.specs.Reading.{HasContents, IsHostOf, IsUnsynced, read_fault};
-ghost use Rattle.vault_store.specs.Quiet.{IsKeptReply};
+ghost use Rattle.vault_store.specs.Outcome.{IsOutcome};
+ghost use Rattle.vault_store.specs.Quiet.{IsStill};
 
 use crate::answering::Vault;
 use crate::sizes::have_sizes;
@@ -34,11 +35,12 @@ impl<D: Folder> Vault<D> {
         requires reads { IsReading (plain_request request.now) }
         requires rest { Told (D.log self.old.back.folder) (IsAtRestOver (sealing_of self.old.tree.keys) self.old.tree.live self.old.tree.claims self.old.back.waiting) }
         requires unsynced { IsUnsynced (plain_request request.now) }
-        ensures kept { (entries : ℕ) (second : ℕ) → IsKeptReply (view_of self.old.tree self.old.back.waiting entries None)
+        ensures outcome { (entries second : ℕ) (source : EntropyView) → IsOutcome (view_of self.old.tree self.old.back.waiting entries None) (view_of self.new.tree self.new.back.waiting entries None)
             (folder_view D.log D.faults D.changes self.old.back.folder) (folder_view D.log D.faults D.changes self.new.back.folder)
-            (plain_request request.now) second result buffer.old buffer.new }
+            source source (plain_request request.now) second (Ok result) buffer.old buffer.new }
+        ensures rest { Told (D.log self.new.back.folder) (IsAtRestOver (sealing_of self.new.tree.keys) self.new.tree.live self.new.tree.claims self.new.back.waiting) }
         ensures tree { self.new.tree ≡ self.old.tree }
-        ensures waiting { self.new.back.waiting ≡ self.old.back.waiting }
+        ensures faults { D.faults self.old.back.folder ≤ D.faults self.new.back.folder }
     {
         have_sizes(self.tree.keys());
         let tree = self.tree.live();
@@ -92,9 +94,9 @@ fn read<R: Reads>(
     requires few { slice.count ≤ 65536 }
     requires room { slice.count ≤ length buffer.old }
     requires contents { Told (disk_in (R.log folder.old)) (HasContents (sealing_of keys.now) tree.now) }
-    ensures { (claims : List (List ℕ × ℕ)) (entries second : ℕ) → IsKeptReply (running keys.now tree.now claims entries)
+    ensures { (claims : List (List ℕ × ℕ)) (entries second : ℕ) (source : EntropyView) → IsStill (running keys.now tree.now claims entries) (running keys.now tree.now claims entries)
         (folder_view R.log R.faults R.changes folder.old) (folder_view R.log R.faults R.changes folder.new)
-        (read_request node slice.at slice.count) second result buffer.old buffer.new }
+        source source (read_request node slice.at slice.count) second result buffer.old buffer.new }
 {
     let host = match sealed_file(tree, node) {
         Ok(host) => host,
