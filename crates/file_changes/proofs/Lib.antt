@@ -4,3 +4,4 @@ pub mod Standing
 pub mod Telling
 pub mod Putting
 pub mod Writes
+pub mod Behind

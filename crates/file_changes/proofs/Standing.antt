@@ -114,20 +114,31 @@ module _ (keys : KeyPair) (d : Disk) (live : HeldTree) (claims : List (List ℕ 
       pub has_file : HasFileFor d path r
       has_file = record { tree = stands.is.host; bytes = old; there = there; can = now_is.can }
 
+      pub made : DeedsRewrite → IsInside path → IsPuttable size r → Rewrites d path old r
+      made law inside puttable = law d path old r stands.is.host inside there now_is.can puttable.fits (omega (arith, puttable.few))
+
       abbrev new : List ℕ
       new = rewritten old r
 
-      module _ (law : DeedsRewrite) (inside : IsInside path) (puttable : IsPuttable size r) where
-        pub made : Rewrites d path old r
-        made = law d path old r stands.is.host inside there now_is.can puttable.fits (omega (arith, puttable.few))
+      module _ (second : ℕ) (modified : Option ℕ) (request : PlainRequest) (answer : Answer) (its : IsContentStep live number change modified second request answer contents) where
+        changed : change its.row.content ≡ Some (content_of keys new)
+        changed = ap change (content_of_row its.row its.there) ∙ now_is.content
 
+        pub step_is : step (live_rows contents live) request second ≡ stepped (set_row (live_rows contents live) (dated modified (with_content its.row (content_of keys new) second))) answer
+        step_is = its.made (content_of keys new) changed
+
+        pub answered : (step (live_rows contents live) request second).answer ≡ answer
+        answered = ap (λ (w : Stepped). w.answer) step_is
+
+      -- on a disk on which it was rewritten so
+      module _ (after : Disk) (other_bytes : HasOtherBytes d after path (rewritten old r)) where
         abbrev tree' : Tree
         tree' = with_file tree (it.name ∷ it.path) new
 
-        is_tree : IsTreeOf s made.after tree'
+        is_tree : IsTreeOf s after tree'
         is_tree =
-            contents_change s d made.after tree it.path it.i it.name old new stands.is it.dir stands_file
-            (subst (λ (p : HostPath). HasOtherBytes d made.after p new) place_is made.is)
+            contents_change s d after tree it.path it.i it.name old new stands.is it.dir stands_file
+            (subst (λ (p : HostPath). HasOtherBytes d after p new) place_is other_bytes)
 
         abbrev after_contents : ℕ → Content
         after_contents other = cond (other == number) (content_of keys new) (contents other)
@@ -142,8 +153,8 @@ module _ (keys : KeyPair) (d : Disk) (live : HeldTree) (claims : List (List ℕ 
           touched_holds : Holds s tree' (touched live number (length new) second)
           touched_holds = writing_holds s tree live (it.name ∷ it.path) number old new second stands.holds at stands_file
 
-          touched_stands : StandsOn s made.after (touched live number r.size second) claims after_contents
-          touched_stands = subst (λ (n : ℕ). StandsOn s made.after (touched live number n second) claims after_contents) now_is.long (record {
+          touched_stands : StandsOn s after (touched live number r.size second) claims after_contents
+          touched_stands = subst (λ (n : ℕ). StandsOn s after (touched live number n second) claims after_contents) now_is.long (record {
             tree = tree';
             is = is_tree;
             holds = touched_holds;
@@ -151,7 +162,7 @@ module _ (keys : KeyPair) (d : Disk) (live : HeldTree) (claims : List (List ℕ 
             are = writing_keeps_contents s tree live (it.name ∷ it.path) number old new second contents after_contents stands.holds at stands_file stands.are agree here;
           })
 
-          rewritten_stands : (modified : Option ℕ) → StandsOn s made.after (rewritten_tree live number r.size modified second) claims after_contents
+          rewritten_stands : (modified : Option ℕ) → StandsOn s after (rewritten_tree live number r.size modified second) claims after_contents
           rewritten_stands None = touched_stands
           rewritten_stands (Some m) =
               let t = touched_stands in
@@ -164,23 +175,14 @@ module _ (keys : KeyPair) (d : Disk) (live : HeldTree) (claims : List (List ℕ 
               }
 
           module _ (modified : Option ℕ) (request : PlainRequest) (answer : Answer) (its : IsContentStep live number change modified second request answer contents) where
-            changed : change its.row.content ≡ Some (content_of keys new)
-            changed = ap change (content_of_row its.row its.there) ∙ now_is.content
-
-            pub step_is : step (live_rows contents live) request second ≡ stepped (set_row (live_rows contents live) (dated modified (with_content its.row (content_of keys new) second))) answer
-            step_is = its.made (content_of keys new) changed
-
-            pub answered : (step (live_rows contents live) request second).answer ≡ answer
-            answered = ap (λ (w : Stepped). w.answer) step_is
-
             pub shows : (live' : HeldTree) (claims' : List (List ℕ × ℕ)) → live' ≡ rewritten_tree live number r.size modified second → claims' ≡ claims → RowsAreRewritten live live' number modified second
-                → ShowsRows s (step (live_rows contents live) request second).rows made.after live' claims'
+                → ShowsRows s (step (live_rows contents live) request second).rows after live' claims'
             shows live' claims' live_is claims_are rows = record {
               contents = after_contents;
-              stands = subst (λ (l : HeldTree). StandsOn s made.after l claims' after_contents) (sym live_is)
-                  (subst (λ (c : List (List ℕ × ℕ)). StandsOn s made.after (rewritten_tree live number r.size modified second) c after_contents) (sym claims_are) (rewritten_stands modified));
+              stands = subst (λ (l : HeldTree). StandsOn s after l claims' after_contents) (sym live_is)
+                  (subst (λ (c : List (List ℕ × ℕ)). StandsOn s after (rewritten_tree live number r.size modified second) c after_contents) (sym claims_are) (rewritten_stands modified));
               shows =
                   rows contents after_contents its.row its.there agree
                   ∙ ap (λ (c : Content). wrapped (set_row (live_rows contents live) (dated modified (with_content its.row c second)))) here
-                  ∙ ap wrapped (sym (ap (λ (w : Stepped). w.rows) step_is));
+                  ∙ ap wrapped (sym (ap (λ (w : Stepped). w.rows) (step_is second modified request answer its)));
             }

@@ -40,7 +40,7 @@ of_disk : (log : Option Log) (P : Disk → Type 0) → Told (disk_in log) P → 
 of_disk None P p = tt
 of_disk (Some l) P p = p
 
-both_changed : {X : Type 0} (a b : Option X) (P Q : X → X → Type 0) → Changes a b P → Changes a b Q → Changes a b (λ x y. P x y × Q x y)
+pub both_changed : {X : Type 0} (a b : Option X) (P Q : X → X → Type 0) → Changes a b P → Changes a b Q → Changes a b (λ x y. P x y × Q x y)
 both_changed None None P Q p q = tt
 both_changed None (Some y) P Q p q = absurd p
 both_changed (Some x) None P Q p q = absurd p
@@ -58,9 +58,16 @@ IsDamagedIn keys path size change log = Told (disk_in log) (λ (d : Disk). (byte
 abbrev pub IsCause : WriteErr → WriteErr → Type 0
 IsCause cause other = ◌≡◌ {A = Result (Unit {0}) WriteErr} (Err cause) (Err other)
 
--- The file of a number stands at this path in a tree that is at rest; its keys were read.
+-- the tree in memory is that of what reads give
+abbrev pub Stands : Sealing → HeldTree → List (List ℕ × ℕ) → Log → Type 0
+Stands s live claims log = (contents : ℕ → Content) × StandsOn s (now log) live claims contents
+
+pub at_rest : (s : Sealing) (live : HeldTree) (claims : List (List ℕ × ℕ)) (log : Option Log) → Told log (IsAtRest s live claims) → Told log (Stands s live claims)
+at_rest s live claims log rest = told_then log (IsAtRest s live claims) (Stands s live claims) rest (λ l r. (r.contents, r.stands))
+
+-- The file of a number stands at this path in a tree that stands for what is told; its keys were read.
 module _ (keys read : KeyPair) (same : read ≡ keys) (live : HeldTree) (claims : List (List ℕ × ℕ)) (number size clear : ℕ) (is : IsFileOf live number size clear) (path : HostPath) (path_is : path_of live number ≡ Some path) (log : Option Log)
-    (rest : Told log (IsAtRest (sealing_of keys) live claims)) where
+    (rest : Told log (Stands (sealing_of keys) live claims)) where
   abbrev s : Sealing
   s = sealing_of keys
 
@@ -68,9 +75,9 @@ module _ (keys read : KeyPair) (same : read ≡ keys) (live : HeldTree) (claims 
   pub faulted : (before after : ℕ) → HasFaulted (disk_in log) path before after → Rose before after
   faulted before after h = go log rest h
     where
-      go : (o : Option Log) → Told o (IsAtRest s live claims) → HasFaulted (disk_in o) path before after → Rose before after
+      go : (o : Option Log) → Told o (Stands s live claims) → HasFaulted (disk_in o) path before after → Rose before after
       go None p f = f
-      go (Some l) p f = f (old keys (now l) live claims number size clear is p.contents p.stands, there keys (now l) live claims number size clear is p.contents p.stands path path_is)
+      go (Some l) p f = f (old keys (now l) live claims number size clear is p.0 p.1, there keys (now l) live claims number size clear is p.0 p.1 path path_is)
 
   -- the log is as it was
   module _ (between : Option Log) (same_log : between ≡ log) where
@@ -78,12 +85,12 @@ module _ (keys read : KeyPair) (same : read ≡ keys) (live : HeldTree) (claims 
     pub told_file : (r : Rewriting) (change : Content → Option Content) → IsSealedIn read path size r change log → Told between (λ (l : Log). HasFileFor (now l) path r)
     told_file r change sealed =
         subst (λ (o : Option Log). Told o (λ (l : Log). HasFileFor (now l) path r)) (sym same_log)
-        (told_both log (IsAtRest s live claims) (λ (l : Log). IsSealedFor keys path size r change (now l)) (λ (l : Log). HasFileFor (now l) path r) rest
+        (told_both log (Stands s live claims) (λ (l : Log). IsSealedFor keys path size r change (now l)) (λ (l : Log). HasFileFor (now l) path r) rest
         (of_disk log (IsSealedFor keys path size r change) (subst (λ (k : KeyPair). IsSealedIn k path size r change log) same sealed))
-        (λ l p q. has_file keys (now l) live claims number size clear is p.contents p.stands path path_is r change q))
+        (λ l p q. has_file keys (now l) live claims number size clear is p.0 p.1 path path_is r change q))
 
   module _ (change : Content → Option Content) (modified : Option ℕ) (second : ℕ) (request : PlainRequest) (answer : Answer) (its : ChangesContent (sealing_of keys) live claims number change modified second request answer) where
-    late : (d : Disk) → IsLate s request d live claims
+    pub late : (d : Disk) → IsLate (sealing_of keys) request d live claims
     late d contents stands = ap (λ (o : Option Refusal). is_some o) (its d contents stands).late
 
     -- ---- the change was made
@@ -110,11 +117,11 @@ module _ (keys read : KeyPair) (same : read ≡ keys) (live : HeldTree) (claims 
                   let more_here = (done others more).1 in
                   let same_disk : more_here.after ≡ here.after = same_run (in_order deeds) d more_here.after here.after more_here.does here.does in
                   subst (λ (x : Disk). ShowsRows s (step (live_rows others live) request second).rows x live' claims') same_disk
-                  (shows keys d live claims number size clear is others more path path_is r change can law inside puttable second modified request answer (its d others more) live' claims' live_is claims_are rows);
+                  (shows keys d live claims number size clear is others more path path_is r change can more_here.after more_here.is second modified request answer (its d others more) live' claims' live_is claims_are rows);
             }
 
         answer_is : IsStepAnswer s request second answer d live claims
-        answer_is contents stands = answered keys d live claims number size clear is contents stands path path_is r change can law inside puttable second modified request answer (its d contents stands)
+        answer_is contents stands = answered keys d live claims number size clear is contents stands path path_is r change can second modified request answer (its d contents stands)
 
       -- what is known before the commit
       abbrev Made : Log → Type 0
@@ -122,9 +129,9 @@ module _ (keys read : KeyPair) (same : read ≡ keys) (live : HeldTree) (claims 
 
       told_made : Told log Made
       told_made =
-          told_both log (IsAtRest s live claims) (λ (l : Log). IsSealedFor keys path size r change (now l)) Made rest
+          told_both log (Stands s live claims) (λ (l : Log). IsSealedFor keys path size r change (now l)) Made rest
           (of_disk log (IsSealedFor keys path size r change) (subst (λ (k : KeyPair). IsSealedIn k path size r change log) same sealed))
-          (λ l p q. (makes (now l) q p.contents p.stands, answer_is (now l) q))
+          (λ l p q. (makes (now l) q p.0 p.1, answer_is (now l) q))
 
       module _ (between : Option Log) (same_log : between ≡ log) (log' : Option Log) (any : Changes between log' (AnyMoment (deeds_of path r))) where
         any_moment : Changes log log' (AnyMoment deeds)

@@ -3,3 +3,4 @@ pub mod Steps
 pub mod Held
 pub mod Rewritten
 pub mod Causes
+pub mod Waiting

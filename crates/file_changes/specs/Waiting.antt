@@ -1,6 +1,7 @@
 -- A write whose chunks wait to be committed.
-use Rattle.std.specs.Prelude.{◌≡◌, ◌⊎◌, ℕ, List, [], ◌++◌}
-use Rattle.outside.specs.Disk.{Path as HostPath}
+use Rattle.std.specs.Prelude.{◌≡◌, ◌⊎◌, ℕ, List, [], Option, Some}
+use Rattle.outside.specs.Calls.{Extends}
+use Rattle.outside.specs.Disk.{Path as HostPath, node_at as thing_at, file as host_file}
 use Rattle.outside.specs.Images.{Log, now}
 use Rattle.deeds.specs.Deeds.{PlainDeed}
 use Rattle.chunk_journal.specs.Journal.{AnyMoment, HasCommitted, IsQuiet}
@@ -10,8 +11,11 @@ use Rattle.tree_model.specs.Asked.{PlainRequest}
 use Rattle.tree_model.specs.Step.{Answer, step}
 use Rattle.clear_tree.specs.Walk.{Sealing}
 use Rattle.live_tree.specs.Held.{HeldTree, live_rows}
-use Rattle.content_changes.specs.Rewriting.{Rewriting}
+use Rattle.held_changes.specs.Writing.{IsRewritten}
+use Rattle.content_changes.specs.Rewriting.{Rewriting, rewritten}
 use Rattle.content_deeds.specs.Deeds.{rewriting_in}
+use Rattle.content_writer.specs.Sealed.{nonces_of}
+use Rattle.write_back.specs.Shown.{HasFile}
 use Rattle.node_changes.specs.Changed.{IsLate, IsStepAnswer, ShowsRows, StandsOn}
 
 -- the journal is quiet, what waits can be done, and the tree in memory is that of the disk once it is
@@ -30,6 +34,22 @@ pub record IsFlush (waiting : List PlainDeed) (old new : Log) : Type 0 where
 abbrev pub MayBeFlushed : List PlainDeed → List PlainDeed → Log → Log → Type 0
 MayBeFlushed waiting middle old new = ((middle ≡ waiting) × (new ≡ old)) ⊎ ((middle ≡ []) × IsFlush waiting old new)
 
+-- the journal is quiet, what waits can be done, and a host file at a path has so many bytes once it is
+pub record IsReadyOver (waiting : List PlainDeed) (path : HostPath) (len : ℕ) (log : Log) : Type 0 where
+  pub quiet : IsQuiet log
+  pub waits : CanWait waiting (now log)
+  pub there : HasFile waiting path len (now log)
+
+-- A change of such a host file waits besides: what waited before may have been committed, and over what waited behind that the file is
+-- rewritten, and nothing else.
+pub record IsPutBehind (path : HostPath) (len : ℕ) (rewriting : Rewriting) (waiting waiting' : List PlainDeed) (old new : Log) : Type 0 where
+  pub middle : List PlainDeed
+  pub flushed : MayBeFlushed waiting middle old new
+  pub are : waiting' ≡ rewriting_in path len rewriting middle
+  pub waits : CanWait waiting' (now new)
+  pub is : (bytes : List ℕ) → thing_at (laid middle (now new)) path ≡ Some (host_file bytes)
+      → IsRewritten (laid middle (now new)) (laid waiting' (now new)) path (rewritten bytes rewriting)
+
 -- Chunks that were sealed for a host file wait besides: what waited before may have been committed, the answer is the step's, and the tree
 -- in memory is that of the step's rows once all is done.
 pub record HasPut (s : Sealing) (request : PlainRequest) (second : ℕ) (answer : Answer) (live live' : HeldTree) (claims claims' : List (List ℕ × ℕ)) (waiting waiting' : List PlainDeed) (old new : Log) : Type 0 where
@@ -43,6 +63,11 @@ pub record HasPut (s : Sealing) (request : PlainRequest) (second : ℕ) (answer 
   pub answer_is : IsStepAnswer s request second answer (laid middle (now new)) live claims
   pub stepped : (contents : ℕ → Content) → StandsOn s (laid middle (now new)) live claims contents
       → ShowsRows s (step (live_rows contents live) request second).rows (laid waiting' (now new)) live' claims'
+
+-- the same, and the nonces of the chunks were drawn for them, one after the other, and nothing else was drawn
+pub record HasWritten (s : Sealing) (request : PlainRequest) (second : ℕ) (answer : Answer) (live live' : HeldTree) (claims claims' : List (List ℕ × ℕ)) (waiting waiting' : List PlainDeed) (drew drew' : Option (List ℕ)) (old new : Log) : Type 0 where
+  pub put : HasPut s request second answer live live' claims claims' waiting waiting' old new
+  pub nonces : Extends drew drew' (nonces_of put.rewriting.sealed)
 
 -- what waited couldn't be committed, once no refusal of the step had come
 pub record IsNotFlushed (s : Sealing) (request : PlainRequest) (live : HeldTree) (claims : List (List ℕ × ℕ)) (waiting : List PlainDeed) (old new : Log) : Type 0 where

@@ -1,4 +1,5 @@
-ghost use Rattle.std.specs.Prelude.{◌≡◌, ◌≤◌, ◌<◌, ◌++◌, ℕ, List, length, None, IfErr, OnOk};
+ghost use Rattle.std.specs.Prelude.{◌≡◌, ◌≤◌, ◌<◌, length, None, IfErr, OnOk, OnErr};
+ghost use Rattle.std.specs.Option.{option_map};
 ghost use Rattle.outside.specs.Calls.{Changes, Rose, Told};
 ghost use Rattle.outside.specs.Images.{disk_in};
 ghost use Rattle.tree_model.specs.Asked.{PlainRequest, write, count};
@@ -11,6 +12,8 @@ ghost use Rattle.file_changes.specs.Causes.{ContentCause, write_refusal};
 ghost use Rattle.change_plans.specs.Files.{IsResizable, IsWritable};
 ghost use Rattle.file_changes.specs.Rewritten.{HasRewritten};
 ghost use Rattle.file_changes.specs.Steps.{IsResizing};
+ghost use Rattle.file_changes.specs.Waiting.{HasPut, HasWritten, IsAtRestOver, IsNotFlushed};
+ghost use Rattle.pending_files.specs.Laid.{laid_log};
 
 use crate::file::sealed_file;
 use crate::room::FileChanges;
@@ -20,59 +23,65 @@ use content_writer::WriteErr;
 use node_changes::{ChangeErr, VaultTree};
 use outside::{Entropy, Folder};
 use tree_model::Refusal;
+use write_back::WriteBack;
 
 impl FileChanges {
     /// Writes 1 to 65,537 bytes into the file of a number from byte `at` on, at a second since 1970-01-01. A gap of at most
-    /// 1,048,576 bytes between the file's end and `at` is filled with zeros, and the file has at most 2^40 bytes afterwards. It
-    /// takes no memory.
+    /// 1,048,576 bytes between the file's end and `at` is filled with zeros, and the file has at most 2^40 bytes afterwards. What is
+    /// written waits; where there is no room for it, what waited before is committed. It takes no memory.
     ///
     /// It is refused as `Damaged` where the file's header or a chunk that keeps a byte doesn't open, as `DeviceFault` where the
-    /// folder failed in a read, as `RandomFault` where the random source failed. After `Broken` the folder's count of faults rose,
-    /// and the tree in memory is the one with the write.
+    /// folder failed in a read, as `RandomFault` where the random source failed. After `Broken`, which is of what waited before, the
+    /// folder's count of faults rose, and the tree in memory is the one without the write.
     pub fn write<D: Folder, E: Entropy>(
         &mut self,
         tree: &mut VaultTree,
-        journal: &mut Journal<D>,
+        back: &mut WriteBack<D>,
         entropy: &mut E,
         number: u64,
         at: u64,
         bytes: &[u8],
         now: u32,
     ) -> Result<(), ChangeErr>
-        requires rest { Told (D.log journal.old) (IsAtRest (sealing_of tree.old.keys) tree.old.live tree.old.claims) }
+        requires rest { Told (D.log back.old.folder) (IsAtRestOver (sealing_of tree.old.keys) tree.old.live tree.old.claims back.old.waiting) }
         requires some { 0 < length bytes.now }
         requires few { length bytes.now ≤ 65537 }
         requires file { IsWritable tree.old.live number at (length bytes.now) }
-        ensures changed { OnOk result (Changes (D.log journal.old) (D.log journal.new) (HasChanged (sealing_of tree.old.keys)
-            (write number at bytes.now) now (says (count (length bytes.now))) tree.old.live tree.new.live tree.old.claims tree.new.claims)) }
-        ensures broken { IfErr result (λ error. IfBroken error (Changes (D.log journal.old) (D.log journal.new) (MayHaveChanged (sealing_of tree.old.keys)
-            (write number at bytes.now) now tree.old.live tree.new.live tree.old.claims tree.new.claims))) }
-        ensures refused { IfErr result (λ error. IfRefused error (λ refusal. Told (disk_in (D.log journal.old))
+        ensures put { OnOk result (Changes (D.log back.old.folder) (D.log back.new.folder) (HasPut (sealing_of tree.old.keys)
+            (write number at bytes.now) now (says (count (length bytes.now))) tree.old.live tree.new.live tree.old.claims tree.new.claims
+            back.old.waiting back.new.waiting)) }
+        ensures broken { IfErr result (λ error. IfBroken error (Changes (D.log back.old.folder) (D.log back.new.folder)
+            (IsNotFlushed (sealing_of tree.old.keys) (write number at bytes.now) tree.old.live tree.old.claims back.old.waiting))) }
+        ensures refused { IfErr result (λ error. IfRefused error (λ refusal. Told (disk_in (option_map (laid_log back.old.waiting) (D.log back.old.folder)))
             (λ d. MayRefuse (sealing_of tree.old.keys) (write number at bytes.now) now None refusal d tree.old.live tree.old.claims))) }
         ensures unchanged { IfErr result (λ error. IfRefused error (λ refusal.
-            IsUnchanged tree.old.live tree.new.live tree.old.claims tree.new.claims (D.log journal.old) (D.log journal.new))) }
-        ensures cause { IfErr result (ErrCause (write number at bytes.now) (Rose (D.faults journal.old) (D.faults journal.new))
+            IsUnchanged tree.old.live tree.new.live tree.old.claims tree.new.claims (D.log back.old.folder) (D.log back.new.folder))) }
+        ensures waiting { IfErr result (λ error. IfRefused error (λ refusal. Told (D.log back.old.folder) (λ log. back.new.waiting ≡ back.old.waiting))) }
+        ensures same_live { OnErr result (tree.new.live ≡ tree.old.live) }
+        ensures same_claims { tree.new.claims ≡ tree.old.claims }
+        ensures rest_after { OnOk result (Told (D.log back.new.folder)
+            (IsAtRestOver (sealing_of tree.new.keys) tree.new.live tree.new.claims back.new.waiting)) }
+        ensures cause { IfErr result (ErrCause (write number at bytes.now) (Rose (D.faults back.old.folder) (D.faults back.new.folder))
             (Rose (E.faults entropy.old) (E.faults entropy.new))) }
-        ensures own { IfErr result (λ error. IfRefused error (ContentCause (Rose (D.faults journal.old) (D.faults journal.new))
+        ensures own { IfErr result (λ error. IfRefused error (ContentCause (Rose (D.faults back.old.folder) (D.faults back.new.folder))
             (Rose (E.faults entropy.old) (E.faults entropy.new)))) }
         ensures drawn { Changes (E.drawn entropy.old) (E.drawn entropy.new) GoesOn }
-        ensures nonces { OnOk result (Changes (D.log journal.old) (D.log journal.new) (HasRewritten (sealing_of tree.old.keys)
+        ensures nonces { OnOk result (Changes (D.log back.old.folder) (D.log back.new.folder) (HasWritten (sealing_of tree.old.keys)
             (write number at bytes.now) now (says (count (length bytes.now))) tree.old.live tree.new.live tree.old.claims tree.new.claims
-            (E.drawn entropy.old) (E.drawn entropy.new))) }
-        ensures later { D.faults journal.old ≤ D.faults journal.new }
+            back.old.waiting back.new.waiting (E.drawn entropy.old) (E.drawn entropy.new))) }
+        ensures later { D.faults back.old.folder ≤ D.faults back.new.folder }
         ensures entropy { E.faults entropy.old ≤ E.faults entropy.new }
         ensures keys { tree.new.keys ≡ tree.old.keys }
         ensures threshold { tree.new.threshold ≡ tree.old.threshold }
     {
-        // for their clauses: what the deeds do, and the length of a key, by which a content's length is known
-        deeds_rewrite();
+        // for its clause: the length of a key, by which a content's length is known
         tree.keys().have_32_bytes();
         let file = sealed_file(tree, number);
         match self
             .writer
-            .seal_write(journal, tree.keys(), &file, at, bytes, entropy)
+            .seal_write(back, tree.keys(), &file, at, bytes, entropy)
         {
-            Ok(()) => match self.commit(tree, journal, &file, number, None, now) {
+            Ok(()) => match self.put(tree, back, &file, number, now) {
                 Ok(()) => Ok(()),
                 Err(_) => Err(ChangeErr::Broken),
             },

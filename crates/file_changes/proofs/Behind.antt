@@ -1,0 +1,291 @@
+-- What waits before and behind a change of a file's content that waits too.
+use Rattle.std.proofs.Common.{◌≡◌, ◌≤◌, ℕ, List, [], length, map, Option, Some, None, IsSome, Result, Ok, Err, OnOk, refl, sym, ap, ◌∙◌, subst, inl, inr, arith}
+use Rattle.std.specs.Int.{div_ceil}
+use Rattle.std.specs.Option.{option_map}
+use Rattle.std.specs.List.{range_with_len}
+use Rattle.std.specs.Fork.{slice_chunk}
+use Rattle.std.proofs.lemmas.List.{length-map}
+use Rattle.std.proofs.lemmas.List.FromFn.{length-range_with_len}
+use Rattle.outside.specs.Calls.{Told, Changes, Extends}
+use Rattle.outside.specs.Disk.{Disk, Path as HostPath, node_at as thing_at, file as host_file, IsTree}
+use Rattle.outside.specs.Images.{Log, now}
+use Rattle.outside.proofs.Told.{told_then, told_both, told_from, told_new, changed_by, changed_from, unchanged}
+use Rattle.deeds.specs.Deeds.{PlainDeed}
+use Rattle.deeds.specs.Repeatable.{journal_file, new_file}
+use Rattle.pending_files.specs.Pending.{IsInside, HasRoom}
+use Rattle.pending_files.specs.Laid.{CanWait, laid, laid_log}
+use Rattle.pending_files.proofs.Laying.{none_waits, same_told}
+use Rattle.chunk_journal.specs.Journal.{AnyMoment, HasCommitted, IsAlike, IsQuiet}
+use Rattle.siv_mode.specs.Keys.{KeyPair}
+use Rattle.tree_model.specs.Rows.{Content}
+use Rattle.tree_model.specs.Asked.{PlainRequest}
+use Rattle.tree_model.specs.Step.{Answer}
+use Rattle.clear_tree.specs.Walk.{Sealing}
+use Rattle.directory_scan.specs.Format.{sealing_of}
+use Rattle.tree_changes.proofs.Beside.{stays_beside}
+use Rattle.live_tree.specs.Held.{HeldTree, path_of}
+use Rattle.held_changes.specs.Writing.{IsRewritten}
+use Rattle.content_changes.specs.Rewriting.{Rewriting, rewritten}
+use Rattle.content_deeds.specs.Deeds.{rewriting_in}
+use Rattle.content_writer.specs.Sealed.{nonces_of}
+use Rattle.write_back.specs.Shown.{HasFile}
+use Rattle.node_changes.specs.Changed.{StandsOn, IsStepAnswer, IsLate}
+use Rattle.change_plans.specs.Files.{IsFileOf}
+use Rattle.file_changes.specs.Held.{rewritten_tree, RowsAreRewritten}
+use Rattle.file_changes.specs.Steps.{ChangesContent}
+use Rattle.file_changes.specs.Waiting.{HasPut, HasWritten, IsAtRestOver, IsFlush, IsNotFlushed, IsPutBehind, IsReadyOver, MayBeFlushed}
+use Rattle.file_changes.proofs.Standing.{IsSealedFor, there, host, old, old_long, answered, shows}
+use Rattle.file_changes.proofs.Telling.{IsSealedIn, Stands, both_changed}
+
+-- ---- what is laid over a log tells the log, and what waits
+
+pub kept_log : (waiting waiting' : List PlainDeed) (log log' : Option Log) → option_map (laid_log waiting') log' ≡ option_map (laid_log waiting) log → log' ≡ log
+kept_log waiting waiting' log log' same = (same_told waiting' waiting log' log same).0
+
+pub kept_waiting : (waiting waiting' : List PlainDeed) (log log' : Option Log) → option_map (laid_log waiting') log' ≡ option_map (laid_log waiting) log
+    → Told log (λ (l : Log). waiting' ≡ waiting)
+kept_waiting waiting waiting' log log' same =
+    told_from log (λ (l : Log). waiting' ≡ waiting)
+    (λ l is. (same_told waiting' waiting log' log same).1 (subst (λ (o : Option Log). IsSome o) (sym (kept_log waiting waiting' log log' same ∙ is)) refl))
+
+-- what is told of a log with what waits is told of it as it is laid
+told_laid : (waiting : List PlainDeed) (log : Option Log) (P : Log → Type 0) → Told log (λ (l : Log). P (laid_log waiting l)) → Told (option_map (laid_log waiting) log) P
+told_laid waiting None P p = tt
+told_laid waiting (Some l) P p = p
+
+pub stands_laid : (s : Sealing) (live : HeldTree) (claims : List (List ℕ × ℕ)) (waiting : List PlainDeed) (log : Option Log) → Told log (IsAtRestOver s live claims waiting)
+    → Told (option_map (laid_log waiting) log) (Stands s live claims)
+stands_laid s live claims waiting log rest =
+    told_laid waiting log (Stands s live claims)
+    (told_then log (IsAtRestOver s live claims waiting) (λ (l : Log). Stands s live claims (laid_log waiting l)) rest (λ l r. (r.contents, r.stands)))
+
+-- ---- what was committed, or waits still
+
+stands_beside : (s : Sealing) (d d' : Disk) (live : HeldTree) (claims : List (List ℕ × ℕ)) (contents : ℕ → Content) → StandsOn s d live claims contents → IsTree d' → IsAlike d d'
+    → StandsOn s d' live claims contents
+stands_beside s d d' live claims contents stands host same = record {
+  tree = stands.tree;
+  is = stays_beside s d d' stands.tree stands.is host same;
+  holds = stands.holds;
+  claimed = stands.claimed;
+  are = stands.are;
+}
+
+-- a file that isn't in the folder itself is none of the journal's
+same_file : (path : HostPath) → IsInside path → (a b : Disk) → IsAlike a b → thing_at b path ≡ thing_at a path
+same_file path inside a b same = same path (λ e. apart journal_file refl e) (λ e. apart new_file refl e)
+  where
+    apart : (p : HostPath) → length p ≡ 1 → path ≡ p → ⊥
+    apart p one e = omega (arith, inside.deep, ap length e)
+
+module _ (waiting middle : List PlainDeed) (old new : Log) (flushed : MayBeFlushed waiting middle old new) where
+  -- P of what waits still over a log
+  by_flush : (P : List PlainDeed → Log → Type 0) → P waiting old → (IsFlush waiting old new → P [] new) → P middle new
+  by_flush P still done = elim flushed [
+    | inl kept ↦ subst (λ (l : Log). P middle l) (sym kept.1) (subst (λ (m : List PlainDeed). P m old) (sym kept.0) still)
+    | inr flush ↦ subst (λ (m : List PlainDeed). P m new) (sym flush.0) (done flush.1)
+  ]
+
+  pub quiet_after : IsQuiet old → IsQuiet new
+  quiet_after quiet = by_flush (λ m l. IsQuiet l) quiet (λ flush. flush.committed.at_rest)
+
+  pub waits_after : CanWait waiting (now old) → CanWait middle (now new)
+  waits_after waits = by_flush (λ m l. CanWait m (now l)) waits (λ flush. none_waits (now new))
+
+  module _ (waits : CanWait waiting (now old)) where
+    alike : IsFlush waiting old new → IsAlike (laid waiting (now old)) (now new)
+    alike flush = flush.committed.after (laid waiting (now old)) waits.does
+
+    pub stands_after : (s : Sealing) (live : HeldTree) (claims : List (List ℕ × ℕ)) (contents : ℕ → Content) → StandsOn s (laid waiting (now old)) live claims contents
+        → StandsOn s (laid middle (now new)) live claims contents
+    stands_after s live claims contents stands =
+        by_flush (λ m l. StandsOn s (laid m (now l)) live claims contents) stands
+        (λ flush. stands_beside s (laid waiting (now old)) (now new) live claims contents stands flush.committed.at_rest.steady.tree (alike flush))
+
+    pub file_after : (path : HostPath) → IsInside path → thing_at (laid middle (now new)) path ≡ thing_at (laid waiting (now old)) path
+    file_after path inside =
+        by_flush (λ m l. thing_at (laid m (now l)) path ≡ thing_at (laid waiting (now old)) path) refl
+        (λ flush. same_file path inside (laid waiting (now old)) (now new) (alike flush))
+
+pub ready_after : (waiting middle : List PlainDeed) (path : HostPath) (len : ℕ) → IsInside path → (old new : Log) → MayBeFlushed waiting middle old new → IsReadyOver waiting path len old
+    → IsReadyOver middle path len new
+ready_after waiting middle path len inside old new flushed ready =
+    let quiet = quiet_after waiting middle old new flushed ready.quiet in
+    record {
+      quiet = quiet;
+      waits = waits_after waiting middle old new flushed ready.waits;
+      there = record {
+        tree = quiet.steady.tree;
+        bytes = ready.there.bytes;
+        here = file_after waiting middle old new flushed ready.waits path inside ∙ ready.there.here;
+        long = ready.there.long;
+      };
+    }
+
+pub told_quiet : (waiting : List PlainDeed) (path : HostPath) (len : ℕ) (log : Option Log) → Told log (IsReadyOver waiting path len) → Told log IsQuiet
+told_quiet waiting path len log ready = told_then log (IsReadyOver waiting path len) IsQuiet ready (λ l r. r.quiet)
+
+-- such a host file, once what waits is done behind a flush
+pub told_file_behind : (waiting middle : List PlainDeed) (path : HostPath) (len : ℕ) → IsInside path → (old new : Option Log) → Told old (IsReadyOver waiting path len)
+    → Changes old new (MayBeFlushed waiting middle) → Told new (λ (l : Log). HasFile middle path len (now l))
+told_file_behind waiting middle path len inside old new ready flushed =
+    told_new old new (λ x y. IsReadyOver waiting path len x × MayBeFlushed waiting middle x y) (λ (l : Log). HasFile middle path len (now l))
+    (λ x y p. (ready_after waiting middle path len inside x y p.1 p.0).there)
+    (changed_from old new (IsReadyOver waiting path len) (MayBeFlushed waiting middle) (λ x y. IsReadyOver waiting path len x × MayBeFlushed waiting middle x y) (λ x y r f. (r, f)) ready flushed)
+
+-- ---- room
+
+pub never_flushed : (waiting : List PlainDeed) (log : Option Log) → Changes log log (MayBeFlushed waiting waiting)
+never_flushed waiting log = unchanged log log (MayBeFlushed waiting waiting) refl (λ l. inl (refl, refl))
+
+-- once nothing waits there is room
+pub room_after : {X E : Type 0} (result : Result X E) (waiting : List PlainDeed) (path : HostPath) (chunks : ℕ) → waiting ≡ [] → IsInside path → chunks ≤ 64
+    → OnOk result (HasRoom waiting path chunks)
+room_after (Err error) waiting path chunks none inside few = tt
+room_after (Ok x) waiting path chunks none inside few =
+    subst (λ (w : List PlainDeed). HasRoom w path chunks) (sym none) (record { inside = inside; fits = omega arith; files = λ no. omega arith })
+
+pub flushed_after : {X E : Type 0} (result : Result X E) (waiting waiting' : List PlainDeed) (old new : Option Log) → waiting' ≡ [] → OnOk result (Changes old new (HasCommitted waiting))
+    → Changes old new (AnyMoment waiting) → OnOk result (Changes old new (MayBeFlushed waiting waiting'))
+flushed_after (Err error) waiting waiting' before after none committed any = tt
+flushed_after (Ok x) waiting waiting' before after none committed any =
+    changed_by before after (λ x y. HasCommitted waiting x y × AnyMoment waiting x y) (MayBeFlushed waiting waiting') (λ x y h. inr (none, record { committed = h.0; any_moment = h.1 }))
+    (both_changed before after (HasCommitted waiting) (AnyMoment waiting) committed any)
+
+-- ---- the number of chunks
+
+pub chunk_count_is : (bytes : List ℕ) (size : ℕ) → length (map (slice_chunk bytes size) (range_with_len 0 (div_ceil (length bytes) size))) ≡ div_ceil (length bytes) size
+chunk_count_is bytes size = length-map (range_with_len 0 (div_ceil (length bytes) size)) (slice_chunk bytes size) ∙ length-range_with_len 0 (div_ceil (length bytes) size)
+
+-- ---- a change waits
+
+-- what is known of a put, by what is told of the calls before and behind it
+pub put_behind : (path : HostPath) (len : ℕ) (r r' : Rewriting) (waiting middle waiting' : List PlainDeed) (old new new' : Option Log) → r' ≡ r → new' ≡ new
+    → Changes old new (MayBeFlushed waiting middle) → waiting' ≡ rewriting_in path len r' middle → Told new' (λ (l : Log). CanWait waiting' (now l))
+    → Told new (λ (l : Log). (bytes : List ℕ) → thing_at (laid middle (now l)) path ≡ Some (host_file bytes) → IsRewritten (laid middle (now l)) (laid waiting' (now l)) path (rewritten bytes r'))
+    → Changes old new' (IsPutBehind path len r waiting waiting')
+put_behind path len r r' waiting middle waiting' old new new' same_r same_log flushed are waits is =
+    subst (λ (o : Option Log). Changes old o (IsPutBehind path len r waiting waiting')) (sym same_log)
+    (subst (λ (x : Rewriting). Changes old new (IsPutBehind path len x waiting waiting')) same_r
+    (go old new flushed (subst (λ (o : Option Log). Told o (λ (l : Log). CanWait waiting' (now l))) same_log waits) is))
+  where
+    go : (o n : Option Log) → Changes o n (MayBeFlushed waiting middle) → Told n (λ (l : Log). CanWait waiting' (now l))
+        → Told n (λ (l : Log). (bytes : List ℕ) → thing_at (laid middle (now l)) path ≡ Some (host_file bytes) → IsRewritten (laid middle (now l)) (laid waiting' (now l)) path (rewritten bytes r'))
+        → Changes o n (IsPutBehind path len r' waiting waiting')
+    go None None f w i = tt
+    go None (Some y) f w i = absurd f
+    go (Some x) None f w i = absurd f
+    go (Some x) (Some y) f w i = record { middle = middle; flushed = f; are = are; waits = w; is = i }
+
+module _ (keys read : KeyPair) (same : read ≡ keys) (live : HeldTree) (claims : List (List ℕ × ℕ)) (number size clear : ℕ) (is : IsFileOf live number size clear) (path : HostPath) (path_is : path_of live number ≡ Some path)
+    (inside : IsInside path) (waiting between : List PlainDeed) (log log_between : Option Log) (rest : Told log (IsAtRestOver (sealing_of keys) live claims waiting))
+    (kept : option_map (laid_log between) log_between ≡ option_map (laid_log waiting) log) where
+  abbrev s : Sealing
+  s = sealing_of keys
+
+  same_log : log_between ≡ log
+  same_log = kept_log waiting between log log_between kept
+
+  told_waiting : Told log (λ (l : Log). between ≡ waiting)
+  told_waiting = kept_waiting waiting between log log_between kept
+
+  -- ---- before it
+
+  ready_here : (l : Log) → IsAtRestOver s live claims waiting l → IsReadyOver waiting path size l
+  ready_here l r = record {
+    quiet = r.quiet;
+    waits = r.waits;
+    there = record {
+      tree = r.quiet.steady.tree;
+      bytes = old keys (laid waiting (now l)) live claims number size clear is r.contents r.stands;
+      here = there keys (laid waiting (now l)) live claims number size clear is r.contents r.stands path path_is;
+      long = old_long keys (laid waiting (now l)) live claims number size clear is r.contents r.stands;
+    };
+  }
+
+  pub ready : Told log_between (IsReadyOver between path size)
+  ready =
+      subst (λ (o : Option Log). Told o (IsReadyOver between path size)) (sym same_log)
+      (told_both log (IsAtRestOver s live claims waiting) (λ (l : Log). between ≡ waiting) (IsReadyOver between path size) rest told_waiting
+      (λ l r e. subst (λ (w : List PlainDeed). IsReadyOver w path size l) (sym e) (ready_here l r)))
+
+  -- a change from the log between is one from the log before it
+  module _ (P : List PlainDeed → Log → Log → Type 0) where
+    since : (log' : Option Log) → Changes log_between log' (P between) → Changes log log' (λ x y. IsAtRestOver s live claims waiting x × P waiting x y)
+    since log' p =
+        changed_from log log' (λ (l : Log). IsAtRestOver s live claims waiting l × (between ≡ waiting)) (P between) (λ x y. IsAtRestOver s live claims waiting x × P waiting x y)
+        (λ x y t q. (t.0, subst (λ (w : List PlainDeed). P w x y) t.1 q))
+        (told_both log (IsAtRestOver s live claims waiting) (λ (l : Log). between ≡ waiting) (λ (l : Log). IsAtRestOver s live claims waiting l × (between ≡ waiting)) rest told_waiting (λ l r e. (r, e)))
+        (subst (λ (o : Option Log). Changes o log' (P between)) same_log p)
+
+  module _ (change : Content → Option Content) (second : ℕ) (request : PlainRequest) (answer : Answer) (its : ChangesContent (sealing_of keys) live claims number change None second request answer) where
+    -- ---- what waited couldn't be committed
+    pub not_flushed : ((d : Disk) → IsLate (sealing_of keys) request d live claims) → (log' : Option Log) → Changes log_between log' (AnyMoment between)
+        → Changes log log' (IsNotFlushed (sealing_of keys) request live claims waiting)
+    not_flushed late log' any =
+        changed_by log log' (λ x y. IsAtRestOver s live claims waiting x × AnyMoment waiting x y) (IsNotFlushed s request live claims waiting)
+        (λ x y h. record { late = late (laid waiting (now x)); any_moment = h.1 }) (since AnyMoment log' any)
+
+    -- ---- it waits
+    module _ (r : Rewriting) (sealed : IsSealedIn read path size r change (option_map (laid_log waiting) log)) (live' : HeldTree) (claims' : List (List ℕ × ℕ))
+        (live_is : live' ≡ rewritten_tree live number r.size None second) (claims_are : claims' ≡ claims) (rows : RowsAreRewritten live live' number None second) (waiting' : List PlainDeed) where
+      module _ (x y : Log) (at_rest : IsAtRestOver (sealing_of keys) live claims waiting x) (can : IsSealedFor keys path size r change (laid waiting (now x))) (put : IsPutBehind path size r waiting waiting' x y) where
+        abbrev over : Disk
+        over = laid put.middle (now y)
+
+        same_here : thing_at (laid put.middle (now y)) path ≡ thing_at (laid waiting (now x)) path
+        same_here = file_after waiting put.middle x y put.flushed at_rest.waits path inside
+
+        can_here : IsSealedFor keys path size r change (laid put.middle (now y))
+        can_here bytes file = can bytes (record { there = sym same_here ∙ file.there; long = file.long })
+
+        step_answers : IsStepAnswer (sealing_of keys) request second answer (laid put.middle (now y)) live claims
+        step_answers contents stands = answered keys over live claims number size clear is contents stands path path_is r change can_here second None request answer (its over contents stands)
+
+        has_put : HasPut (sealing_of keys) request second answer live live' claims claims' waiting waiting' x y
+        has_put = record {
+          middle = put.middle;
+          flushed = put.flushed;
+          path = path;
+          len = size;
+          rewriting = r;
+          are = put.are;
+          waits = put.waits;
+          answer_is = step_answers;
+          stepped = λ contents stands.
+              shows keys over live claims number size clear is contents stands path path_is r change can_here (laid waiting' (now y))
+              (put.is (old keys over live claims number size clear is contents stands) (there keys over live claims number size clear is contents stands path path_is)) second None request answer
+              (its over contents stands) live' claims' live_is claims_are rows;
+        }
+
+        rests : IsAtRestOver (sealing_of keys) live' claims' waiting' y
+        unfolding has_put
+        rests =
+            let shown = has_put.stepped at_rest.contents (stands_after waiting put.middle x y put.flushed at_rest.waits s live claims at_rest.contents at_rest.stands) in
+            record { quiet = quiet_after waiting put.middle x y put.flushed at_rest.quiet; waits = put.waits; contents = shown.contents; stands = shown.stands }
+
+      abbrev All : Log → Log → Type 0
+      All x y = IsAtRestOver s live claims waiting x × IsSealedFor keys path size r change (laid waiting (now x)) × IsPutBehind path size r waiting waiting' x y
+
+      told_sealed : (o : Option Log) → IsSealedIn read path size r change (option_map (laid_log waiting) o) → Told o (λ (l : Log). IsSealedFor keys path size r change (laid waiting (now l)))
+      told_sealed None p = tt
+      told_sealed (Some l) p = subst (λ (k : KeyPair). IsSealedFor k path size r change (laid waiting (now l))) same p
+
+      module _ (log' : Option Log) (put : Changes log_between log' (IsPutBehind path size r between waiting')) where
+        all : Changes log log' All
+        all =
+            changed_from log log' (λ (l : Log). IsSealedFor keys path size r change (laid waiting (now l))) (λ x y. IsAtRestOver s live claims waiting x × IsPutBehind path size r waiting waiting' x y) All
+            (λ x y c h. (h.0, c, h.1)) (told_sealed log sealed) (since (λ w. IsPutBehind path size r w waiting') log' put)
+
+        pub waits_put : Changes log log' (HasPut (sealing_of keys) request second answer live live' claims claims' waiting waiting')
+        waits_put = changed_by log log' All (HasPut s request second answer live live' claims claims' waiting waiting') (λ x y h. has_put x y h.0 h.1 h.2) all
+
+        pub rests_after : Told log' (IsAtRestOver (sealing_of keys) live' claims' waiting')
+        rests_after = told_new log log' All (IsAtRestOver s live' claims' waiting') (λ x y h. rests x y h.0 h.1 h.2) all
+
+        pub writes_put : (drew drew' : Option (List ℕ)) → Extends drew drew' (nonces_of r.sealed)
+            → Changes log log' (HasWritten (sealing_of keys) request second answer live live' claims claims' waiting waiting' drew drew')
+        unfolding has_put
+        writes_put drew drew' drawn =
+            changed_by log log' All (HasWritten s request second answer live live' claims claims' waiting waiting' drew drew')
+            (λ x y h. record { put = has_put x y h.0 h.1 h.2; nonces = drawn }) all
