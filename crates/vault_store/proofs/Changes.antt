@@ -24,7 +24,7 @@ use Rattle.tree_answers.proofs.Rows.{row_there, some_is}
 use Rattle.change_plans.specs.Plans.{HaveSizes, IsPlanned, IsPlannedIn, IsRefused}
 use Rattle.change_plans.specs.declared.planning.Plan.{Plan}
 use Rattle.change_plans.specs.declared.planning.Plan.TheVariants as plans
-use Rattle.node_changes.specs.Changed.{StandsOn, MayRefuse}
+use Rattle.node_changes.specs.Changed.{IsLate, StandsOn, MayRefuse}
 use Rattle.node_changes.specs.Causes.{IsUnchanged}
 use Rattle.node_changes.specs.Placed.{taken_for}
 use Rattle.node_changes.specs.Renaming.{IsRenaming}
@@ -98,6 +98,10 @@ some_name row c asked is = go c.name refl
 pub name_asked : (live : HeldTree) (number : ℕ) (c : PlainChange) (name : List ℕ) → IsPlanned live number c (plans.Rename name) → IsSome c.name
 name_asked live number c name planned =
     let is : IsPlannedIn (live_rows (sized_by live) live) number c (plans.Rename name) = planned (sized_by live) (sizes_there live) in some_name is.row c is.fits.asked is.fits.named
+
+-- what is planned isn't refused early
+pub plan_late : (keys : KeyPair) (live : HeldTree) (claims : List (List ℕ × ℕ)) (number : ℕ) (c : PlainChange) → SizesAreHeld (sealing_of keys) → (plan : Plan) → IsPlanned live number c plan → (d : Disk) → IsLate (sealing_of keys) (change number c) d live claims
+plan_late keys live claims number c sizes plan planned d contents stands = ap is_some (planned contents (sizes d live claims contents stands)).early
 
 -- ---- another name
 

@@ -1,5 +1,5 @@
 -- Turns in which what waits is committed, or is to be.
-use Rattle.std.proofs.Common.{◌≡◌, ℕ, suc, List, [], Bool, true, false, cond, Option, Some, None, IsErr, Result, Ok, Err, refl, sym, ap, subst, ◌∙◌, inl, inr, true≢false, arith}
+use Rattle.std.proofs.Common.{◌≡◌, ℕ, suc, ◌≤◌, List, [], Bool, true, false, cond, Option, Some, None, IsErr, Result, Ok, Err, refl, sym, ap, subst, ◌∙◌, inl, inr, true≢false, arith}
 use Rattle.std.specs.Option.{option_map}
 use Rattle.outside.specs.Calls.{Changes, Rose, Told}
 use Rattle.outside.specs.Disk.{Disk, Path as HostPath}
@@ -24,6 +24,7 @@ use Rattle.directory_scan.specs.Format.{sealing_of}
 use Rattle.live_tree.specs.Held.{HeldTree, live_rows}
 use Rattle.file_changes.specs.Waiting.{HasPut, IsFlush, IsNotFlushed, MayBeFlushed}
 use Rattle.file_changes.specs.Causes.{ContentCause}
+use Rattle.node_changes.specs.declared.tree.VaultTree.{VaultTree}
 use Rattle.node_changes.specs.declared.error.ChangeErr.{ChangeErr}
 use Rattle.node_changes.specs.declared.error.ChangeErr.TheVariants as change_errs
 use Rattle.node_changes.specs.Causes.{ErrCause, IfBroken, IfRefused, IsUnchanged, RefusalCause}
@@ -34,7 +35,7 @@ use Rattle.stop_history.specs.Stable.{is_kept}
 use Rattle.store_history.specs.Store.{StoreView, bounded}
 use Rattle.store_history.specs.Turns.{Draws, IsFlushed, IsQuietTurn, IsTurn, IsUnflushedTurn, Turn, made_of}
 use Rattle.vault_store.specs.declared.answering.Broken.{Broken}
-use Rattle.vault_store.specs.Open.{running, counted, stopped_in}
+use Rattle.vault_store.specs.Open.{running, counted, stopped_in, view_of}
 use Rattle.vault_store.specs.Outcome.{HasNotFlushed, HasReply, IsFormed, IsFrom, IsOutcome}
 use Rattle.vault_store.specs.Quiet.{IsStill}
 use Rattle.vault_store.proofs.ContentTurns.{content_refused, early_answer}
@@ -101,10 +102,7 @@ module _ (keys keys' : KeyPair) (live live' : HeldTree) (claims claims' : List (
       same = fault_asked buffer;
       is = record {
         is_turn = turn_from waiting before come (Some entries) (refused refusals.DeviceFault) true rose refl;
-        stops = refl;
-        failed = refl;
-        reply = refl;
-        may_commit = can;
+        stops = record { named = refl; failed = refl; reply = refl; may_commit = can };
         allowed = told_shown waiting before.log
             (λ d. (contents : ℕ → Content) → StandsOn s d live claims contents → IsAnswered (live_rows contents live) (made waiting before come (refused refusals.DeviceFault) true))
             (told_late before.log late);
@@ -251,6 +249,15 @@ module _ (keys keys' : KeyPair) (live live' : HeldTree) (claims claims' : List (
       inl (not_flushed keys keys' live live' claims claims' waiting waiting' entries before after source source' request second buffer come cause commits
       (told_first before.log after.log Fails (λ log. IsLate (sealing_of keys) request (laid waiting (now log)) live claims) (λ x y is. is.late) failed)
       (changed_by before.log after.log Fails (AnyMoment waiting) (λ x y is. is.any_moment) failed))
+
+-- the commit of what waits, before a request's own work
+pub flush_failed : (tree tree' : VaultTree) (waiting waiting' : List PlainDeed) (entries : ℕ) (before after : FolderView) (source : EntropyView) (request : PlainRequest) (second : ℕ) (broken : Broken) (buffer : List ℕ) → tree' ≡ tree
+    → before.faults ≤ after.faults → Rose before.faults after.faults → MayCommit request → ((d : Disk) → IsLate (sealing_of tree.keys) request d tree.live tree.claims) → Changes before.log after.log (AnyMoment waiting)
+    → IsOutcome (view_of tree waiting entries None) (view_of tree' waiting' entries None) before after source source request second (Err broken) buffer buffer
+flush_failed tree tree' waiting waiting' entries before after source request second broken buffer same later rose can late any =
+    inl (not_flushed tree.keys tree'.keys tree.live tree'.live tree.claims tree'.claims waiting waiting' entries before after source source request second buffer
+    (come_undrawn tree.keys tree'.keys before after source request (ap (λ (t : VaultTree). t.keys) same) later) rose can
+    (told_always before.log (λ log. IsLate (sealing_of tree.keys) request (laid waiting (now log)) tree.live tree.claims) (λ log. late (laid waiting (now log)))) any)
 
 -- ---- removals that are refused early
 

@@ -1,5 +1,6 @@
 -- After a reply a vault is at rest again.
-use Rattle.std.proofs.Common.{◌≡◌, ◌⊎◌, ℕ, List, [], OnOk, Option, Result, Ok, Err, sym, subst, inl, inr}
+use Rattle.std.proofs.Common.{◌≡◌, ◌⊎◌, ℕ, List, [], OnOk, Option, Some, None, IsSome, Result, Ok, Err, refl, sym, subst, inl, inr}
+use Rattle.std.specs.Option.{option_map}
 use Rattle.outside.specs.Calls.{Changes, Told}
 use Rattle.outside.specs.Disk.{Disk}
 use Rattle.outside.specs.Images.{Log, now}
@@ -7,8 +8,8 @@ use Rattle.outside.specs.Views.{FolderView, EntropyView}
 use Rattle.outside.proofs.Told.{told_both, told_new, told_then, changed_from}
 use Rattle.deeds.specs.Deeds.{PlainDeed}
 use Rattle.chunk_journal.specs.Journal.{HasCommitted, IsQuiet}
-use Rattle.pending_files.specs.Laid.{CanWait, laid}
-use Rattle.pending_files.proofs.Laying.{none_waits}
+use Rattle.pending_files.specs.Laid.{CanWait, laid, laid_log}
+use Rattle.pending_files.proofs.Laying.{none_waits, same_told}
 use Rattle.siv_mode.specs.Keys.{KeyPair}
 use Rattle.tree_model.specs.declared.reply.Reply.{Reply}
 use Rattle.tree_model.specs.Rows.{Content}
@@ -50,6 +51,16 @@ pub rests_flushed : (s : Sealing) (live : HeldTree) (claims : List (List ℕ × 
 rests_flushed s live claims waiting before after rest committed =
     told_new before after (λ a b. IsAtRest s live claims b) (IsAtRest s live claims) (λ a b is. is)
     (changed_from before after (IsAtRestOver s live claims waiting) (HasCommitted waiting) (λ a b. IsAtRest s live claims b) (flushed_on s live claims waiting) rest committed)
+
+-- what reads give is as it was: so are what waits and the folder
+pub rests_still : (s : Sealing) (live : HeldTree) (claims : List (List ℕ × ℕ)) (waiting waiting' : List PlainDeed) (before after : Option Log) → option_map (laid_log waiting') after ≡ option_map (laid_log waiting) before
+    → Told before (IsAtRestOver s live claims waiting) → Told after (IsAtRestOver s live claims waiting')
+rests_still s live claims waiting waiting' before after same rest =
+    let both = same_told waiting' waiting after before same in by after both.1 (subst (λ (o : Option Log). Told o (IsAtRestOver s live claims waiting)) (sym both.0) rest)
+  where
+    by : (log : Option Log) → (IsSome log → waiting' ≡ waiting) → Told log (IsAtRestOver s live claims waiting) → Told log (IsAtRestOver s live claims waiting')
+    by None waits rest = tt
+    by (Some log) waits rest = subst (λ (w : List PlainDeed). IsAtRestOver s live claims w log) (sym (waits refl)) rest
 
 -- what a vault at rest has
 pub rest_quiet : (s : Sealing) (live : HeldTree) (claims : List (List ℕ × ℕ)) (waiting : List PlainDeed) (log : Option Log) → Told log (IsAtRestOver s live claims waiting) → Told log IsQuiet

@@ -277,10 +277,7 @@ module _ (keys keys' : KeyPair) (live live' : HeldTree) (claims claims' : List (
         is = record {
           is_turn = turn_is (Some entries) (refused refusals.DeviceFault) [] drawn broken_at true come rose refl (told_path_is (disk_in before.log) path_on None);
           none = refl;
-          stops = refl;
-          failed = refl;
-          reply = refl;
-          may_commit = can;
+          stops = record { named = refl; failed = refl; reply = refl; may_commit = can };
           allowed = told_idle before.log _ (broken_allowed change);
           changed = change;
         };

@@ -26,7 +26,8 @@ use Rattle.store_history.specs.Store.{StoreView, moment_of}
 use Rattle.store_history.specs.Turns.{Draws, IsFlushed, IsQuietTurn, IsTakenFor, IsTurn, Turn, made_of}
 use Rattle.store_history.proofs.Alike.{for_alike}
 use Rattle.vault_store.specs.declared.answering.Broken.{Broken}
-use Rattle.vault_store.specs.Open.{counted, idle_of}
+use Rattle.node_changes.specs.declared.tree.VaultTree.{VaultTree}
+use Rattle.vault_store.specs.Open.{counted, idle_of, view_of}
 use Rattle.vault_store.specs.Outcome.{HasNotFlushed, HasReply, IsFrom, IsOutcome, IsWork}
 use Rattle.vault_store.specs.Quiet.{IsStill, IsStillTurn}
 use Rattle.vault_store.specs.Reading.{IsUnsynced}
@@ -176,6 +177,14 @@ module _ (old new : StoreView) (before after : FolderView) (source source' : Ent
         → IsOutcome old new before after source source' request second result buffer buffer'
     work_flushed (Ok reply) buffer buffer' is = record { between = between; amid = amid; flushed = inr flushed; is = is }
     work_flushed (Err broken) buffer buffer' is = inr (record { between = between; amid = amid; flushed = inr flushed; is = is })
+
+-- a request's own work, of the tree in memory, after a commit of what waited
+pub after_flush : (old : StoreView) (tree tree' : VaultTree) (waiting : List PlainDeed) (entries : ℕ) (before amid after : FolderView) (source source' : EntropyView) (request : PlainRequest) (second : ℕ) (result : Result Reply Broken) (buffer buffer' : List ℕ)
+    → waiting ≡ [] → IsFlushed old (view_of tree [] entries None) before amid → IsWork (view_of tree [] entries None) (view_of tree' [] entries None) amid after source source' request second result buffer buffer'
+    → IsOutcome old (view_of tree' waiting entries None) before after source source' request second result buffer buffer'
+after_flush old tree tree' waiting entries before amid after source source' request second result buffer buffer' none flushed is =
+    subst (λ (w : List PlainDeed). IsOutcome old (view_of tree' w entries None) before after source source' request second result buffer buffer') (sym none)
+    (work_flushed old (view_of tree' [] entries None) before after source source' request second (view_of tree [] entries None) amid flushed result buffer buffer' is)
 
 -- what comes of a refusal, and of any reply after which nothing is to last
 refused_loose : (request : PlainRequest) (refusal : Refusal) → is_kept request (refused refusal) ≡ false

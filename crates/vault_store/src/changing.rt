@@ -1,9 +1,10 @@
-ghost use Rattle.std.specs.Prelude.{◌≡◌, ◌≤◌, ℕ, List, None, Ok, IsErr};
+ghost use Rattle.std.specs.Prelude.{◌≡◌, ◌≤◌, ℕ, List, [], None, Ok, IsErr};
 ghost use Rattle.outside.specs.Calls.{Told};
 ghost use Rattle.outside.specs.Views.{EntropyView, entropy_view, folder_view};
 ghost use Rattle.directory_scan.specs.Format.{sealing_of};
 ghost use Rattle.tree_model.specs.declared.reply.Reply.TheVariants as replies;
-ghost use Rattle.tree_model.specs.Asked.{create as create_request, remove as remove_request, change as change_request, plain_change};
+ghost use Rattle.tree_model.specs.Asked.{create as create_request, remove as remove_request, change as change_request, PlainChange};
+ghost use Rattle.change_plans.specs.Plans.{CanResize, IsPlanned};
 ghost use Rattle.node_changes.specs.Changed.{IsAtRest};
 ghost use Rattle.node_changes.specs.Causes.{IfBroken, IfRefused};
 ghost use Rattle.vault_store.specs.Dated.{IsDated};
@@ -12,10 +13,10 @@ ghost use Rattle.vault_store.specs.Outcome.{IsWork};
 
 use crate::answering::{Broken, Vault};
 use crate::sizes::have_sizes;
-use change_plans::{Plan, plan_change};
+use change_plans::Plan;
 use node_changes::{ChangeErr, VaultTree};
 use outside::{Entropy, Folder};
-use tree_model::{Refusal, Reply, StatChange};
+use tree_model::Reply;
 
 impl<D: Folder> Vault<D> {
     /// Makes a file or a directory, where nothing waits.
@@ -81,6 +82,7 @@ impl<D: Folder> Vault<D> {
         requires rest { Told (D.log self.old.back.folder) (IsAtRest (sealing_of self.old.tree.keys) self.old.tree.live self.old.tree.claims) }
         requires threshold { (1 ≤ self.old.tree.threshold) × (self.old.tree.threshold ≤ 250) }
         requires planned { (c : PlainChange) × IsPlanned self.old.tree.live number c plan }
+        requires resizable { CanResize self.old.tree.live number plan }
         ensures outcome { (entries : ℕ) (buffer : List ℕ) (c : PlainChange) → c.modified ≡ modified → IsPlanned self.old.tree.live number c plan
             → IsWork (view_of self.old.tree [] entries None) (view_of self.new.tree [] entries None)
             (folder_view D.log D.faults D.changes self.old.back.folder) (folder_view D.log D.faults D.changes self.new.back.folder)

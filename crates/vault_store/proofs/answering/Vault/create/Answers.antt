@@ -1,37 +1,62 @@
-use Rattle.std.proofs.Common.{refl}
+use Rattle.std.proofs.Common.{[], Some, None, is_some, refl, ap, subst, arith}
 use Rattle.outside.specs.Views.{entropy_view, folder_view}
-use Rattle.tree_model.specs.declared.reply.Reply.TheVariants as replies
-use Rattle.tree_model.specs.Asked.{create, qid}
-use Rattle.tree_model.specs.Step.{says}
-use Rattle.vault_store.proofs.Turns.{changed_reply, change_err, draws, always_placed, changes_created, untaken_created}
+use Rattle.directory_scan.specs.Format.{sealing_of}
+use Rattle.tree_model.specs.Asked.{create}
+use Rattle.live_tree.specs.Held.{HeldTree, live_rows}
+use Rattle.change_plans.specs.Plans.{IsCreationRefusal}
+use Rattle.vault_store.specs.Open.{view_of}
+use Rattle.vault_store.proofs.ContentTurns.{early_answer, own_reply}
+use Rattle.vault_store.proofs.Flushes.{flush_failed}
+use Rattle.vault_store.proofs.Rests.{rest_waits, rests}
+use Rattle.vault_store.proofs.Turns.{come_undrawn}
+use Rattle.vault_store.proofs.Waiting.{after_flush, over, refused_outcome}
 use Rattle.vault_store.proofs.answering.Vault.create.Goals as goal
+
+pub returns-in-Some-clause-outcome : goal.returns-in-Some-clause-outcome
+returns-in-Some-clause-outcome g c = λ entries mode buffer.
+    let tree = c.args.self.now.tree in
+    let back = c.args.self.now.back in
+    let folder = folder_view g.D.Reads.log g.D.Reads.faults g.D.Reads.changes back.folder in
+    let source = entropy_view g.E.Entropy.drawn g.E.Entropy.faults c.args.entropy.now in
+    let request = create c.args.parent c.args.name.now c.args.is_dir mode in
+    let store = view_of tree back.waiting entries None in
+    refused_outcome store store folder folder source source request c.args.now (rest_waits (sealing_of tree.keys) tree.live tree.claims back.waiting folder.log c.requires.rest) c.in-Some.refusal buffer
+    (own_reply tree.keys tree.keys tree.live tree.live tree.claims tree.claims entries (over back.waiting folder) (over back.waiting folder) source source request c.args.now
+    (come_undrawn tree.keys tree.keys (over back.waiting folder) (over back.waiting folder) source request refl (omega arith)) c.in-Some.refusal buffer (record { live = refl; claims = refl; log = refl }) c.in-Some.ensures.own
+    (λ d contents stands. early_answer (live_rows contents tree.live) request c.args.now c.in-Some.refusal
+    (subst (λ (l : HeldTree). IsCreationRefusal l c.args.parent c.args.name.now (Some c.in-Some.refusal)) c.live.ensures c.in-Some.ensures.refusal contents c.args.is_dir mode)))
 
 pub returns-in-Ok-clause-outcome : goal.returns-in-Ok-clause-outcome
 returns-in-Ok-clause-outcome g c = λ entries mode buffer.
-    let before = folder_view g.D.Reads.log g.D.Reads.faults g.D.Reads.changes c.args.self.now.journal in
-    let after = folder_view g.D.Reads.log g.D.Reads.faults g.D.Reads.changes c.create.new.journal in
+    let tree = c.args.self.now.tree in
+    let back = c.args.self.now.back in
+    let before = folder_view g.D.Reads.log g.D.Reads.faults g.D.Reads.changes back.folder in
+    let amid = folder_view g.D.Reads.log g.D.Reads.faults g.D.Reads.changes c.flush.new.self.back.folder in
+    let after = folder_view g.D.Reads.log g.D.Reads.faults g.D.Reads.changes c.create_idle.new.self.back.folder in
     let source = entropy_view g.E.Entropy.drawn g.E.Entropy.faults c.args.entropy.now in
-    let source' = entropy_view g.E.Entropy.drawn g.E.Entropy.faults c.create.new.entropy in
-    let request = create c.args.parent c.args.name.now c.args.is_dir mode in
-    let came = c.in-Ok.ensures.came mode in
-    changed_reply c.args.self.now.tree.keys c.create.new.self.keys c.args.self.now.tree.live c.create.new.self.live c.args.self.now.tree.claims c.create.new.self.claims entries before after source source' request c.args.now
-    came.drawn (replies.Qid c.in-Ok.qid) buffer
-    (record { keys_are = c.in-Ok.ensures.keys; folder = c.in-Ok.ensures.later; entropy = c.in-Ok.ensures.entropy; may_draw = came.draw.directory; drawn_is = draws c.args.is_dir came.drawn source.drawn source'.drawn came.draw })
-    refl refl tt (record { form = tt; count = tt; enters = refl; rest = refl }) refl
-    (untaken_created c.args.self.now.tree.keys request c.args.now (says (qid c.in-Ok.qid)) came.drawn c.args.self.now.tree.live c.create.new.self.live c.args.self.now.tree.claims c.create.new.self.claims source.drawn source'.drawn before.log after.log came.changed)
-    (changes_created c.args.self.now.tree.keys request c.args.now (says (qid c.in-Ok.qid)) came.drawn c.args.self.now.tree.live c.create.new.self.live c.args.self.now.tree.claims c.create.new.self.claims source.drawn source'.drawn before.log after.log came.changed)
+    let source' = entropy_view g.E.Entropy.drawn g.E.Entropy.faults c.create_idle.new.entropy in
+    after_flush (view_of tree back.waiting entries None) c.flush.new.self.tree c.create_idle.new.self.tree c.create_idle.new.self.back.waiting entries before amid after source source' (create c.args.parent c.args.name.now c.args.is_dir mode) c.args.now
+    c.create_idle.result buffer buffer c.create_idle.ensures.idle (c.in-Ok.ensures.flushed entries) (c.create_idle.ensures.outcome entries mode buffer)
+
+pub returns-in-Ok-clause-rest : goal.returns-in-Ok-clause-rest
+returns-in-Ok-clause-rest g c =
+    let amid = folder_view g.D.Reads.log g.D.Reads.faults g.D.Reads.changes c.flush.new.self.back.folder in
+    let after = folder_view g.D.Reads.log g.D.Reads.faults g.D.Reads.changes c.create_idle.new.self.back.folder in
+    let was = c.flush.new.self.tree in
+    let new = c.create_idle.new.self in
+    let source = entropy_view g.E.Entropy.drawn g.E.Entropy.faults c.args.entropy.now in
+    let source' = entropy_view g.E.Entropy.drawn g.E.Entropy.faults c.create_idle.new.entropy in
+    rests was.keys new.tree.keys was.live new.tree.live was.claims new.tree.claims 0 amid after source source' (create c.args.parent c.args.name.now c.args.is_dir 0) c.args.now c.create_idle.result [] [] new.back.waiting
+    c.create_idle.ensures.keys c.create_idle.ensures.idle c.in-Ok.ensures.rest (c.create_idle.ensures.outcome 0 0 [])
 
 pub returns-in-Err-clause-outcome : goal.returns-in-Err-clause-outcome
 returns-in-Err-clause-outcome g c = λ entries mode buffer.
-    let before = folder_view g.D.Reads.log g.D.Reads.faults g.D.Reads.changes c.args.self.now.journal in
-    let after = folder_view g.D.Reads.log g.D.Reads.faults g.D.Reads.changes c.create.new.journal in
+    let tree = c.args.self.now.tree in
+    let back = c.args.self.now.back in
+    let before = folder_view g.D.Reads.log g.D.Reads.faults g.D.Reads.changes back.folder in
+    let after = folder_view g.D.Reads.log g.D.Reads.faults g.D.Reads.changes c.flush.new.self.back.folder in
     let source = entropy_view g.E.Entropy.drawn g.E.Entropy.faults c.args.entropy.now in
-    let source' = entropy_view g.E.Entropy.drawn g.E.Entropy.faults c.create.new.entropy in
-    let request = create c.args.parent c.args.name.now c.args.is_dir mode in
-    let came = c.in-Err.ensures.came mode in
-    change_err c.args.self.now.tree.keys c.create.new.self.keys c.args.self.now.tree.live c.create.new.self.live c.args.self.now.tree.claims c.create.new.self.claims entries before after source source' request c.args.now
-    came.drawn c.in-Err.error c.refused.result buffer c.refused.ensures.refused c.refused.ensures.broken
-    (record { keys_are = c.in-Err.ensures.keys; folder = c.in-Err.ensures.later; entropy = c.in-Err.ensures.entropy; may_draw = came.draw.directory; drawn_is = draws c.args.is_dir came.drawn source.drawn source'.drawn came.draw })
-    c.in-Err.ensures.unchanged (c.in-Err.ensures.cause mode)
-    (always_placed c.args.self.now.tree.keys c.create.new.self.keys c.args.self.now.tree.live c.create.new.self.live c.args.self.now.tree.claims c.create.new.self.claims entries before after source source' request c.args.now
-    came.drawn (λ rows. refl)) came.refused tt came.broken
+    flush_failed tree c.flush.new.self.tree back.waiting c.flush.new.self.back.waiting entries before after source (create c.args.parent c.args.name.now c.args.is_dir mode) c.args.now c.in-Err.broken buffer c.in-Err.ensures.tree
+    c.in-Err.ensures.cause.later (c.in-Err.ensures.cause.rose refl) tt
+    (λ d contents stands. ap is_some (subst (λ (l : HeldTree). IsCreationRefusal l c.args.parent c.args.name.now None) c.live.ensures c.in_default.ensures.refusal contents c.args.is_dir mode))
+    c.in-Err.ensures.failed

@@ -1,30 +1,53 @@
-use Rattle.std.proofs.Common.{◌≡◌, Option, None, refl}
-use Rattle.outside.specs.Disk.{Path as HostPath}
-use Rattle.outside.specs.Calls.{Rose}
-use Rattle.outside.specs.Views.{folder_view}
-use Rattle.outside.specs.Images.{disk_in}
-use Rattle.outside.proofs.Told.{told_always}
-use Rattle.tree_model.specs.declared.reply.Reply.TheVariants as replies
+use Rattle.std.proofs.Common.{[], Some, None, is_some, refl, ap, subst}
+use Rattle.outside.specs.Views.{EntropyView, folder_view}
+use Rattle.directory_scan.specs.Format.{sealing_of}
 use Rattle.tree_model.specs.Asked.{remove}
-use Rattle.vault_store.proofs.Turns.{come_undrawn, changed_reply, change_err, never_placed, undrawn_cause}
+use Rattle.live_tree.specs.Held.{HeldTree}
+use Rattle.node_changes.specs.Removal.{IsRemovalRefusal}
+use Rattle.vault_store.specs.Open.{view_of}
+use Rattle.vault_store.proofs.Flushes.{flush_failed, removal_refused}
+use Rattle.vault_store.proofs.Rests.{rest_waits, rests}
+use Rattle.vault_store.proofs.Waiting.{after_flush, over, refused_outcome}
 use Rattle.vault_store.proofs.answering.Vault.remove.Goals as goal
+
+pub returns-in-Some-clause-outcome : goal.returns-in-Some-clause-outcome
+returns-in-Some-clause-outcome g c = λ entries source buffer.
+    let tree = c.args.self.now.tree in
+    let back = c.args.self.now.back in
+    let folder = folder_view g.D.Reads.log g.D.Reads.faults g.D.Reads.changes back.folder in
+    let request = remove c.args.number in
+    let store = view_of tree back.waiting entries None in
+    refused_outcome store store folder folder source source request c.args.now (rest_waits (sealing_of tree.keys) tree.live tree.claims back.waiting folder.log c.requires.rest) c.in-Some.refusal buffer
+    (removal_refused tree.keys tree.live tree.claims entries (over back.waiting folder) source c.args.number c.args.now c.in-Some.refusal buffer c.in-Some.ensures.own
+    (subst (λ (l : HeldTree). IsRemovalRefusal l c.args.number (Some c.in-Some.refusal)) c.live.ensures c.in-Some.ensures.refusal))
 
 pub returns-in-Ok-clause-outcome : goal.returns-in-Ok-clause-outcome
 returns-in-Ok-clause-outcome g c = λ entries source buffer.
-    let before = folder_view g.D.Reads.log g.D.Reads.faults g.D.Reads.changes c.args.self.now.journal in
-    let after = folder_view g.D.Reads.log g.D.Reads.faults g.D.Reads.changes c.remove.new.journal in
-    changed_reply c.args.self.now.tree.keys c.remove.new.self.keys c.args.self.now.tree.live c.remove.new.self.live c.args.self.now.tree.claims c.remove.new.self.claims entries before after source source (remove c.args.number) c.args.now
-    None replies.Done buffer
-    (come_undrawn c.args.self.now.tree.keys c.remove.new.self.keys before after source (remove c.args.number) c.in-Ok.ensures.keys c.in-Ok.ensures.later)
-    refl refl tt (record { form = tt; count = tt; enters = refl; rest = refl }) refl (told_always (disk_in before.log) (λ d. ◌≡◌ {A = Option HostPath} None None) (λ d. refl)) c.in-Ok.ensures.changed
+    let tree = c.args.self.now.tree in
+    let back = c.args.self.now.back in
+    let before = folder_view g.D.Reads.log g.D.Reads.faults g.D.Reads.changes back.folder in
+    let amid = folder_view g.D.Reads.log g.D.Reads.faults g.D.Reads.changes c.flush.new.self.back.folder in
+    let after = folder_view g.D.Reads.log g.D.Reads.faults g.D.Reads.changes c.remove_idle.new.self.back.folder in
+    after_flush (view_of tree back.waiting entries None) c.flush.new.self.tree c.remove_idle.new.self.tree c.remove_idle.new.self.back.waiting entries before amid after source source (remove c.args.number) c.args.now
+    c.remove_idle.result buffer buffer c.remove_idle.ensures.idle (c.in-Ok.ensures.flushed entries) (c.remove_idle.ensures.outcome entries source buffer)
+
+pub returns-in-Ok-clause-rest : goal.returns-in-Ok-clause-rest
+returns-in-Ok-clause-rest g c =
+    let amid = folder_view g.D.Reads.log g.D.Reads.faults g.D.Reads.changes c.flush.new.self.back.folder in
+    let after = folder_view g.D.Reads.log g.D.Reads.faults g.D.Reads.changes c.remove_idle.new.self.back.folder in
+    let was = c.flush.new.self.tree in
+    let new = c.remove_idle.new.self in
+    let source : EntropyView = record { drawn = None; faults = 0 } in
+    rests was.keys new.tree.keys was.live new.tree.live was.claims new.tree.claims 0 amid after source source (remove c.args.number) c.args.now c.remove_idle.result [] [] new.back.waiting
+    c.remove_idle.ensures.keys c.remove_idle.ensures.idle c.in-Ok.ensures.rest (c.remove_idle.ensures.outcome 0 source [])
 
 pub returns-in-Err-clause-outcome : goal.returns-in-Err-clause-outcome
 returns-in-Err-clause-outcome g c = λ entries source buffer.
-    let before = folder_view g.D.Reads.log g.D.Reads.faults g.D.Reads.changes c.args.self.now.journal in
-    let after = folder_view g.D.Reads.log g.D.Reads.faults g.D.Reads.changes c.remove.new.journal in
-    change_err c.args.self.now.tree.keys c.remove.new.self.keys c.args.self.now.tree.live c.remove.new.self.live c.args.self.now.tree.claims c.remove.new.self.claims entries before after source source (remove c.args.number) c.args.now
-    None c.in-Err.error c.refused.result buffer c.refused.ensures.refused c.refused.ensures.broken
-    (come_undrawn c.args.self.now.tree.keys c.remove.new.self.keys before after source (remove c.args.number) c.in-Err.ensures.keys c.in-Err.ensures.later)
-    c.in-Err.ensures.unchanged (undrawn_cause (remove c.args.number) (Rose before.faults after.faults) (Rose source.faults source.faults) c.in-Err.error c.in-Err.ensures.cause)
-    (never_placed c.args.self.now.tree.keys c.remove.new.self.keys c.args.self.now.tree.live c.remove.new.self.live c.args.self.now.tree.claims c.remove.new.self.claims entries before after source source (remove c.args.number) c.args.now
-    None (λ d. refl)) c.in-Err.ensures.refused tt c.in-Err.ensures.broken
+    let tree = c.args.self.now.tree in
+    let back = c.args.self.now.back in
+    let before = folder_view g.D.Reads.log g.D.Reads.faults g.D.Reads.changes back.folder in
+    let after = folder_view g.D.Reads.log g.D.Reads.faults g.D.Reads.changes c.flush.new.self.back.folder in
+    flush_failed tree c.flush.new.self.tree back.waiting c.flush.new.self.back.waiting entries before after source (remove c.args.number) c.args.now c.in-Err.broken buffer c.in-Err.ensures.tree
+    c.in-Err.ensures.cause.later (c.in-Err.ensures.cause.rose refl) tt
+    (λ d contents stands. ap is_some (subst (λ (l : HeldTree). IsRemovalRefusal l c.args.number None) c.live.ensures c.in_default.ensures.refusal contents))
+    c.in-Err.ensures.failed

@@ -7,5 +7,5 @@ use Rattle.vault_store.proofs.store.Store.open.Goals as goal
 pub returns-clause-opened : goal.returns-clause-opened
 returns-clause-opened g c =
     let opened = c.in_ok-vault.ensures.opened in
-    openings_stand (folder_view g.D.Reads.log g.D.Reads.faults g.D.Reads.changes c.args.folder) (folder_view g.D.Reads.log g.D.Reads.faults g.D.Reads.changes c.in_ok-vault.vault.journal) c.args.keys.now c.args.now
-    opened.0 (view_of c.in_ok-vault.vault.tree 0 None) opened.1
+    openings_stand (folder_view g.D.Reads.log g.D.Reads.faults g.D.Reads.changes c.args.folder) (folder_view g.D.Reads.log g.D.Reads.faults g.D.Reads.changes c.in_ok-vault.vault.back.folder) c.args.keys.now c.args.now
+    opened.0 (view_of c.in_ok-vault.vault.tree c.in_ok-vault.vault.back.waiting 0 None) opened.1

@@ -13,64 +13,64 @@ use Rattle.vault_store.proofs.store.Store.serve.Goals.{in-Some, in-None+in-Ok, i
 
 -- the store after an entry was counted
 counted_is : (g : Over) (c : goal.After-self-2-1 g) (i : Inside g.row.D.Denot) → c.match-self.self-inside ≡ i
-    → view_of c.match-self.self-inside.vault.tree c.saturating_add-self-inside.result c.match-self.self-inside.stopped ≡ view_of i.vault.tree (bounded (suc i.entries)) i.stopped
+    → view_of c.match-self.self-inside.vault.tree c.match-self.self-inside.vault.back.waiting c.saturating_add-self-inside.result c.match-self.self-inside.stopped ≡ view_of i.vault.tree i.vault.back.waiting (bounded (suc i.entries)) i.stopped
 counted_is g c i is =
-    ap (λ (n : ℕ). view_of c.match-self.self-inside.vault.tree n c.match-self.self-inside.stopped) (c.saturating_add-self-inside.ensures ∙ ap (λ (n : ℕ). min n number_limit) (add-one c.match-self.self-inside.entries))
-    ∙ ap (λ (i : Inside g.row.D.Denot). view_of i.vault.tree (bounded (suc i.entries)) i.stopped) is
+    ap (λ (n : ℕ). view_of c.match-self.self-inside.vault.tree c.match-self.self-inside.vault.back.waiting n c.match-self.self-inside.stopped) (c.saturating_add-self-inside.ensures ∙ ap (λ (n : ℕ). min n number_limit) (add-one c.match-self.self-inside.entries))
+    ∙ ap (λ (i : Inside g.row.D.Denot). view_of i.vault.tree i.vault.back.waiting (bounded (suc i.entries)) i.stopped) is
 
-folder_is : (g : Over) (c : goal.After-self-2-1 g) (i : Inside g.row.D.Denot) → c.match-self.self-inside ≡ i → (folder_view g.D.Reads.log g.D.Reads.faults g.D.Reads.changes c.match-self.self-inside.vault.journal) ≡ (folder_view g.D.Reads.log g.D.Reads.faults g.D.Reads.changes i.vault.journal)
-folder_is g c i is = ap (λ (i : Inside g.row.D.Denot). (folder_view g.D.Reads.log g.D.Reads.faults g.D.Reads.changes i.vault.journal)) is
+folder_is : (g : Over) (c : goal.After-self-2-1 g) (i : Inside g.row.D.Denot) → c.match-self.self-inside ≡ i → (folder_view g.D.Reads.log g.D.Reads.faults g.D.Reads.changes c.match-self.self-inside.vault.back.folder) ≡ (folder_view g.D.Reads.log g.D.Reads.faults g.D.Reads.changes i.vault.back.folder)
+folder_is g c i is = ap (λ (i : Inside g.row.D.Denot). (folder_view g.D.Reads.log g.D.Reads.faults g.D.Reads.changes i.vault.back.folder)) is
 
 -- what was served, by what the store has inside
 served_inside : (g : Over) (c : goal.After-self-2-1 g)
-    → IsServed (view_of c.self.inside.vault.tree c.self.inside.entries c.self.inside.stopped) (view_of c.match-self.self-inside.vault.tree c.saturating_add-self-inside.result c.match-self.self-inside.stopped)
-    (folder_view g.D.Reads.log g.D.Reads.faults g.D.Reads.changes c.self.inside.vault.journal) (folder_view g.D.Reads.log g.D.Reads.faults g.D.Reads.changes c.match-self.self-inside.vault.journal)
+    → IsServed (view_of c.self.inside.vault.tree c.self.inside.vault.back.waiting c.self.inside.entries c.self.inside.stopped) (view_of c.match-self.self-inside.vault.tree c.match-self.self-inside.vault.back.waiting c.saturating_add-self-inside.result c.match-self.self-inside.stopped)
+    (folder_view g.D.Reads.log g.D.Reads.faults g.D.Reads.changes c.self.inside.vault.back.folder) (folder_view g.D.Reads.log g.D.Reads.faults g.D.Reads.changes c.match-self.self-inside.vault.back.folder)
     (entropy_view g.E.Entropy.drawn g.E.Entropy.faults c.args.entropy.now) (entropy_view g.E.Entropy.drawn g.E.Entropy.faults c.match-self.entropy) (plain_request c.args.request.now) c.args.now c.match-self.reply c.args.buffer.now c.match-self.buffer
 served_inside g c =
-    let old = view_of c.self.inside.vault.tree c.self.inside.entries c.self.inside.stopped in
-    let new = view_of c.match-self.self-inside.vault.tree c.saturating_add-self-inside.result c.match-self.self-inside.stopped in
-    let before = (folder_view g.D.Reads.log g.D.Reads.faults g.D.Reads.changes c.self.inside.vault.journal) in
-    let after = (folder_view g.D.Reads.log g.D.Reads.faults g.D.Reads.changes c.match-self.self-inside.vault.journal) in
+    let old = view_of c.self.inside.vault.tree c.self.inside.vault.back.waiting c.self.inside.entries c.self.inside.stopped in
+    let new = view_of c.match-self.self-inside.vault.tree c.match-self.self-inside.vault.back.waiting c.saturating_add-self-inside.result c.match-self.self-inside.stopped in
+    let before = (folder_view g.D.Reads.log g.D.Reads.faults g.D.Reads.changes c.self.inside.vault.back.folder) in
+    let after = (folder_view g.D.Reads.log g.D.Reads.faults g.D.Reads.changes c.match-self.self-inside.vault.back.folder) in
     let source = (entropy_view g.E.Entropy.drawn g.E.Entropy.faults c.args.entropy.now) in
     let source' = (entropy_view g.E.Entropy.drawn g.E.Entropy.faults c.match-self.entropy) in
     let request = (plain_request c.args.request.now) in
     elim c.match-self.branch [
       | in-Some w ↦
-          served_as old new (view_of c.self.inside.vault.tree (bounded (suc c.self.inside.entries)) c.self.inside.stopped) before after before source source' source request c.args.now c.match-self.reply (replies.Refused (refusals.Stopped w.in-Some.entry))
+          served_as old new (view_of c.self.inside.vault.tree c.self.inside.vault.back.waiting (bounded (suc c.self.inside.entries)) c.self.inside.stopped) before after before source source' source request c.args.now c.match-self.reply (replies.Refused (refusals.Stopped w.in-Some.entry))
           c.args.buffer.now c.match-self.buffer c.args.buffer.now (counted_is g c c.self.inside w.self-inside-is) (folder_is g c c.self.inside w.self-inside-is)
           (ap (λ (e : g.row.E.Denot). (entropy_view g.E.Entropy.drawn g.E.Entropy.faults e)) w.entropy-is) w.reply-is w.buffer-is
           (served_stopped old before source request c.args.now w.in-Some.entry c.args.buffer.now w.in-Some.is)
       | in-None+in-Ok w ↦
           let inside : Inside g.row.D.Denot = record { vault = w.answer.new.self; entries = c.self.inside.entries; stopped = c.self.inside.stopped } in
-          let after' = (folder_view g.D.Reads.log g.D.Reads.faults g.D.Reads.changes w.answer.new.self.journal) in
+          let after' = (folder_view g.D.Reads.log g.D.Reads.faults g.D.Reads.changes w.answer.new.self.back.folder) in
           let entropy' = (entropy_view g.E.Entropy.drawn g.E.Entropy.faults w.answer.new.entropy) in
-          served_as old new (view_of w.answer.new.self.tree (bounded (suc c.self.inside.entries)) c.self.inside.stopped) before after after' source source' entropy' request c.args.now c.match-self.reply w.in-Ok.reply
+          served_as old new (view_of w.answer.new.self.tree w.answer.new.self.back.waiting (bounded (suc c.self.inside.entries)) c.self.inside.stopped) before after after' source source' entropy' request c.args.now c.match-self.reply w.in-Ok.reply
           c.args.buffer.now c.match-self.buffer w.answer.new.buffer (counted_is g c inside w.self-inside-is) (folder_is g c inside w.self-inside-is)
           (ap (λ (e : g.row.E.Denot). (entropy_view g.E.Entropy.drawn g.E.Entropy.faults e)) w.entropy-is) w.reply-is w.buffer-is
-          (subst (λ (o : Option ℕ). IsServed (view_of c.self.inside.vault.tree c.self.inside.entries o) (view_of w.answer.new.self.tree (bounded (suc c.self.inside.entries)) o)
-          (folder_view g.D.Reads.log g.D.Reads.faults g.D.Reads.changes c.self.inside.vault.journal) (folder_view g.D.Reads.log g.D.Reads.faults g.D.Reads.changes w.answer.new.self.journal) (entropy_view g.E.Entropy.drawn g.E.Entropy.faults c.args.entropy.now) (entropy_view g.E.Entropy.drawn g.E.Entropy.faults w.answer.new.entropy) (plain_request c.args.request.now) c.args.now w.in-Ok.reply c.args.buffer.now w.answer.new.buffer) (sym w.in-None.is)
-          (served_reply (view_of c.self.inside.vault.tree c.self.inside.entries None) (view_of w.answer.new.self.tree c.self.inside.entries None) before after' source entropy' request c.args.now w.in-Ok.reply c.args.buffer.now w.answer.new.buffer
+          (subst (λ (o : Option ℕ). IsServed (view_of c.self.inside.vault.tree c.self.inside.vault.back.waiting c.self.inside.entries o) (view_of w.answer.new.self.tree w.answer.new.self.back.waiting (bounded (suc c.self.inside.entries)) o)
+          (folder_view g.D.Reads.log g.D.Reads.faults g.D.Reads.changes c.self.inside.vault.back.folder) (folder_view g.D.Reads.log g.D.Reads.faults g.D.Reads.changes w.answer.new.self.back.folder) (entropy_view g.E.Entropy.drawn g.E.Entropy.faults c.args.entropy.now) (entropy_view g.E.Entropy.drawn g.E.Entropy.faults w.answer.new.entropy) (plain_request c.args.request.now) c.args.now w.in-Ok.reply c.args.buffer.now w.answer.new.buffer) (sym w.in-None.is)
+          (served_reply (view_of c.self.inside.vault.tree c.self.inside.vault.back.waiting c.self.inside.entries None) (view_of w.answer.new.self.tree w.answer.new.self.back.waiting c.self.inside.entries None) before after' source entropy' request c.args.now w.in-Ok.reply c.args.buffer.now w.answer.new.buffer
           (w.in-Ok.ensures.outcome c.self.inside.entries)))
       | in-None+in-Err w ↦
           let inside : Inside g.row.D.Denot = record { vault = w.answer.new.self; entries = c.self.inside.entries; stopped = Some c.self.inside.entries } in
-          let after' = (folder_view g.D.Reads.log g.D.Reads.faults g.D.Reads.changes w.answer.new.self.journal) in
+          let after' = (folder_view g.D.Reads.log g.D.Reads.faults g.D.Reads.changes w.answer.new.self.back.folder) in
           let entropy' = (entropy_view g.E.Entropy.drawn g.E.Entropy.faults w.answer.new.entropy) in
-          served_as old new (view_of w.answer.new.self.tree (bounded (suc c.self.inside.entries)) (Some c.self.inside.entries)) before after after' source source' entropy' request c.args.now c.match-self.reply (replies.Refused refusals.DeviceFault)
+          served_as old new (view_of w.answer.new.self.tree w.answer.new.self.back.waiting (bounded (suc c.self.inside.entries)) (Some c.self.inside.entries)) before after after' source source' entropy' request c.args.now c.match-self.reply (replies.Refused refusals.DeviceFault)
           c.args.buffer.now c.match-self.buffer w.answer.new.buffer (counted_is g c inside w.self-inside-is) (folder_is g c inside w.self-inside-is)
           (ap (λ (e : g.row.E.Denot). (entropy_view g.E.Entropy.drawn g.E.Entropy.faults e)) w.entropy-is) w.reply-is w.buffer-is
-          (subst (λ (o : Option ℕ). IsServed (view_of c.self.inside.vault.tree c.self.inside.entries o) (view_of w.answer.new.self.tree (bounded (suc c.self.inside.entries)) (Some c.self.inside.entries))
-          (folder_view g.D.Reads.log g.D.Reads.faults g.D.Reads.changes c.self.inside.vault.journal) (folder_view g.D.Reads.log g.D.Reads.faults g.D.Reads.changes w.answer.new.self.journal) (entropy_view g.E.Entropy.drawn g.E.Entropy.faults c.args.entropy.now) (entropy_view g.E.Entropy.drawn g.E.Entropy.faults w.answer.new.entropy) (plain_request c.args.request.now) c.args.now (replies.Refused refusals.DeviceFault) c.args.buffer.now w.answer.new.buffer) (sym w.in-None.is)
-          (served_broken (view_of c.self.inside.vault.tree c.self.inside.entries None) (view_of w.answer.new.self.tree c.self.inside.entries None) before after' source entropy' request c.args.now c.args.buffer.now w.answer.new.buffer
+          (subst (λ (o : Option ℕ). IsServed (view_of c.self.inside.vault.tree c.self.inside.vault.back.waiting c.self.inside.entries o) (view_of w.answer.new.self.tree w.answer.new.self.back.waiting (bounded (suc c.self.inside.entries)) (Some c.self.inside.entries))
+          (folder_view g.D.Reads.log g.D.Reads.faults g.D.Reads.changes c.self.inside.vault.back.folder) (folder_view g.D.Reads.log g.D.Reads.faults g.D.Reads.changes w.answer.new.self.back.folder) (entropy_view g.E.Entropy.drawn g.E.Entropy.faults c.args.entropy.now) (entropy_view g.E.Entropy.drawn g.E.Entropy.faults w.answer.new.entropy) (plain_request c.args.request.now) c.args.now (replies.Refused refusals.DeviceFault) c.args.buffer.now w.answer.new.buffer) (sym w.in-None.is)
+          (served_broken (view_of c.self.inside.vault.tree c.self.inside.vault.back.waiting c.self.inside.entries None) (view_of w.answer.new.self.tree w.answer.new.self.back.waiting c.self.inside.entries None) before after' source entropy' request c.args.now c.args.buffer.now w.answer.new.buffer
           (w.in-Err.ensures.outcome c.self.inside.entries)))
     ]
 
 served : (g : Over) (c : goal.After-self-2-1 g)
-    → IsServed c.args.self.now.store (view_of c.match-self.self-inside.vault.tree c.saturating_add-self-inside.result c.match-self.self-inside.stopped)
-    (folder_view g.D.Reads.log g.D.Reads.faults g.D.Reads.changes c.args.self.now.folder) (folder_view g.D.Reads.log g.D.Reads.faults g.D.Reads.changes c.match-self.self-inside.vault.journal)
+    → IsServed c.args.self.now.store (view_of c.match-self.self-inside.vault.tree c.match-self.self-inside.vault.back.waiting c.saturating_add-self-inside.result c.match-self.self-inside.stopped)
+    (folder_view g.D.Reads.log g.D.Reads.faults g.D.Reads.changes c.args.self.now.folder) (folder_view g.D.Reads.log g.D.Reads.faults g.D.Reads.changes c.match-self.self-inside.vault.back.folder)
     (entropy_view g.E.Entropy.drawn g.E.Entropy.faults c.args.entropy.now) (entropy_view g.E.Entropy.drawn g.E.Entropy.faults c.match-self.entropy) (plain_request c.args.request.now) c.args.now c.match-self.reply c.args.buffer.now c.match-self.buffer
 served g c =
-    subst (λ (v : OpenVault g.row.D.Denot). IsServed v.store (view_of c.match-self.self-inside.vault.tree c.saturating_add-self-inside.result c.match-self.self-inside.stopped)
-    (folder_view g.D.Reads.log g.D.Reads.faults g.D.Reads.changes v.folder) (folder_view g.D.Reads.log g.D.Reads.faults g.D.Reads.changes c.match-self.self-inside.vault.journal)
+    subst (λ (v : OpenVault g.row.D.Denot). IsServed v.store (view_of c.match-self.self-inside.vault.tree c.match-self.self-inside.vault.back.waiting c.saturating_add-self-inside.result c.match-self.self-inside.stopped)
+    (folder_view g.D.Reads.log g.D.Reads.faults g.D.Reads.changes v.folder) (folder_view g.D.Reads.log g.D.Reads.faults g.D.Reads.changes c.match-self.self-inside.vault.back.folder)
     (entropy_view g.E.Entropy.drawn g.E.Entropy.faults c.args.entropy.now) (entropy_view g.E.Entropy.drawn g.E.Entropy.faults c.match-self.entropy) (plain_request c.args.request.now) c.args.now c.match-self.reply c.args.buffer.now c.match-self.buffer) c.self.view_is (served_inside g c)
 
 pub returns-clause-entry : goal.returns-clause-entry

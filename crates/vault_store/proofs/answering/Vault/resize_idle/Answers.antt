@@ -6,11 +6,11 @@ use Rattle.tree_model.specs.Asked.{change, done}
 use Rattle.tree_model.specs.Step.{says}
 use Rattle.file_changes.specs.Steps.{IsResizing}
 use Rattle.vault_store.proofs.ContentTurns.{change_resizes, come_drawing, content_err, content_reply, resize_unplaced, sizes_here}
-use Rattle.vault_store.proofs.answering.Vault.resize.Goals as goal
+use Rattle.vault_store.proofs.answering.Vault.resize_idle.Goals as goal
 
 pub returns-in-Ok-clause-outcome : goal.returns-in-Ok-clause-outcome
 returns-in-Ok-clause-outcome g c = λ entries buffer asked same planned.
-    let before = folder_view g.D.Reads.log g.D.Reads.faults g.D.Reads.changes c.args.self.now.journal in
+    let before = folder_view g.D.Reads.log g.D.Reads.faults g.D.Reads.changes c.args.self.now.back.folder in
     let after = folder_view g.D.Reads.log g.D.Reads.faults g.D.Reads.changes c.resize.new.journal in
     let source = entropy_view g.E.Entropy.drawn g.E.Entropy.faults c.args.entropy.now in
     let source' = entropy_view g.E.Entropy.drawn g.E.Entropy.faults c.resize.new.entropy in
@@ -27,7 +27,7 @@ returns-in-Ok-clause-outcome g c = λ entries buffer asked same planned.
 
 pub returns-in-Err-clause-outcome : goal.returns-in-Err-clause-outcome
 returns-in-Err-clause-outcome g c = λ entries buffer asked same planned.
-    let before = folder_view g.D.Reads.log g.D.Reads.faults g.D.Reads.changes c.args.self.now.journal in
+    let before = folder_view g.D.Reads.log g.D.Reads.faults g.D.Reads.changes c.args.self.now.back.folder in
     let after = folder_view g.D.Reads.log g.D.Reads.faults g.D.Reads.changes c.resize.new.journal in
     let source = entropy_view g.E.Entropy.drawn g.E.Entropy.faults c.args.entropy.now in
     let source' = entropy_view g.E.Entropy.drawn g.E.Entropy.faults c.resize.new.entropy in

@@ -1,0 +1,37 @@
+use Rattle.std.proofs.Common.{refl}
+use Rattle.outside.specs.Views.{entropy_view, folder_view}
+use Rattle.tree_model.specs.declared.reply.Reply.TheVariants as replies
+use Rattle.tree_model.specs.Asked.{create, qid}
+use Rattle.tree_model.specs.Step.{says}
+use Rattle.vault_store.proofs.Turns.{changed_reply, change_err, draws, always_placed, changes_created, untaken_created}
+use Rattle.vault_store.proofs.answering.Vault.create_idle.Goals as goal
+
+pub returns-in-Ok-clause-outcome : goal.returns-in-Ok-clause-outcome
+returns-in-Ok-clause-outcome g c = λ entries mode buffer.
+    let before = folder_view g.D.Reads.log g.D.Reads.faults g.D.Reads.changes c.args.self.now.back.folder in
+    let after = folder_view g.D.Reads.log g.D.Reads.faults g.D.Reads.changes c.create.new.journal in
+    let source = entropy_view g.E.Entropy.drawn g.E.Entropy.faults c.args.entropy.now in
+    let source' = entropy_view g.E.Entropy.drawn g.E.Entropy.faults c.create.new.entropy in
+    let request = create c.args.parent c.args.name.now c.args.is_dir mode in
+    let came = c.in-Ok.ensures.came mode in
+    changed_reply c.args.self.now.tree.keys c.create.new.self.keys c.args.self.now.tree.live c.create.new.self.live c.args.self.now.tree.claims c.create.new.self.claims entries before after source source' request c.args.now
+    came.drawn (replies.Qid c.in-Ok.qid) buffer
+    (record { keys_are = c.in-Ok.ensures.keys; folder = c.in-Ok.ensures.later; entropy = c.in-Ok.ensures.entropy; may_draw = came.draw.directory; drawn_is = draws c.args.is_dir came.drawn source.drawn source'.drawn came.draw })
+    refl refl tt (record { form = tt; count = tt; enters = refl; rest = refl }) refl
+    (untaken_created c.args.self.now.tree.keys request c.args.now (says (qid c.in-Ok.qid)) came.drawn c.args.self.now.tree.live c.create.new.self.live c.args.self.now.tree.claims c.create.new.self.claims source.drawn source'.drawn before.log after.log came.changed)
+    (changes_created c.args.self.now.tree.keys request c.args.now (says (qid c.in-Ok.qid)) came.drawn c.args.self.now.tree.live c.create.new.self.live c.args.self.now.tree.claims c.create.new.self.claims source.drawn source'.drawn before.log after.log came.changed)
+
+pub returns-in-Err-clause-outcome : goal.returns-in-Err-clause-outcome
+returns-in-Err-clause-outcome g c = λ entries mode buffer.
+    let before = folder_view g.D.Reads.log g.D.Reads.faults g.D.Reads.changes c.args.self.now.back.folder in
+    let after = folder_view g.D.Reads.log g.D.Reads.faults g.D.Reads.changes c.create.new.journal in
+    let source = entropy_view g.E.Entropy.drawn g.E.Entropy.faults c.args.entropy.now in
+    let source' = entropy_view g.E.Entropy.drawn g.E.Entropy.faults c.create.new.entropy in
+    let request = create c.args.parent c.args.name.now c.args.is_dir mode in
+    let came = c.in-Err.ensures.came mode in
+    change_err c.args.self.now.tree.keys c.create.new.self.keys c.args.self.now.tree.live c.create.new.self.live c.args.self.now.tree.claims c.create.new.self.claims entries before after source source' request c.args.now
+    came.drawn c.in-Err.error c.refused.result buffer c.refused.ensures.refused c.refused.ensures.broken
+    (record { keys_are = c.in-Err.ensures.keys; folder = c.in-Err.ensures.later; entropy = c.in-Err.ensures.entropy; may_draw = came.draw.directory; drawn_is = draws c.args.is_dir came.drawn source.drawn source'.drawn came.draw })
+    c.in-Err.ensures.unchanged (c.in-Err.ensures.cause mode)
+    (always_placed c.args.self.now.tree.keys c.create.new.self.keys c.args.self.now.tree.live c.create.new.self.live c.args.self.now.tree.claims c.create.new.self.claims entries before after source source' request c.args.now
+    came.drawn (λ rows. refl)) came.refused tt came.broken
