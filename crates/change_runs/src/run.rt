@@ -17,12 +17,14 @@ pub(crate) enum Manner {
     Redrawing,
 }
 
-/// How many requests began, how many of them were answered, up to which one no stop undoes them, and how often something failed.
+/// How many requests began, how many of them were answered, up to which one no stop undoes them, of how many at least the disk has the
+/// tree in the end, and how often something failed.
 #[derive(Clone, Copy, Debug, PartialEq, Eq)]
 pub(crate) struct Progress {
     pub begun: usize,
     pub answered: usize,
     pub stable: usize,
+    pub kept: usize,
     pub faults: u64,
 }
 
@@ -56,6 +58,7 @@ pub(crate) fn run_script(
         begun: 0,
         answered: 0,
         stable: 0,
+        kept: 0,
         faults: 0,
     };
     let mut opened = open(script.alloc, folder);
@@ -81,7 +84,8 @@ pub(crate) fn run_script(
 }
 
 impl Ended {
-    /// So many times something failed, and the folder holds the tree after the requests that were answered, or with the one that wasn't.
+    /// So many times something failed, and the folder holds the tree after the requests that were answered, or with the one that wasn't;
+    /// where a commit failed, at least that after those that no stop undoes.
     pub(crate) fn check(self, script: &Script<'_>, faults: u64) -> Result<(), RunErr> {
         let Ended {
             progress,
@@ -95,7 +99,7 @@ impl Ended {
             )?));
         }
         let tree = tree_in(script.alloc, folder)?;
-        script.check_tree(progress.answered, progress.begun, tree.as_str())
+        script.check_tree(progress.kept, progress.begun, tree.as_str())
     }
 }
 
@@ -111,15 +115,22 @@ impl Run<'_, '_> {
             script,
             vault,
             entropy,
-            progress,
+            mut progress,
             ..
         } = self;
         let (folder, closed) = vault.close();
-        if closed.is_err() != stopped {
+        if stopped && closed.is_ok() {
             return Err(RunErr::Wrong(format!(in script.alloc;
-                "closing fails: {}",
-                closed.is_err()
+                "closing is well after a commit that failed"
             )?));
+        }
+        progress.kept = progress.answered;
+        if closed.is_err() {
+            progress.kept = progress.stable;
+            // what waited was to be committed, and that failed
+            if !stopped {
+                progress.faults = progress.faults.saturating_add(1);
+            }
         }
         Ok(Ended {
             progress,

@@ -1,9 +1,11 @@
 //! Commits numbered batches to the journal of a folder on disk, until it has done so often or is killed, and shows the newest
-//! number that the folder has. `bench/crash` kills it at random moments and looks that nothing is lost.
+//! number that the folder has. `bench/crash` kills it at random moments and looks that nothing is lost; `bench/commit` counts its
+//! system calls.
 //!
 //! ```text
 //! journal_crash run FOLDER COUNT   # a line with each number once its commit was acknowledged
 //! journal_crash show FOLDER        # a line with the newest number, after recovery
+//! journal_crash put FOLDER COUNT   # so many commits, each of which puts one file of 100 bytes and nothing else
 //! ```
 #![tactic(auto)]
 
@@ -36,10 +38,13 @@ const MOVES: [[u8; 7]; 2] = [[3, 1, 1, b'c', 1, 1, b'd'], [3, 1, 1, b'd', 1, 1, 
 /// Makes the first file `c`: the number 0.
 const FIRST: [u8; 12] = [0, 0, 0, 1, 2, 1, 1, b'c', 0, 0, 0, 0];
 
+/// A batch up to the bytes that it puts into the file `e`, which is all that it does.
+const ALONE: [u8; 12] = [0, 0, 0, 1, 2, 1, 1, b'e', 0, 0, 0, 100];
+
 /// Why it ends with status 1.
 #[derive(Debug, Drop, Error)]
 enum CrashErr {
-    #[error("the words are: run FOLDER COUNT, or show FOLDER")]
+    #[error("the words are: run FOLDER COUNT, put FOLDER COUNT, or show FOLDER")]
     Words,
     #[error("{0}")]
     Io(#[from] io::Error),
@@ -82,6 +87,17 @@ fn batch_of(alloc: Global, number: u64) -> Result<Vec<Deed>, CrashErr>
         &MOVES[1]
     };
     text.extend_from_slice(moves)?;
+    let deeds = read_batch(alloc, &text)?;
+    Ok(deeds)
+}
+
+/// The batch of a number that puts one file alone.
+fn put_of(alloc: Global, number: u64) -> Result<Vec<Deed>, CrashErr>
+    ensures { IfOk result (λ deeds. IsBatch (plains deeds.items)) }
+{
+    let mut text = Vec::new(alloc);
+    text.extend_from_slice(&ALONE)?;
+    text.extend_from_slice(&bytes_of(number))?;
     let deeds = read_batch(alloc, &text)?;
     Ok(deeds)
 }
@@ -156,6 +172,15 @@ fn run(rt: &HostRuntime, place: &str, count: u64) -> Result<(), CrashErr> {
     Ok(())
 }
 
+/// Commits so many batches, each of which puts one file.
+fn put(rt: &HostRuntime, place: &str, count: u64) -> Result<(), CrashErr> {
+    let mut journal = opened(rt, place)?;
+    for number in 0..count {
+        commit(&mut journal, &put_of(rt.alloc(), number)?)?;
+    }
+    Ok(())
+}
+
 fn main(rt: HostRuntime) -> Result<(), CrashErr> {
     let mut words = env::args(&rt)?.skip(1);
     let word = words.next().ok_or(CrashErr::Words)?;
@@ -168,5 +193,8 @@ fn main(rt: HostRuntime) -> Result<(), CrashErr> {
     }
     let count = words.next().ok_or(CrashErr::Words)?;
     let count = count.as_str().parse::<u64>().map_err(|_| CrashErr::Words)?;
+    if word.as_str() == "put" {
+        return put(&rt, place.as_str(), count);
+    }
     run(&rt, place.as_str(), count)
 }

@@ -4,3 +4,5 @@ pub mod Names
 pub mod Moving
 pub mod Logs
 pub mod Drawn
+pub mod Pictures
+pub mod Choices

@@ -1,14 +1,13 @@
 -- Logs of the calls that a folder in memory keeps.
 use Rattle.std.proofs.Common.{◌≡◌, ◌⊎◌, ℕ, ◌/◌, ◌≤◌, List, [], ◌∷◌, ◌++◌, length, take, Some, Result, Ok, Err, OnOk, OnErr, refl, ap, ◌∙◌, inl, inr, arith, length-take, sym, subst, ◌+◌, ◌<◌, drop, get_or, replicate, take-append-drop}
 use Rattle.std.proofs.lemmas.Grind.{common_steps}
-use Rattle.std.proofs.lemmas.List.{length-replicate}
 use Rattle.outside.specs.Disk.{Disk, file, node_at, IsTree}
 use Rattle.outside.specs.Changes.{Change, MakeDir, Put, Write, SetLen, Move, RemoveFile, RemoveDir, CanDo, done, overwritten, in_file, bytes_or_none, IsPartOf, IsTornPut}
-use Rattle.outside.specs.Images.{Call, Log, disk_after, now, adds, Did, Broke, MayLeave, IsSound, BreaksInto, HasBroken}
+use Rattle.outside.specs.Images.{Call, Log, disk_after, now, adds, Did, Broke, IsSound, BreaksInto, HasBroken}
 use Rattle.outside.proofs.Trees.{tree_done}
 use Rattle.outside.proofs.Steady.{whole_part, written_torn, sound_image}
 use Rattle.outside_mem.specs.Held.{Holding}
-use Rattle.outside_mem.specs.Kept.{own_bytes, with_bytes, halved, call_of, calls_after, all_calls, disk_by, IsMadeOrNot, CanRepeat, left_by, filled}
+use Rattle.outside_mem.specs.Kept.{own_bytes, with_bytes, halved, call_of, calls_after, all_calls, disk_by, CanRepeat, left_by}
 use Rattle.outside_mem.specs.declared.change.MemCall.{MemCall}
 use Rattle.outside_mem.specs.declared.change.MemCall.TheVariants as calls
 
@@ -108,51 +107,6 @@ can_again start calls n call within at sound =
 -- and leaves what it left
 pub left_again : (start : Disk) (calls : List MemCall) (n : ℕ) (call : MemCall) → n < length calls → call ≡ get_or calls n call → disk_by start (take (n + 1) calls) ≡ left_by call (disk_by start (take n calls))
 left_again start calls n call within at = ap (disk_after start) (up_to_more start calls n call within at) ∙ leaves_first start call (all_calls start (take n calls))
-
--- ---- what a stop leaves
-
-can_without : (change : Change) (others : List ℕ) (d : Disk) → CanDo (with_bytes change others) d → CanDo change d
-can_without (MakeDir p) others d can = can
-can_without (Put p bytes) others d can = can
-can_without (Write p at bytes) others d can = can
-can_without (SetLen p n) others d can = can
-can_without (Move from to) others d can = can
-can_without (RemoveFile p) others d can = can
-can_without (RemoveDir p) others d can = can
-
--- a change with other bytes, where it can be made, leaves a part of the change
-pub part_made : (change : Change) (others : List ℕ) (d e : Disk) → length others ≤ length (own_bytes change) → IsMadeOrNot (with_bytes change others) d e → IsPartOf change d e
-part_made change others d e le (inl same) = inl same
-part_made change others d e le (inr made) = subst (IsPartOf change d) (sym made.1) (part_with change others d le (can_without change others d made.0))
-
--- and so does the change itself
-pub part_whole : (change : Change) (d e : Disk) → IsMadeOrNot change d e → IsPartOf change d e
-part_whole change d e (inl same) = inl same
-part_whole change d e (inr made) = subst (IsPartOf change d) (sym made.1) (whole_part change d made.0)
-
-pub part_filled : (change : Change) (d e : Disk) → IsMadeOrNot (filled change) d e → IsPartOf change d e
-part_filled change d e made = part_made change (replicate (length (own_bytes change)) 165) d e (few (length (own_bytes change)) 165) made
-  where
-    few : (n x : ℕ) → length (replicate n x) ≤ n
-    few n x = let e : length (replicate n x) ≡ n = length-replicate n x in omega (arith, e)
-
--- a tree stays one
-pub made_tree : (change : Change) (d e : Disk) → IsTree d → IsMadeOrNot change d e → IsTree e
-made_tree change d e tree (inl same) = subst IsTree (sym same) tree
-made_tree change d e tree (inr made) = subst IsTree (sym made.1) (tree_done change d tree made.0)
-
--- what a stop leaves after one change more
-pub stopped_change : (start : Disk) (calls : List MemCall) (n : ℕ) (call : MemCall) (change : Change) (d e : Disk) → n < length calls → call ≡ get_or calls n call
-    → (call_of (disk_by start (take n calls)) call ≡ Did change) ⊎ ((left : Disk) × (call_of (disk_by start (take n calls)) call ≡ Broke change left))
-    → MayLeave start (all_calls start (take n calls)) d → IsPartOf change d e × IsTree e → MayLeave start (all_calls start (take (n + 1) calls)) e
-stopped_change start calls n call change d e within at (inl did) before part =
-    subst (λ (l : List Call). MayLeave start l e) (sym (up_to_more start calls n call within at ∙ ap (λ (x : Call). x ∷ all_calls start (take n calls)) did)) (d, before, part.0, part.1)
-stopped_change start calls n call change d e within at (inr broke) before part =
-    subst (λ (l : List Call). MayLeave start l e) (sym (up_to_more start calls n call within at ∙ ap (λ (x : Call). x ∷ all_calls start (take n calls)) broke.1)) (d, before, part.0, part.1)
-
--- and after a sync
-pub stopped_sync : (start : Disk) (calls : List MemCall) (n : ℕ) (e : Disk) → IsSound start (all_calls start calls) → e ≡ disk_by start (take n calls) → MayLeave start (all_calls start (take n calls)) e
-stopped_sync start calls n e sound is = subst (λ (d : Disk). MayLeave start (all_calls start (take n calls)) d) (sym is) (sound_image start (all_calls start (take n calls)) (sound_up_to start calls n sound))
 
 -- the calls that a folder keeps are as they can be
 pub sound_kept : (log : Log) (start : Disk) (calls : List MemCall) → log.start ≡ start → log.calls ≡ all_calls log.start calls → IsSound log.start log.calls → IsSound start (all_calls start calls)

@@ -1,5 +1,5 @@
 -- The calls that a folder in memory keeps, as those of its log.
-use Rattle.std.specs.Prelude.{◌≡◌, ◌⊎◌, ⊤, ℕ, ◌/◌, List, [], ◌∷◌, length, take, replicate}
+use Rattle.std.specs.Prelude.{◌≡◌, ⊤, ℕ, ◌/◌, List, [], ◌∷◌, length, take, replicate}
 use Rattle.outside.specs.Disk.{Disk}
 use Rattle.outside.specs.Changes.{Change, MakeDir, Put, Write, SetLen, Move, RemoveFile, RemoveDir, CanDo, done}
 use Rattle.outside.specs.Images.{Call, Did, Broke, Synced, Log, IsImage, disk_after}
@@ -65,10 +65,6 @@ all_calls start calls = calls_after start calls []
 -- what the calls leave of a disk
 abbrev pub disk_by : Disk → List MemCall → Disk
 disk_by start calls = disk_after start (all_calls start calls)
-
--- a change was made where it can be, or nothing was
-abbrev pub IsMadeOrNot : Change → Disk → Disk → Type 0
-IsMadeOrNot change old new = (new ≡ old) ⊎ (CanDo change old × (new ≡ done change old))
 
 -- ---- a call that is made again
 

@@ -3,6 +3,8 @@ pub mod Plan
 pub mod Held
 pub mod Entries
 pub mod Kept
+pub mod Pictures
+pub mod Choices
 pub mod Words
 pub mod Streams
 pub mod Links

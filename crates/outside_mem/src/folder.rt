@@ -5,7 +5,8 @@ ghost use Rattle.outside.specs.Changes.{MakeDir, Put, Write, SetLen, Move, Remov
 ghost use Rattle.outside.specs.Images.{Did, Broke, Synced, now, adds, disk_after, IsSound, HasDone, HasBroken};
 ghost use Rattle.outside_mem.specs.Plan.{no_faults, fails_next, breaks_next, after, failing_at, breaking_at, is_failed};
 ghost use Rattle.outside_mem.specs.Held.{bare};
-ghost use Rattle.outside_mem.specs.Kept.{change_of, halved, call_of, all_calls, disk_by, IsMadeOrNot};
+ghost use Rattle.outside_mem.specs.Kept.{change_of, halved, call_of, all_calls, disk_by};
+ghost use Rattle.outside_mem.specs.Pictures.{IsTried};
 
 use crate::change::{MemCall, MemChange};
 use crate::disk::MemDisk;
@@ -154,7 +155,7 @@ impl MemFolder {
     /// The folder after a change, where that can be made, and else as it is.
     pub(crate) fn with_change(mut self, change: MemChange) -> Result<MemFolder, AllocError>
         ensures start { IfOk result (λ folder. folder.log.start ≡ self.log.start) }
-        ensures made { IfOk result (λ folder. IsMadeOrNot (change_of change) (now self.log) (now folder.log)) }
+        ensures made { IfOk result (λ folder. IsTried (change_of change) (now self.log) (now folder.log)) }
     {
         let fits = self.disk().can_do(&change);
         if fits {

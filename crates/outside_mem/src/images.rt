@@ -1,16 +1,17 @@
-ghost use Rattle.std.specs.Prelude.{◌≡◌, ◌≤◌, ◌<◌, ◌+◌, length, take, IfOk, OnOk};
+ghost use Rattle.std.specs.Prelude.{◌≡◌, ◌≤◌, ◌+◌, ◌*◌, ℕ, min, length, take, IfOk, OnOk};
 ghost use Rattle.std.specs.List.{AllByRecursion};
-ghost use Rattle.outside.specs.Disk.{IsTree};
-ghost use Rattle.outside.specs.Changes.{IsPartOf};
-ghost use Rattle.outside.specs.Images.{now, MayLeave, IsSound};
+ghost use Rattle.outside.specs.Disk.{Disk};
+ghost use Rattle.outside.specs.Images.{now, IsSound};
 ghost use Rattle.outside_mem.specs.Held.{bare};
 ghost use Rattle.outside_mem.specs.Kept.{change_of, all_calls, disk_by, CanRepeat, left_by, IsStopped};
+ghost use Rattle.outside_mem.specs.Pictures.{changes_since, synced_disk, pictured, AreTried, ArePictures};
+ghost use Rattle.outside_mem.specs.Choices.{left_of, left_of_call, leaves_at, chosen, all_choices};
 
 use crate::change::{MemCall, MemChange};
 use crate::folder::MemFolder;
 use std::alloc::{AllocError, Global};
 
-// What a stop leaves of a call.
+// What an image has of a change.
 #[derive(Clone, Copy)]
 enum Leaves {
     Nothing,
@@ -18,35 +19,62 @@ enum Leaves {
     Filled,
 }
 
+// What an image has of each change since the last sync: the same of each, or of the one with so many older ones something else.
+#[derive(Clone, Copy)]
+enum Choice {
+    Each(Leaves),
+    One(usize, Leaves, Leaves),
+}
+
+impl Choice {
+    // What it has of the change with so many older ones.
+    fn leaves(self, age: usize) -> Leaves
+        ensures { result ≡ leaves_at self age }
+    {
+        match self {
+            Choice::Each(leaves) => leaves,
+            Choice::One(at, own, others) => { if age == at { own } else { others } }
+        }
+    }
+}
+
 impl MemFolder {
     /// At most `most` folders, each of which begins with what a stop may leave of this one now, and has no calls. The first
     /// has nothing of what was done since the last sync, the second all of it, and the third all with 0xA5 in place of the
     /// bytes. Then come three for each call since, from the newest on: all but it, it alone, and all with 0xA5 in its place.
+    /// A call that broke off counts whole, and a change that can't be made where others are left out is left out too.
     pub fn images(&self, most: usize) -> Result<Vec<MemFolder>, AllocError>
         ensures few { IfOk result (λ images. length images.items ≤ most) }
         ensures stopped { IfOk result (λ images. AllByRecursion (IsStopped self.now.log) images.items) }
+        ensures count { IfOk result (λ images. length images.items ≡ min most (3 * length (changes_since self.now.log.calls) + 3)) }
+        ensures listed { IfOk result (λ images.
+            ArePictures (synced_disk self.now.log.start self.now.log.calls)
+            (take most (pictured (changes_since self.now.log.calls))) images.items) }
     {
         let calls = self.kept_calls();
-        let since = calls.len() - synced_len(calls);
-        let count = most.min(since.saturating_mul(3).saturating_add(3));
+        let choices = choices_of(self.alloc(), calls.len() - synced_len(calls))?;
+        let count = most.min(choices.len());
         let mut images = Vec::new(self.alloc());
         for number in 0..count {
-            images.push(self.image(number)?)?;
+            images.push(self.image(choices[number])?)?;
         }
         Ok(images)
     }
 
-    // The image of a number.
-    fn image(&self, number: usize) -> Result<MemFolder, AllocError>
-        ensures { IfOk result (λ image. IsStopped self.now.log image) }
+    // The image of a choice.
+    fn image(&self, choice: Choice) -> Result<MemFolder, AllocError>
+        ensures stopped { IfOk result (λ image. IsStopped self.now.log image) }
+        ensures chosen { IfOk result (λ image.
+            AreTried (chosen choice (changes_since self.now.log.calls))
+            (synced_disk self.now.log.start self.now.log.calls) (now image.log)) }
     {
         let calls = self.kept_calls();
         let first = self.first_calls();
         let synced = synced_len(calls);
         let mut image = replayed(self.alloc(), first, &calls[..synced])?;
         for index in synced..calls.len() {
-            let leaves = leaves_of(number, calls.len() - 1 - index);
-            image = stopped(self.alloc(), image, first, calls, index, leaves)?;
+            let leaves = choice.leaves(index - synced);
+            image = with_call(self.alloc(), image, &calls[index], leaves)?;
         }
         Ok(image.restarted())
     }
@@ -90,42 +118,32 @@ fn replayed(alloc: Global, first: &[MemCall], calls: &[MemCall]) -> Result<MemFo
     Ok(folder)
 }
 
-// What a stop leaves after one call more, from what it left before it.
-fn stopped(
+// An image with what it has of one call more.
+fn with_call(
     alloc: Global,
     image: MemFolder,
-    first: &[MemCall],
-    calls: &[MemCall],
-    index: usize,
+    call: &MemCall,
     leaves: Leaves,
 ) -> Result<MemFolder, AllocError>
-    requires first { IsSound bare (all_calls bare first.now) }
-    requires calls { IsSound (disk_by bare first.now) (all_calls (disk_by bare first.now) calls.now) }
-    requires within { index < length calls.now }
-    requires start { image.log.start ≡ bare }
-    requires before { MayLeave (disk_by bare first.now) (all_calls (disk_by bare first.now) (take index calls.now)) (now image.log) }
-    ensures start { IfOk result (λ image. image.log.start ≡ bare) }
-    ensures after { IfOk result (λ image.
-        MayLeave (disk_by bare first.now) (all_calls (disk_by bare first.now) (take (index + 1) calls.now)) (now image.log)) }
+    ensures start { IfOk result (λ left. left.log.start ≡ image.log.start) }
+    ensures tried { IfOk result (λ left. AreTried (left_of_call leaves call.now) (now image.log) (now left.log)) }
 {
-    match &calls[index] {
-        MemCall::Did(change) => part_left(alloc, image, change, leaves),
-        MemCall::Broke(change) => part_left(alloc, image, change, leaves),
-        MemCall::Synced => replayed(alloc, first, &calls[..index + 1]),
+    match call {
+        MemCall::Did(change) => with_part(alloc, image, change, leaves),
+        MemCall::Broke(change) => with_part(alloc, image, change, leaves),
+        MemCall::Synced => Ok(image),
     }
 }
 
-// A part of a change.
-fn part_left(
+// An image with what it has of one change more.
+fn with_part(
     alloc: Global,
     image: MemFolder,
     change: &MemChange,
     leaves: Leaves,
 ) -> Result<MemFolder, AllocError>
-    requires { IsTree (now image.log) }
     ensures start { IfOk result (λ left. left.log.start ≡ image.log.start) }
-    ensures part { IfOk result (λ left.
-        IsPartOf (change_of change.now) (now image.log) (now left.log) × IsTree (now left.log)) }
+    ensures tried { IfOk result (λ left. AreTried (left_of leaves (change_of change.now)) (now image.log) (now left.log)) }
 {
     match leaves {
         Leaves::Nothing => Ok(image),
@@ -134,30 +152,34 @@ fn part_left(
     }
 }
 
-// How many calls there were up to the last sync.
+// How many calls there were up to the last sync: all since are changes.
 fn synced_len(calls: &[MemCall]) -> usize
-    ensures { result ≤ length calls.now }
+    ensures within { result ≤ length calls.now }
+    ensures since { (start : Disk) (k : ℕ) → result ≤ k → k ≤ length calls.now
+        → length (changes_since (all_calls start (take k calls.now))) + result ≡ k }
 {
     let mut synced = 0;
     for index in 0..calls.len() {
-        if matches!(calls[index], MemCall::Synced) {
+        if let MemCall::Synced = &calls[index] {
             synced = index + 1;
         }
     }
     synced
 }
 
-// What the image of a number has of the call that is so many before the newest.
-fn leaves_of(number: usize, back: usize) -> Leaves {
-    let (others, own) = match number {
-        0 => return Leaves::Nothing,
-        1 => return Leaves::All,
-        2 => return Leaves::Filled,
-        _ => match number % 3 {
-            0 => (Leaves::All, Leaves::Nothing),
-            1 => (Leaves::Nothing, Leaves::All),
-            _ => (Leaves::All, Leaves::Filled),
-        },
-    };
-    if back == number / 3 - 1 { own } else { others }
+// The choices of the images that are listed, of so many changes since the last sync.
+fn choices_of(alloc: Global, since: usize) -> Result<Vec<Choice>, AllocError>
+    ensures { IfOk result (λ choices. choices.items ≡ all_choices since) }
+{
+    let mut choices = Vec::new(alloc);
+    choices.push(Choice::Each(Leaves::Nothing))?;
+    choices.push(Choice::Each(Leaves::All))?;
+    choices.push(Choice::Each(Leaves::Filled))?;
+    for back in 0..since {
+        let at = since - 1 - back;
+        choices.push(Choice::One(at, Leaves::Nothing, Leaves::All))?;
+        choices.push(Choice::One(at, Leaves::All, Leaves::Nothing))?;
+        choices.push(Choice::One(at, Leaves::Filled, Leaves::All))?;
+    }
+    Ok(choices)
 }

@@ -91,7 +91,7 @@ at_more (Some s) xs ys h k = all_joined (λ (a : Asked). a.second ≡ s) xs ys h
 done_at : (action : Action) (s : State) (frame : List ℕ) (second : ℕ) (request : Option Asked) (answer : List ℕ) (next : State) (e : Exchanged s frame second request answer next)
     → IsDone action s (message_in frame) second request e.answer next → AllByRecursion (λ a. a.second ≡ second) (option_to_list request)
 done_at (says said after) s frame second request answer next e is = subst (λ (r : Option Asked). AllByRecursion (λ a. a.second ≡ second) (option_to_list r)) (sym is.0) tt
-done_at (asks asked) s frame second request answer next e is = subst (λ (r : Option Asked). AllByRecursion (λ a. a.second ≡ second) (option_to_list r)) (sym is.1) (is.3, tt)
+done_at (asks asked) s frame second request answer next e (entry, asked_is, request_is, second_is, outcome_is) = subst (λ (r : Option Asked). AllByRecursion (λ a. a.second ≡ second) (option_to_list r)) (sym asked_is) (second_is, tt)
 
 -- what was asked for a message was asked at its second
 asked_at : (s : State) (frame : List ℕ) (second : ℕ) (request : Option Asked) (answer : List ℕ) (next : State) → Exchanged s frame second request answer next
@@ -105,10 +105,12 @@ at_clock None s frame second request answer next e h = tt
 at_clock (Some t) s frame second request answer next e h =
     subst (λ (n : ℕ). AllByRecursion (λ (a : Asked). a.second ≡ n) (option_to_list request)) e (asked_at s frame second request answer next h)
 
-extends_more : {B : Type 0} (stands : B → B → List Asked → Type 0) (a b c : B) (xs ys : List Asked) → Extends stands a b xs → Extends stands b c ys → Extends stands a c (xs ++ ys)
+-- an object that was asked these, and then those
+pub extends_more : {B : Type 0} (stands : B → B → List Asked → Type 0) (a b c : B) (xs ys : List Asked) → Extends stands a b xs → Extends stands b c ys → Extends stands a c (xs ++ ys)
 extends_more stands a b c xs ys h k = λ start before stood. subst (λ (w : List Asked). stands c start w) (append_assoc before xs ys) (k start (before ++ xs) (h start before stood))
 
-extends_none : {B : Type 0} (stands : B → B → List Asked → Type 0) (a : B) → Extends stands a a []
+-- one that was asked nothing
+pub extends_none : {B : Type 0} (stands : B → B → List Asked → Type 0) (a : B) → Extends stands a a []
 extends_none stands a = λ start before stood. subst (λ (w : List Asked). stands a start w) (sym (append-nil before)) stood
 
 at_none : (second : Option ℕ) → AtSecond second []

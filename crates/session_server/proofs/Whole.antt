@@ -112,11 +112,11 @@ served_at before after Done messages answered last rest new b few was now ends c
       sym (b.all ∙ ap (λ (w : List (List ℕ)). answered ++ w) (no_others last b.others b.fitting empty) ∙ append-nil answered),
       now ∙ ap (λ (w : List ℕ). Some w) up,
     )
-served_at before after (Cut had wanted) messages answered last rest new b few was now ends count up reads writes faultless =
+served_at before after (Cut had wanted) messages answered last rest new b few was now (some, had_is, part) count up reads writes faultless =
     let joined : concat b.others ≡ rest = b.joined ∙ ap (λ (w : List ℕ). rest ++ w) up ∙ append-nil rest in
-    no_part last b.others rest wanted b.fitting joined ends.0 ends.2
-served_at before after (BadFrame size) messages answered last rest new b few was now ends count up reads writes faultless =
-    no_bad_size last b.others rest new b.fitting b.joined ends.0 (λ good. ends.2 (subst (λ (n : ℕ). IsSize last n) ends.1 good))
+    no_part last b.others rest wanted b.fitting joined some part
+served_at before after (BadFrame size) messages answered last rest new b few was now (four, size_is, bad) count up reads writes faultless =
+    no_bad_size last b.others rest new b.fitting b.joined four (λ good. bad (subst (λ (n : ℕ). IsSize last n) size_is good))
 served_at before after ReadFault messages answered last rest new b few was now ends count up reads writes faultless =
     faultless.reads (reads.rose refl)
 served_at before after WriteFault messages answered last rest new b few was now ends count up reads writes faultless =
@@ -130,22 +130,28 @@ served_at before after Memory messages answered last rest new b few was now ends
     (none, now ∙ ap (λ (w : List ℕ). Some w) (sym (ap concat all ∙ b.joined ∙ ap (λ (r : List ℕ). r ++ new) ends)) ∙ sym was)
 
 -- what was left before, as it is told: the talk's input, and what is left now
+record IsLeft (left' : Option (List ℕ)) (whole input : List ℕ) (end : SessionEnd) : Type 0 where
+  new : List ℕ
+  told : left' ≡ Some new
+  input_is : whole ≡ input ++ new
+  read_up : IsReadUp end new
+
 left_told : (left left' : Option (List ℕ)) (whole input : List ℕ) (end : SessionEnd) → left ≡ Some whole
-    → Changes left left' (λ old new. (old ≡ input ++ new) × IsReadUp end new)
-    → (new : List ℕ) × (left' ≡ Some new) × (whole ≡ input ++ new) × IsReadUp end new
+    → Changes left left' (λ old new. (old ≡ input ++ new) × IsReadUp end new) → IsLeft left' whole input end
 left_told None left' whole input end is read = absurd cc
 left_told (Some old) None whole input end is read = absurd read
-left_told (Some old) (Some new) whole input end is read = (new, refl, sym (same_Some old whole is) ∙ read.0, read.1)
+left_told (Some old) (Some new) whole input end is (input_is, read_up) =
+    record { new = new; told = refl; input_is = sym (same_Some old whole is) ∙ input_is; read_up = read_up }
 
 -- a session of whole messages over a link that never fails is done
 pub served_whole : (before after : LinkView) (second : Option ℕ) (end : SessionEnd) (asked : List Asked) (talked : TalkedOn before after second end asked) (whole : IsWhole before.left)
     → IsFaultless before after → IsServedWhole whole.messages talked.talk.frames before after end
 served_whole before after second end asked talked whole faultless =
-    let told = left_told before.left after.left (concat whole.messages) talked.input end whole.told talked.read in
+    let left = left_told before.left after.left (concat whole.messages) talked.input end whole.told talked.read in
     let talk = talked.talk in
-    let joined : concat whole.messages ≡ concat talk.frames ++ (talk.rest ++ told.0) =
-    told.2 ∙ ap (λ (w : List ℕ). w ++ told.0) talk.input_is ∙ append_assoc (concat talk.frames) talk.rest told.0
+    let joined : concat whole.messages ≡ concat talk.frames ++ (talk.rest ++ left.new) =
+    left.input_is ∙ ap (λ (w : List ℕ). w ++ left.new) talk.input_is ∙ append_assoc (concat talk.frames) talk.rest left.new
     in
-    served_at before after end whole.messages talk.frames talk.last talk.rest told.0
-    (begins fresh talk.last talk.frames whole.messages asked talked.answers (talk.rest ++ told.0) talk.answered whole.fitting joined)
-    whole.few whole.told told.1 talk.ended talk.count told.3 talked.read_fault talked.write_fault faultless
+    served_at before after end whole.messages talk.frames talk.last talk.rest left.new
+    (begins fresh talk.last talk.frames whole.messages asked talked.answers (talk.rest ++ left.new) talk.answered whole.fitting joined)
+    whole.few whole.told left.told talk.ended talk.count left.read_up talked.read_fault talked.write_fault faultless

@@ -75,7 +75,8 @@ shared-le n m (suc j) =
 
 -- ---- counts
 
-ends_of-length : {C : Type 0} (links : List (ServedLink C)) → length (map (λ (l : ServedLink C). l.end) links) ≡ length links
+-- each link that was served has one end
+pub ends_of-length : {C : Type 0} (links : List (ServedLink C)) → length (map (λ (l : ServedLink C). l.end) links) ≡ length links
 ends_of-length [] = refl
 ends_of-length (x ∷ links) = ap suc (ends_of-length links)
 

@@ -8,12 +8,15 @@ use Rattle.outside.proofs.Told.{unchanged, changed_by, through}
 use Rattle.tree_model.specs.Asked.{Asked, Extends}
 use Rattle.session_server.specs.declared.ending.SessionEnd.{SessionEnd}
 use Rattle.session_server.specs.Served.{ServedLink, TalkedOnEach}
+use Rattle.session_server.proofs.Links.{rose_later}
+use Rattle.session_server.proofs.SoFar.{extends_none, extends_more}
 use Rattle.session_workers.specs.declared.counts.SessionCounts.{SessionCounts}
 use Rattle.session_workers.specs.declared.crew.Crew.{Crew}
 use Rattle.session_workers.specs.Ends.{AreCounts}
 use Rattle.session_workers.specs.Shares.{Share, ends_of}
 use Rattle.session_workers.specs.Links.{HasServedLink, HasNoLink, HasServedNext}
 use Rattle.session_workers.specs.Workers.{HasServedShare}
+use Rattle.session_workers.proofs.Sharing.{ends_of-length}
 
 -- contents that stayed after a change
 pub changes_to : {X : Type 0} (P : X → X → Type 0) (a b c : Option X) → c ≡ b → Changes a b P → Changes a c P
@@ -23,15 +26,7 @@ changes_to P a b c e h = subst (λ o. Changes a o P) (sym e) h
 pub changes_from : {X : Type 0} (P : X → X → Type 0) (a b c : Option X) → b ≡ a → Changes b c P → Changes a c P
 changes_from P a b c e h = subst (λ o. Changes o c P) e h
 
--- an object that was asked nothing
-extends_none : {B : Type 0} (stands : B → B → List Asked → Type 0) (object : B) → Extends stands object object []
-extends_none stands object = λ start before stood. subst (λ asked. stands object start asked) (sym (append-nil before)) stood
-
--- one that was asked these, and then those
-extends_more : {B : Type 0} (stands : B → B → List Asked → Type 0) (a b c : B) (xs ys : List Asked) → Extends stands a b xs → Extends stands b c ys → Extends stands a c (xs ++ ys)
-extends_more stands a b c xs ys h k = λ start before stood. subst (λ asked. stands c start asked) (append_assoc before xs ys) (k start (before ++ xs) (h start before stood))
-
--- one that didn't change
+-- an object that didn't change
 pub extends_same : {B : Type 0} (stands : B → B → List Asked → Type 0) (a b c : B) (xs : List Asked) → c ≡ b → Extends stands a b xs → Extends stands a c xs
 extends_same stands a b c xs e h = subst (λ o. Extends stands a o xs) (sym e) h
 
@@ -100,21 +95,13 @@ module _ {B C : Type 0} (stands : B → B → List Asked → Type 0) (link : C �
         faults = (let a = so.faults in let b = one.faults in omega arith);
       }
 
-ends-length : {C : Type 0} (links : List (ServedLink C)) → length (map (λ (l : ServedLink C). l.end) links) ≡ length links
-ends-length [] = refl
-ends-length (x ∷ links) = ap suc (ends-length links)
-
-pub rose_later : (a b c : ℕ) → a ≤ b → Rose b c → Rose a c
-rose_later a b c le (inl h) = inl (omega arith)
-rose_later a b c le (inr h) = inr h
-
 module _ {N B C : Type 0} (stands : B → B → List Asked → Type 0) (link : C → LinkView) (second : Option ℕ) (listener : N → ListenerView C) (sessions : ℕ) where
   -- the end of a share
   ended : (old new : Crew N B) (object' : B) (during : ListenerView C) → SoFar stands old.object object' link second (listener old.listener) during new.counts → new.counts.sessions ≤ sessions
       → new.object ≡ object' → Changes during.to_come (listener new.listener).to_come (λ o n. (o ≡ n) × ((new.counts.sessions ≡ sessions) ⊎ (n ≡ []) ⊎ (new.failed ≡ true)))
       → (listener new.listener).given_back ≡ during.given_back → HasCause during.faults (listener new.listener).faults (new.failed ≡ true) → HasServedShare stands listener link second sessions old new
   ended old new object' during so few unasked last given cause =
-      let count : new.counts.sessions ≡ length so.share.links = so.counted.sessions ∙ ends-length so.share.links in record {
+      let count : new.counts.sessions ≡ length so.share.links = so.counted.sessions ∙ ends_of-length so.share.links in record {
         share = so.share;
         served = record {
           gave = record {

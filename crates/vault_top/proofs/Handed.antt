@@ -41,35 +41,34 @@ pub served_all : {T D N C E : Type 0} (stands : T → Rows → Origin → List E
     → back.folder ≡ Some folder → (closing : Result (Unit {0}) Failed) → IsClosing views.folder store folder closing
     → HasOutcome counts closing back.outcome
     → (ends : List SessionEnd) × HasServed start since views second service workers workers' ends back
-served_all stands start since views second service workers workers' tree store counts back folder at_once few h right is closing closed outcome =
-    let j = h.3 in (
-      all_ends j.shares,
-      inl (record {
-        rows = h.0;
-        origin = h.1;
-        begins = h.2;
-        store = store;
-        counts = counts;
-        joined = record {
-          count = j.count;
-          entries = j.entries;
-          right = right h.0 h.1 j.entries j.right;
-          shares = j.shares;
-          are = subst (λ (m : ℕ). AreShares views.link second (MayStop counts) service.sessions m 0 (spans.worker_spans views.listener views.entropy workers workers') j.shares) few j.are;
-          counted = j.counted;
-          failed = j.failed;
-          callers = j.callers;
-          no_others = j.no_others;
-          in_time = j.in_time;
-        };
-        ended = refl;
-        folder = folder;
-        folder_is = is;
-        closing = closing;
-        closed = closed;
-        outcome = outcome;
-      }),
-    )
+served_all stands start since views second service workers workers' tree store counts back folder at_once few (rows, origin, begins, j) right is closing closed outcome = (
+  all_ends j.shares,
+  inl (record {
+    rows = rows;
+    origin = origin;
+    begins = begins;
+    store = store;
+    counts = counts;
+    joined = record {
+      count = j.count;
+      entries = j.entries;
+      right = right rows origin j.entries j.right;
+      shares = j.shares;
+      are = subst (λ (m : ℕ). AreShares views.link second (MayStop counts) service.sessions m 0 (spans.worker_spans views.listener views.entropy workers workers') j.shares) few j.are;
+      counted = j.counted;
+      failed = j.failed;
+      callers = j.callers;
+      no_others = j.no_others;
+      in_time = j.in_time;
+    };
+    ended = refl;
+    folder = folder;
+    folder_is = is;
+    closing = closing;
+    closed = closed;
+    outcome = outcome;
+  }),
+)
 
 -- how the store was closed
 pub closing_of : {D X : Type 0} (view : D → FolderView) (vault : OpenVault D) (folder : D) (closing : Result X Failed) → (view vault.folder).faults ≤ (view folder).faults

@@ -5,8 +5,7 @@ use Rattle.session_server.specs.declared.ending.SessionEnd.{SessionEnd}
 use Rattle.vault_top.specs.Report.{line, sessions_line, TakesPart}
 use Rattle.vault_top.specs.Span.{SinkView, Views}
 use Rattle.vault_top.specs.Ending.{Ending, no_memory_to_serve, served, listener_fault, closing_fault, serving, report_of, status_of, cut_status_of, IsReported}
-use Rattle.vault_top.specs.Writing.{IsWritten}
-use Rattle.vault_top.specs.Serving.{HasOutcome, HasServed, AreCounted, MayEnd, unreported}
+use Rattle.vault_top.specs.Serving.{HasOutcome, HasServed, AreCounted, MayEnd, HasLastLine, unreported}
 use Rattle.session_workers.specs.declared.counts.SessionCounts.{SessionCounts}
 use Rattle.session_workers.specs.Ends.{AreCounts}
 use Rattle.session_workers.specs.Shares.{all_ends}
@@ -41,41 +40,49 @@ pub counted_in : {D N C E : Type 0} (start : Rows → Origin → Type 0) (since 
 counted_in start since views second service workers workers' ends back (inl h) = counted_as h.counts _ (all_ends h.joined.shares) ends back.outcome h.outcome h.joined.counted h.ended
 counted_in start since views second service workers workers' ends back (inr h) = subst (λ (o : Outcome). AreCounted ends o) (sym h.outcome) tt
 
--- where `serving` wasn't taken whole, the ending is that of the last line that isn't written
-pub unwritten : (ends : List SessionEnd) (outcome : Outcome) → (ending : Ending) × MayEnd ends outcome ending × (cut_status_of ending ≡ unreported outcome) × (rest : List ℕ) × (report_of ending ≡ serving ++ rest)
-unwritten ends (Served counts) = (served ends, inl refl, refl, sessions_line ends, refl)
-unwritten ends ListenerFault = (listener_fault ends, refl, refl, line (codes "listener fault"), refl)
-unwritten ends FolderFault = (closing_fault ends, refl, refl, line (codes "device fault: folder"), refl)
-unwritten ends NoMemory = (no_memory_to_serve, refl, refl, line (codes "out of memory"), refl)
+-- an ending that an outcome comes to whose last line isn't written, as the sink failed before
+record IsUnwritten (ends : List SessionEnd) (outcome : Outcome) : Type 0 where
+  ending : Ending
+  may : MayEnd ends outcome ending
+  status_is : cut_status_of ending ≡ unreported outcome
+  text : List ℕ
+  report_is : report_of ending ≡ serving ++ text
+
+unwritten : (ends : List SessionEnd) (outcome : Outcome) → IsUnwritten ends outcome
+unwritten ends (Served counts) = record { ending = served ends; may = inl refl; status_is = refl; text = sessions_line ends; report_is = refl }
+unwritten ends ListenerFault = record { ending = listener_fault ends; may = refl; status_is = refl; text = line (codes "listener fault"); report_is = refl }
+unwritten ends FolderFault = record { ending = closing_fault ends; may = refl; status_is = refl; text = line (codes "device fault: folder"); report_is = refl }
+unwritten ends NoMemory = record { ending = no_memory_to_serve; may = refl; status_is = refl; text = line (codes "out of memory"); report_is = refl }
 
 -- how serving was reported: by an ending that its outcome comes to
-abbrev pub Reports : List SessionEnd → Outcome → SinkView → SinkView → ℕ → Type 0
-Reports ends outcome before after status = (ending : Ending) × MayEnd ends outcome ending × IsReported (record { before = before; after = after }) ending status
+pub record Reports (ends : List SessionEnd) (outcome : Outcome) (before after : SinkView) (status : ℕ) : Type 0 where
+  pub ending : Ending
+  pub may : MayEnd ends outcome ending
+  pub reported : IsReported (record { before = before; after = after }) ending status
 
 -- the last line was written behind the first
 pub reports_both : (ends : List SessionEnd) (outcome : Outcome) (before middle after : SinkView) (status : ℕ) → before.faults ≤ middle.faults
     → Changes before.taken middle.taken (λ old new. new ≡ old ++ serving)
-    → ((x : List SessionEnd) → AreCounted x outcome → (ending : Ending) × MayEnd x outcome ending × (text : List ℕ) × (report_of ending ≡ serving ++ text)
-    × IsWritten (Rose middle.faults after.faults) middle.taken after.taken text (status_of ending) (cut_status_of ending) status)
+    → ((x : List SessionEnd) → AreCounted x outcome → HasLastLine x outcome (record { before = middle; after = after }) status)
     → AreCounted ends outcome → Reports ends outcome before after status
 reports_both ends outcome before middle after status le first last counted =
-    let l = last ends counted in (
-      l.0,
-      l.1,
-      written_as _ before.taken after.taken (serving ++ l.2) (report_of l.0) (status_of l.0) (cut_status_of l.0) status (sym l.3)
-          (written_then before.faults middle.faults after.faults before.taken middle.taken after.taken serving l.2 (status_of l.0) (cut_status_of l.0) status le first l.4),
-    )
+    let l = last ends counted in record {
+      ending = l.ending;
+      may = l.may;
+      reported = written_as _ before.taken after.taken (serving ++ l.text) (report_of l.ending) (status_of l.ending) (cut_status_of l.ending) status (sym l.report_is)
+          (written_then before.faults middle.faults after.faults before.taken middle.taken after.taken serving l.text (status_of l.ending) (cut_status_of l.ending) status le first l.written);
+    }
 
 -- the first line wasn't taken whole
 pub reports_first : (ends : List SessionEnd) (outcome : Outcome) (before after : SinkView) (status : ℕ) → Rose before.faults after.faults → status ≡ unreported outcome
     → Changes before.taken after.taken (TakesPart serving) → Reports ends outcome before after status
 reports_first ends outcome before after status failed same h =
-    let l = unwritten ends outcome in (
-      l.0,
-      l.1,
-      written_as _ before.taken after.taken (serving ++ l.3) (report_of l.0) (status_of l.0) (cut_status_of l.0) status (sym l.4)
-          (written_not before.faults after.faults before.taken after.taken serving l.3 (status_of l.0) (cut_status_of l.0) status failed (same ∙ sym l.2) h),
-    )
+    let l = unwritten ends outcome in record {
+      ending = l.ending;
+      may = l.may;
+      reported = written_as _ before.taken after.taken (serving ++ l.text) (report_of l.ending) (status_of l.ending) (cut_status_of l.ending) status (sym l.report_is)
+          (written_not before.faults after.faults before.taken after.taken serving l.text (status_of l.ending) (cut_status_of l.ending) status failed (same ∙ sym l.status_is) h);
+    }
 
 -- a list and its first item
 pub first_item : {X : Type 0} (xs others : List X) (x : X) → 1 ≤ length xs → x ≡ get_or xs 0 x → others ≡ drop 1 xs → xs ≡ x ∷ others

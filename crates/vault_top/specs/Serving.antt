@@ -1,5 +1,5 @@
 -- What serving a vault does, step by step.
-use Rattle.std.specs.Prelude.{◌≡◌, ◌⊎◌, ℕ, ◌≤◌, min, List, [], length, Option, Some, Result, Ok, IsErr, IsOk, OnErr, OnOk, IfSome, IsSome, IsNone, ⊤}
+use Rattle.std.specs.Prelude.{◌≡◌, ◌⊎◌, ℕ, ◌≤◌, min, List, [], ◌++◌, length, Option, Some, Result, Ok, IsErr, IsOk, OnErr, OnOk, IfSome, IsSome, IsNone, ⊤}
 use Rattle.outside.specs.declared.stream.Failed.{Failed}
 use Rattle.outside.specs.Calls.{Changes, Rose}
 use Rattle.outside.specs.Views.{FolderView}
@@ -18,7 +18,8 @@ use Rattle.store_history.specs.Turns.{IsFlushed, draws_for}
 use Rattle.vault_store.specs.Open.{OpenVault, idle_of}
 use Rattle.vault_top.specs.Span.{Course, SinkView, Views}
 use Rattle.vault_top.specs.Sharing.{IsSharedStore}
-use Rattle.vault_top.specs.Ending.{Ending, no_memory_to_serve, served, listener_fault, closing_fault, no_memory_to_report, IsReported}
+use Rattle.vault_top.specs.Ending.{Ending, no_memory_to_serve, served, listener_fault, closing_fault, no_memory_to_report, serving, report_of, status_of, cut_status_of, IsReported}
+use Rattle.vault_top.specs.Writing.{IsWritten}
 use Rattle.vault_top.specs.declared.program.Ended.{Ended}
 use Rattle.vault_top.specs.declared.serving.HandedBack.{HandedBack}
 use Rattle.vault_top.specs.declared.serving.Outcome.{Outcome}
@@ -92,6 +93,14 @@ MayEnd ends (outcomes.Served counts) ending = (ending ≡ served ends) ⊎ (endi
 MayEnd ends outcomes.ListenerFault ending = ending ≡ listener_fault ends
 MayEnd ends outcomes.FolderFault ending = ending ≡ closing_fault ends
 MayEnd ends outcomes.NoMemory ending = ending ≡ no_memory_to_serve
+
+-- an outcome's last line, which was written behind `serving`: the rest of the report of an ending that it may come to
+pub record HasLastLine (ends : List SessionEnd) (outcome : Outcome) (sink : Course SinkView) (status : ℕ) : Type 0 where
+  pub ending : Ending
+  pub may : MayEnd ends outcome ending
+  pub text : List ℕ
+  pub report_is : report_of ending ≡ serving ++ text
+  pub written : IsWritten (Rose sink.before.faults sink.after.faults) sink.before.taken sink.after.taken text (status_of ending) (cut_status_of ending) status
 
 -- the status of an outcome that isn't reported, since the sink failed before
 abbrev pub unreported : Outcome → ℕ

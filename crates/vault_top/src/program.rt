@@ -1,15 +1,14 @@
 ghost use Rattle.std.specs.Prelude.{◌≡◌, ℕ, ◌<◌, ◌≤◌, ◌∷◌, ◌++◌, [], List, Option, OnOk, OnErr, IsErr, vec_len, vec_capacity};
-ghost use Rattle.outside.specs.Calls.{Rose, HasCause, Changes};
+ghost use Rattle.outside.specs.Calls.{HasCause, Changes};
 ghost use Rattle.session_server.specs.declared.ending.SessionEnd.{SessionEnd};
 ghost use Rattle.vault_words.specs.Jobs.{Serving, serve, make};
 ghost use Rattle.vault_top.specs.Words.{Ask, words_of};
 ghost use Rattle.vault_top.specs.Tasks.{IsServiceOf};
 ghost use Rattle.vault_top.specs.Span.{course, source_view, sink_view, views_of};
 ghost use Rattle.vault_top.specs.Report.{TakesPart};
-ghost use Rattle.vault_top.specs.Ending.{Ending, HasRun, serving, report_of, status_of, cut_status_of};
-ghost use Rattle.vault_top.specs.Writing.{IsWritten};
+ghost use Rattle.vault_top.specs.Ending.{HasRun, serving};
 ghost use Rattle.vault_top.specs.Sharing.{AreBeginnings, IsAlone, IsSharedStore};
-ghost use Rattle.vault_top.specs.Serving.{HasServedVault, AreCounted, MayEnd};
+ghost use Rattle.vault_top.specs.Serving.{HasServedVault, AreCounted, HasLastLine};
 ghost use Rattle.outside.specs.Views.{folder_view};
 ghost use Rattle.tree_model.specs.Rows.{Rows};
 ghost use Rattle.tree_history.specs.History.{Origin};
@@ -270,9 +269,8 @@ fn put_back<N, E>(workers: &mut Vec<Worker<N, E>>, worker: Worker<N, E>)
 
 // Reports what serving came to, and gives the program's status.
 fn report_outcome<O: Sink>(alloc: Global, out: &mut O, outcome: Outcome) -> u8
-    ensures { (ends : List SessionEnd) → AreCounted ends outcome → (ending : Ending) × MayEnd ends outcome ending × (text : List ℕ)
-        × (report_of ending ≡ serving ++ text)
-        × IsWritten (Rose (O.faults out.old) (O.faults out.new)) (O.taken out.old) (O.taken out.new) text (status_of ending) (cut_status_of ending) result }
+    ensures { (ends : List SessionEnd) → AreCounted ends outcome
+        → HasLastLine ends outcome (course (sink_view O.taken O.faults) out.old out.new) result }
 {
     match outcome {
         Outcome::Served(counts) => match counts_line(alloc, &counts) {

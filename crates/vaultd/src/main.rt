@@ -2,6 +2,7 @@
 #![tactic(auto)]
 
 ghost use Rattle.std.specs.Prelude.{◌≡◌, ◌≤◌, ◌↔◌, drop, IfOk, vec_len};
+ghost use Rattle.std.specs.List.{AllByRecursion};
 ghost use Rattle.std.specs.declared.io.ErrorKind.TheVariants.{InvalidData};
 ghost use Rattle.std.specs.IoError.{error_kind};
 ghost use Rattle.outside_real.specs.Behind.{base_of};
@@ -9,7 +10,7 @@ ghost use Rattle.outside_real.specs.declared.stream.NullSink.{NullSink};
 ghost use Rattle.vault_top.specs.Words.{words_of};
 ghost use Rattle.vault_top.specs.Ending.{report_of, status_of};
 ghost use Rattle.vault_top.specs.Span.{sink_view, views_of};
-ghost use Rattle.vaultd.specs.Starting.{IsRunOf, IsStarted, ending_of};
+ghost use Rattle.vaultd.specs.Starting.{HasLink, IsSound, IsRunOf, IsStarted, ending_of};
 
 use outside::{Entropy, Gate, Link, Listener, Reads, Sink, Stage};
 use outside_real::{
@@ -94,7 +95,8 @@ fn workers_at<'a, 's, R: Clock + Files + AllocGlobal>(
     count: u64,
 ) -> Result<Vec<Worker<SocketListen<'s, &'a R>, OsEntropy<&'a R>>>, AllocError>
     requires { (1 ≤ count) × (count ≤ 64) }
-    ensures { IfOk result (λ workers. vec_len workers ≡ count) }
+    ensures count { IfOk result (λ workers. vec_len workers ≡ count) }
+    ensures sound { IfOk result (λ workers. AllByRecursion (λ worker. IsSound ⟦<SocketListen<'s, &'a R> as Listener>⟧.faults worker.listener) workers.items) }
 {
     let mut workers = Vec::new(rt.alloc());
     for _ in 0..count {
@@ -121,7 +123,7 @@ where
         ⟦<HostListen<&'a R> as Listener>⟧.to_come ⟦<HostListen<&'a R> as Listener>⟧.given_back ⟦<HostListen<&'a R> as Listener>⟧.faults
         ⟦<HostLink<&'a R> as Link>⟧.left ⟦<HostLink<&'a R> as Link>⟧.taken ⟦<HostLink<&'a R> as Link>⟧.read_faults ⟦<HostLink<&'a R> as Link>⟧.write_faults
         ⟦<OsEntropy<&'a R> as Entropy>⟧.drawn ⟦<OsEntropy<&'a R> as Entropy>⟧.faults)
-        base_of (sink_view O.taken O.faults) (words_of words.now) path.now) }
+        base_of HasLink (sink_view O.taken O.faults) (words_of words.now) path.now) }
 {
     let folder = HostFolder::new(rt, rt.alloc(), path)?;
     let mut workers = Vec::new(rt.alloc());
@@ -167,7 +169,7 @@ where
         ⟦<SocketListen<'s, &'a R> as Listener>⟧.to_come ⟦<SocketListen<'s, &'a R> as Listener>⟧.given_back ⟦<SocketListen<'s, &'a R> as Listener>⟧.faults
         ⟦<SocketLink as Link>⟧.left ⟦<SocketLink as Link>⟧.taken ⟦<SocketLink as Link>⟧.read_faults ⟦<SocketLink as Link>⟧.write_faults
         ⟦<OsEntropy<&'a R> as Entropy>⟧.drawn ⟦<OsEntropy<&'a R> as Entropy>⟧.faults)
-        base_of (sink_view O.taken O.faults) (words_of words.now) path.now) }
+        base_of (IsSound ⟦<SocketListen<'s, &'a R> as Listener>⟧.faults) (sink_view O.taken O.faults) (words_of words.now) path.now) }
 {
     let folder = HostFolder::new(rt, rt.alloc(), path)?;
     let mut workers = workers_at(rt, socket, at_once)?;
@@ -238,7 +240,7 @@ where
         ⟦<SocketListen<'static, &'a R> as Listener>⟧.to_come ⟦<SocketListen<'static, &'a R> as Listener>⟧.given_back ⟦<SocketListen<'static, &'a R> as Listener>⟧.faults
         ⟦<SocketLink as Link>⟧.left ⟦<SocketLink as Link>⟧.taken ⟦<SocketLink as Link>⟧.read_faults ⟦<SocketLink as Link>⟧.write_faults
         ⟦<OsEntropy<&'a R> as Entropy>⟧.drawn ⟦<OsEntropy<&'a R> as Entropy>⟧.faults)
-        base_of (sink_view ⟦<NullSink as Sink>⟧.taken ⟦<NullSink as Sink>⟧.faults)
+        base_of HasLink (IsSound ⟦<SocketListen<'static, &'a R> as Listener>⟧.faults) (sink_view ⟦<NullSink as Sink>⟧.taken ⟦<NullSink as Sink>⟧.faults)
         (sink_view ⟦<StdSink<Output<&'a R>> as Sink>⟧.taken ⟦<StdSink<Output<&'a R>> as Sink>⟧.faults)
         (words_of (drop 1 args.now))) }
 {

@@ -8,6 +8,7 @@ returns g c = record {
   secret = _;
   second = _;
   workers = _;
+  new = c.in_ok-workers.ensures.sound;
   workers_after = _;
   before = _;
   after = _;

@@ -1,4 +1,4 @@
-use Rattle.std.proofs.Common.{refl}
+use Rattle.std.proofs.Common.{refl, rules}
 use Rattle.vaultd.proofs.serve_streams.Goals as goal
 
 pub returns : goal.returns
@@ -8,6 +8,7 @@ returns g c = record {
   secret = _;
   second = _;
   workers = _;
+  new = search rules;
   workers_after = _;
   before = _;
   after = _;

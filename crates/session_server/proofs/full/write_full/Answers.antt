@@ -9,10 +9,10 @@ loop-count-preserved g c =
     let rest = drop c.loop-count.count c.args.piece.now in
     let fits : c.in_ok-more.more ≤ length c.args.piece.now - c.loop-count.count =
     omega (arith, c.in_ok-more.ensures.count, length-take (length c.args.piece.now - c.loop-count.count) rest, length-drop c.loop-count.count c.args.piece.now)
-    in (
-      omega (arith, fits, inv.0),
-      writes_behind _ _ _ c.loop-count.count c.in_ok-more.more c.args.piece.now fits inv.1 c.in_ok-more.ensures.bytes,
-      omega (arith, inv.2, c.write.ensures.cause.later),
-      c.write.ensures.left ∙ inv.3,
-      c.write.ensures.reads ∙ inv.4,
-    )
+    in record {
+      within = omega (arith, fits, inv.within);
+      wrote = writes_behind _ _ _ c.loop-count.count c.in_ok-more.more c.args.piece.now fits inv.wrote c.in_ok-more.ensures.bytes;
+      later = omega (arith, inv.later, c.write.ensures.cause.later);
+      left = c.write.ensures.left ∙ inv.left;
+      reads = c.write.ensures.reads ∙ inv.reads;
+    }

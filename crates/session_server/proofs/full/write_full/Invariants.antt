@@ -3,12 +3,13 @@ use Rattle.session_server.specs.Steps.{Writes}
 use Rattle.session_server.proofs.full.write_full.Given as goal
 
 abbrev pub invariant-loop-count : goal.invariant-loop-count
-invariant-loop-count g l =
-    (l.count ≤ length l.piece)
-    × Writes (g.L.Link.taken l.fn.link) (g.L.Link.taken l.link) (take l.count l.piece)
-    × (g.L.Link.write_faults l.fn.link ≤ g.L.Link.write_faults l.link)
-    × (g.L.Link.left l.link ≡ g.L.Link.left l.fn.link)
-    × (g.L.Link.read_faults l.link ≡ g.L.Link.read_faults l.fn.link)
+invariant-loop-count g l = record {
+  within : l.count ≤ length l.piece;
+  wrote : Writes (g.L.Link.taken l.fn.link) (g.L.Link.taken l.link) (take l.count l.piece);
+  later : g.L.Link.write_faults l.fn.link ≤ g.L.Link.write_faults l.link;
+  left : g.L.Link.left l.link ≡ g.L.Link.left l.fn.link;
+  reads : g.L.Link.read_faults l.link ≡ g.L.Link.read_faults l.fn.link;
+}
 
 abbrev pub decreases-loop-count : goal.decreases-loop-count
 decreases-loop-count g l = length l.piece - l.count

@@ -7,46 +7,46 @@ use Rattle.vault_top.proofs.program.report_outcome.Goals as goal
 
 pub returns-in-Ok : goal.returns-in-Ok
 returns-in-Ok g c = λ ends counted.
-    let line_is = c.in-Ok.ensures ends (counts_of ends c.args.outcome c.in-Served.counts c.in-Served.is counted) in (
-      served ends,
-      may_end ends c.args.outcome _ (served ends) c.in-Served.is (inl refl),
-      sessions_line ends,
-      refl,
-      written_as _ _ _ _ (sessions_line ends) _ _ _ (c.as_bytes.ensures.value ∙ line_is) c.report.ensures.written,
-    )
+    let line_is = c.in-Ok.ensures ends (counts_of ends c.args.outcome c.in-Served.counts c.in-Served.is counted) in record {
+      ending = served ends;
+      may = may_end ends c.args.outcome _ (served ends) c.in-Served.is (inl refl);
+      text = sessions_line ends;
+      report_is = refl;
+      written = written_as _ _ _ _ (sessions_line ends) _ _ _ (c.as_bytes.ensures.value ∙ line_is) c.report.ensures.written;
+    }
 
 pub returns-in-Err : goal.returns-in-Err
-returns-in-Err g c = λ ends counted. (
-  no_memory_to_report ends,
-  may_end ends c.args.outcome _ (no_memory_to_report ends) c.in-Served.is (inr refl),
-  line (codes "out of memory"),
-  refl,
-  c.report-in-Err.ensures.written,
-)
+returns-in-Err g c = λ ends counted. record {
+  ending = no_memory_to_report ends;
+  may = may_end ends c.args.outcome _ (no_memory_to_report ends) c.in-Served.is (inr refl);
+  text = line (codes "out of memory");
+  report_is = refl;
+  written = c.report-in-Err.ensures.written;
+}
 
 pub returns-in-ListenerFault : goal.returns-in-ListenerFault
-returns-in-ListenerFault g c = λ ends counted. (
-  listener_fault ends,
-  may_end ends c.args.outcome _ (listener_fault ends) c.in-ListenerFault.is refl,
-  line (codes "listener fault"),
-  refl,
-  c.report-in-ListenerFault.ensures.written,
-)
+returns-in-ListenerFault g c = λ ends counted. record {
+  ending = listener_fault ends;
+  may = may_end ends c.args.outcome _ (listener_fault ends) c.in-ListenerFault.is refl;
+  text = line (codes "listener fault");
+  report_is = refl;
+  written = c.report-in-ListenerFault.ensures.written;
+}
 
 pub returns-in-FolderFault : goal.returns-in-FolderFault
-returns-in-FolderFault g c = λ ends counted. (
-  closing_fault ends,
-  may_end ends c.args.outcome _ (closing_fault ends) c.in-FolderFault.is refl,
-  line (codes "device fault: folder"),
-  refl,
-  c.report-in-FolderFault.ensures.written,
-)
+returns-in-FolderFault g c = λ ends counted. record {
+  ending = closing_fault ends;
+  may = may_end ends c.args.outcome _ (closing_fault ends) c.in-FolderFault.is refl;
+  text = line (codes "device fault: folder");
+  report_is = refl;
+  written = c.report-in-FolderFault.ensures.written;
+}
 
 pub returns-in-NoMemory : goal.returns-in-NoMemory
-returns-in-NoMemory g c = λ ends counted. (
-  no_memory_to_serve,
-  may_end ends c.args.outcome _ no_memory_to_serve c.in-NoMemory.is refl,
-  line (codes "out of memory"),
-  refl,
-  c.report-in-NoMemory.ensures.written,
-)
+returns-in-NoMemory g c = λ ends counted. record {
+  ending = no_memory_to_serve;
+  may = may_end ends c.args.outcome _ no_memory_to_serve c.in-NoMemory.is refl;
+  text = line (codes "out of memory");
+  report_is = refl;
+  written = c.report-in-NoMemory.ensures.written;
+}

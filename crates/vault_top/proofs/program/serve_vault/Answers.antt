@@ -24,9 +24,9 @@ returns g c =
         ends = e.0;
         back = c.serve_workers-served.result;
         served = e.1;
-        ending = reported.0;
-        may = reported.1;
+        ending = reported.ending;
+        may = reported.may;
         folder_is = refl;
-        reported = reported.2;
+        reported = reported.reported;
       };
     }
