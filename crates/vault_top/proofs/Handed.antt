@@ -75,7 +75,7 @@ pub closing_of : {D X : Type 0} (view : D → FolderView) (vault : OpenVault D) 
     → (IsNone vault.store.stopped → OnOk closing (IsFlushed vault.store (idle_of vault.store) (view vault.folder) (view folder)))
     → (IsSome vault.store.stopped → (folder ≡ vault.folder) × IsErr closing) → (IsNone vault.store.stopped → Changes (view vault.folder).log (view folder).log (AnyMoment vault.store.waiting))
     → (IsErr closing → IsSome vault.store.stopped ⊎ Rose (view vault.folder).faults (view folder).faults) → IsClosing view vault folder closing
-closing_of view vault folder closing later flushed stopped moments cause = record { later = later; well = well closing flushed stopped; badly = badly closing stopped moments cause }
+closing_of {X = X} view vault folder closing later flushed stopped moments cause = record { later = later; well = well closing flushed stopped; badly = badly closing stopped moments cause }
   where
     some_or_none : (o : Option ℕ) → IsNone o ⊎ IsSome o
     some_or_none None = inl refl

@@ -58,7 +58,7 @@ left_by before after store rows origin entries is = record {
 
 -- ---- a vault that was closed
 
-module _ {D X : Type 0} (view : D → FolderView) (before : FolderView) (vault : OpenVault D) (folder : D) (rows : Rows) (origin : Origin) (entries : List Entry) (is : IsStoreOf before.log vault.store (view vault.folder) rows origin entries) where
+module _ {D : Type 0} (view : D → FolderView) (before : FolderView) (vault : OpenVault D) (folder : D) (rows : Rows) (origin : Origin) (entries : List Entry) (is : IsStoreOf before.log vault.store (view vault.folder) rows origin entries) where
   -- what waited was committed
   flushed : IsFlushed vault.store (idle_of vault.store) (view vault.folder) (view folder) → IsStoreOf before.log (idle_of vault.store) (view folder) rows origin entries
   flushed done = flushes_stand vault.store (idle_of vault.store) (view vault.folder) (view folder) done before.log rows origin entries is
@@ -80,25 +80,22 @@ module _ {D X : Type 0} (view : D → FolderView) (before : FolderView) (vault :
   not_closed (inl same) later = subst (λ (d : D). Leaves vault.store.keys rows origin entries before (view d)) (sym same.1) (left_by before (view vault.folder) vault.store rows origin entries is)
   not_closed (inr cut) later = cut_off cut later
 
-  left_by_result : (closing : Result X Failed) → IsClosing view vault folder closing → Leaves vault.store.keys rows origin entries before (view folder)
-  left_by_result (Ok done) how = left_by before (view folder) (idle_of vault.store) rows origin entries (flushed how.well)
-  left_by_result (Err failed) how = not_closed how.badly how.later
-
-  pub left_closed : (closing : Result X Failed) → IsClosing view vault folder closing → Leaves vault.store.keys rows origin entries before (view folder)
-  left_closed closing how = left_by_result closing how
+  pub left_closed : {X : Type 0} (closing : Result X Failed) → IsClosing view vault folder closing → Leaves vault.store.keys rows origin entries before (view folder)
+  left_closed (Ok done) how = left_by before (view folder) (idle_of vault.store) rows origin entries (flushed how.well)
+  left_closed (Err failed) how = not_closed how.badly how.later
 
   -- closed well, no commit had failed, and all entries are on the disk
-  pub none_failed : (closing : Result X Failed) → IsClosing view vault folder closing → IsOk closing → IsNone (tally_of origin entries).stopped
+  pub none_failed : {X : Type 0} (closing : Result X Failed) → IsClosing view vault folder closing → IsOk closing → IsNone (tally_of origin entries).stopped
   none_failed (Ok done) how ok = none_stopped (tally_of origin entries).stopped vault.store.stopped is.stopped how.well.running
   none_failed (Err failed) how ok = absurd (true≢false (sym ok))
 
-  pub whole_closed : (closing : Result X Failed) → IsClosing view vault folder closing → IsOk closing → Told (view folder).log (λ log. IsWhole (shows_under vault.store.keys) rows entries log)
+  pub whole_closed : {X : Type 0} (closing : Result X Failed) → IsClosing view vault folder closing → IsOk closing → Told (view folder).log (λ log. IsWhole (shows_under vault.store.keys) rows entries log)
   whole_closed (Ok done) how ok =
       stores_are_whole before.log (idle_of vault.store) (view folder) rows origin entries (flushed how.well) refl (none_stopped (tally_of origin entries).stopped vault.store.stopped is.stopped how.well.running)
   whole_closed (Err failed) how ok = absurd (true≢false (sym ok))
 
   -- closed badly, one had, or the folder failed since
-  pub failed_closed : (closing : Result X Failed) → IsClosing view vault folder closing → IsErr closing → IsSome (tally_of origin entries).stopped ⊎ Rose (tally_of origin entries).folder_faults (view folder).faults
+  pub failed_closed : {X : Type 0} (closing : Result X Failed) → IsClosing view vault folder closing → IsErr closing → IsSome (tally_of origin entries).stopped ⊎ Rose (tally_of origin entries).folder_faults (view folder).faults
   failed_closed (Ok done) how bad = absurd (true≢false (sym bad))
   failed_closed (Err failed) how bad = elim how.badly [
     | inl same ↦ inl (some_stopped (tally_of origin entries).stopped vault.store.stopped is.stopped same.0)

@@ -160,7 +160,7 @@ module _ {D N C E : Type 0} (start : Rows → Origin → Type 0) (since : Folder
 
   reason_of : (outcome : Outcome) (ending : Ending) (h : HasServedAll start since views second service workers workers' ends back) → HasOutcome h.counts h.closing outcome → MayEnd ends outcome ending
       → HasReason views (span_of views words secret second folder h.folder workers workers') ending
-  unfolding served_of
+  unfolding served_of begun_as
   reason_of (Served c) ending h is (inl e) =
       subst (λ (x : Ending). HasReason views (span_of views words secret second folder h.folder workers workers') x) (sym e) (
         served_of Never h (λ worker stop. subst (λ (r : Result SessionCounts Failed). MayStop r worker) is.0 stop),

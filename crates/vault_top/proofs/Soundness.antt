@@ -29,7 +29,7 @@ use Rattle.vault_top.specs.Words.{Ask, kind_of}
 use Rattle.vault_top.specs.Span.{Course, SourceView, SinkView, Views, Span, span_of, Given, IsOnlyRead}
 use Rattle.vault_top.specs.Served.{Share, HasHistory}
 use Rattle.vault_top.specs.Opening.{IsLocked, IsClosedBy, FailsToUnlock, FailsToOpen, of_opening}
-use Rattle.vault_top.specs.Ending.{Ending, refused, usage_said, version_said, made, no_memory_to_serve, served, listener_fault, closing_fault, no_memory_to_report, FailsAtTheEnd, IsRefused, HasReason, HasRun, status_of, stopped_in}
+use Rattle.vault_top.specs.Ending.{Ending, refused, usage_said, version_said, made, no_memory_to_serve, served, listener_fault, closing_fault, no_memory_to_report, FailsAtTheEnd, IsRefused, HasReason, status_of, stopped_in}
 use Rattle.vault_top.specs.Sound.{IsVaultFor, IsSound, IsSoundRun, IsFaultless, IsServedOrFull}
 use Rattle.shared_sessions.specs.declared.workers.Worker.{Worker}
 use Rattle.vault_top.specs.declared.program.Ended.{Ended}
