@@ -1,3 +1,4 @@
 pub mod Words
 pub mod Script
 pub mod Summary
+pub mod Small

@@ -1,5 +1,5 @@
 -- What a client of a demonstration sends.
-use Rattle.std.specs.Prelude.{ℕ, zero, suc, ◌+◌, ◌-◌, ◌*◌, ◌/◌, ◌%◌, ◌==◌, List, [], ◌∷◌, ◌++◌, map, replicate, codes, None, if◌then◌else◌}
+use Rattle.std.specs.Prelude.{ℕ, zero, suc, ◌+◌, ◌*◌, ◌/◌, ◌%◌, ◌==◌, List, [], ◌∷◌, ◌++◌, map, replicate, codes, None, if◌then◌else◌}
 use Rattle.std.specs.List.{flat_map, range_with_len}
 use Rattle.tree_model.specs.Asked.{PlainChange}
 use Rattle.ninep_wire.specs.TMessage.{PlainTMessage, version, attach, walk, open_fid, create, read, write, clunk, remove, wstat, PlainMessage, spelled_t}
@@ -18,20 +18,18 @@ directory_name client = codes "c" ++ digit (client / 10) ∷ digit (client % 10)
 abbrev pub file_name : ℕ → List ℕ
 file_name n = codes "f" ++ digit n ∷ []
 
--- ---- what a word asks for
+-- ---- what a word asks for: from its lowest bits up, 2 are the kind of request, 3 the file, 12 a number and 8 a byte
 
--- which of five kinds of request
 abbrev pub kind_in : ℕ → ℕ
 kind_in word = word % 4
 
--- the file that is meant
 abbrev pub file_in : ℕ → List ℕ
 file_in word = file_name (word / 4 % 8)
 
--- a number below 4,096, which places what is written and read
 abbrev pub number_in : ℕ → ℕ
 number_in word = word / 32 % 4096
 
+-- where a file is written and read
 abbrev pub offset_in : ℕ → ℕ
 offset_in word = 16 * number_in word
 
@@ -103,11 +101,16 @@ requests_of seed client (suc more) = make_directory client ++ flat_map (drawn_re
 abbrev pub tagged : ℕ → PlainTMessage → PlainMessage
 tagged tag body = record { tag = tag; body = body }
 
--- a script: the size and the version, without a tag, and the rest with the tag 1, which begins by attaching as `demo`
-abbrev pub script_of : ℕ → ℕ → ℕ → List PlainMessage
-script_of seed client requests =
+-- a client begins with the size and the version, without a tag, and attaches as `demo`
+abbrev pub attaching : List PlainMessage
+attaching =
     tagged 0xFFFF (version 65560 (codes "9P2000"))
-    ∷ map (tagged 1) (attach 0 0xFFFFFFFF (codes "demo") [] ∷ requests_of seed client requests)
+    ∷ tagged 1 (attach 0 0xFFFFFFFF (codes "demo") [])
+    ∷ []
+
+-- a script: after that, so many requests, whose messages have the tag 1
+abbrev pub script_of : ℕ → ℕ → ℕ → List PlainMessage
+script_of seed client requests = attaching ++ map (tagged 1) (requests_of seed client requests)
 
 -- messages one behind the other
 abbrev pub spelled_messages : List PlainMessage → List ℕ

@@ -1,5 +1,5 @@
 -- What a demonstration leaves, and the line that sums it up.
-use Rattle.std.specs.Prelude.{ℕ, List, ◌++◌, map, sum_by, codes, decimal, if◌then◌else◌}
+use Rattle.std.specs.Prelude.{ℕ, List, ◌++◌, sum_by, codes, decimal, if◌then◌else◌}
 use Rattle.std.specs.List.{flat_map}
 use Rattle.sha2.specs.Sha256.{sha256}
 use Rattle.hex.specs.Hex.{encode_lower}

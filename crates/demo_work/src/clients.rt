@@ -5,7 +5,7 @@ ghost use Rattle.std.specs.List.{flat_map};
 ghost use Rattle.demo_work.specs.Script.{client_words, drawn_request, requests_of, script_of, sent, spelled_messages};
 
 use crate::messages::{push_attach, push_version};
-use crate::requests::{make_directory, request};
+use crate::requests::{make_directory, push_request};
 use crate::words::stream_seed;
 use rand_chacha::ChaCha20Rng;
 use rand_core::SeedableRng;
@@ -15,9 +15,6 @@ use std::alloc::{AllocError, Global};
 /// The size of messages that a client asks for.
 const MESSAGE_SIZE: u32 = 65_560;
 
-/// The fid of the root.
-const ROOT: u32 = 0;
-
 /// The messages of one client, one behind the other: it attaches, makes its directory, and then makes, writes, reads, syncs and
 /// removes files in it, as the words of its stream say.
 pub fn script(alloc: Global, seed: u64, client: u32, requests: u32) -> Result<Vec<u8>, AllocError>
@@ -26,7 +23,7 @@ pub fn script(alloc: Global, seed: u64, client: u32, requests: u32) -> Result<Ve
 {
     let mut out = Vec::new(alloc);
     push_version(&mut out, MESSAGE_SIZE)?;
-    push_attach(&mut out, ROOT)?;
+    push_attach(&mut out)?;
     push_requests(&mut out, seed, client, requests)?;
     Ok(out)
 }
@@ -50,7 +47,7 @@ fn draw_requests(out: &mut Vec<u8>, seed: u64, client: u32, count: u32) -> Resul
 {
     let mut words = ChaCha20Rng::from_seed(stream_seed(seed, 1 + u64::from(client)));
     for _ in 0..count {
-        request(out, client, words.next_word())?;
+        push_request(out, client, words.next_word())?;
     }
     Ok(())
 }

@@ -18,7 +18,7 @@ const TAG: u16 = 1;
 /// Where no other fid serves as a ticket (attach(5)).
 const NO_FID: u32 = 0xFFFF_FFFF;
 
-/// The fid of the root.
+/// The fid of the root, which a client attaches and walks from.
 const ROOT: u32 = 0;
 
 /// The bytes of a message before its fields: size[4] type[1] tag[2].
@@ -86,10 +86,10 @@ pub(crate) fn push_version(out: &mut Vec<u8>, msize: u32) -> Result<(), AllocErr
     push_string(out, b"9P2000")
 }
 
-pub(crate) fn push_attach(out: &mut Vec<u8>, fid: u32) -> Result<(), AllocError>
-    ensures { OnOk result (out.new.items ≡ out.old.items ++ sent (attach fid 0xFFFFFFFF (codes "demo") [])) }
+pub(crate) fn push_attach(out: &mut Vec<u8>) -> Result<(), AllocError>
+    ensures { OnOk result (out.new.items ≡ out.old.items ++ sent (attach 0 0xFFFFFFFF (codes "demo") [])) }
 {
-    push_call(out, kinds::T_ATTACH, fid, 12)?;
+    push_call(out, kinds::T_ATTACH, ROOT, 12)?;
     push_u32(out, NO_FID)?;
     push_string(out, b"demo")?;
     push_string(out, b"")
@@ -206,6 +206,7 @@ pub(crate) fn push_untouched(out: &mut Vec<u8>, fid: u32) -> Result<(), AllocErr
     ensures { OnOk result (out.new.items ≡ out.old.items ++ sent (wstat fid untouched)) }
 {
     push_call(out, kinds::T_WSTAT, fid, 51)?;
+    // n[2] and size[2]: of a stat, and of the fields in it
     out.extend_from_slice(&[49, 0, 47, 0])?;
     out.extend_from_slice(&[0xff; 39])?;
     out.extend_from_slice(&[0; 8])

@@ -126,7 +126,7 @@ fn sync_directory(out: &mut Vec<u8>, client: u32) -> Result<(), AllocError>
 
 /// A request for which a word was drawn.
 #[tactic(auto, unfolding(crate::specs::Script::drawn_request))]
-pub(crate) fn request(out: &mut Vec<u8>, client: u32, word: u32) -> Result<(), AllocError>
+pub(crate) fn push_request(out: &mut Vec<u8>, client: u32, word: u32) -> Result<(), AllocError>
     requires { client < 64 }
     ensures { OnOk result (out.new.items ≡ out.old.items ++ flat_map sent (specs.drawn_request client word)) }
 {

@@ -9,7 +9,7 @@ use itoa::Buffer;
 use sha2::{Digest, Sha256};
 use std::alloc::{AllocError, Global};
 
-/// A node that is left: its path, and of a file its length and the SHA-256 of its bytes.
+/// A node that is left: its path, and of a file its length and the SHA-256 of its bytes. A directory's aren't looked at.
 #[derive(Drop)]
 pub struct DemoRow {
     pub path: Vec<u8>,
@@ -51,6 +51,7 @@ fn push_hash(line: &mut Vec<u8>, hash: &[u8; 32]) -> Result<(), AllocError>
     ensures { OnOk result (line.new.items ≡ line.old.items ++ encode_lower hash.now) }
 {
     let mut digits = [0; 64];
+    // There is room for two digits a byte.
     let _ = hex::encode_to_slice(hash, &mut digits);
     line.extend_from_slice(&digits)
 }

@@ -1,4 +1,4 @@
-use Rattle.std.proofs.Common.{◌≡◌, ◌+◌, ◌++◌, ◌<◌, ◌^◌, sym, ap, ◌∙◌, append-nil, append_assoc, arith}
+use Rattle.std.proofs.Common.{◌+◌, ◌++◌, ◌<◌, ◌^◌, sym, ap, ◌∙◌, append-nil, append_assoc, arith}
 use Rattle.std.specs.List.{flat_map}
 use Rattle.rand_chacha.specs.ChaCha.{of_seed}
 use Rattle.demo_work.specs.Words.{stream_seed, stream_word}
@@ -23,7 +23,7 @@ loop-preserved c =
     let more = flat_map sent (drawn_request client (stream_word seed (1 + client) n)) in
     record {
       sent =
-          c.in_ok-request.ensures
+          c.in_ok-push_request.ensures
           ∙ ap (λ word. c.loop.out.items ++ flat_map sent (drawn_request client word)) step.word_is
           ∙ ap (λ xs. xs ++ more) c.loop.invariant.sent
           ∙ append_assoc c.args.out.now.items before more

@@ -1,4 +1,3 @@
-use Rattle.std.specs.List.{flat_map}
 use Rattle.std.proofs.lemmas.List.Folds.{flat_map-map}
 use Rattle.ninep_wire.specs.TMessage.{spelled_t}
 use Rattle.demo_work.specs.Script.{requests_of, sent, tagged}
