@@ -1,0 +1,11 @@
+//! Tests of `write_back` over the journal of a folder in memory.
+//!
+//! ```
+//! rt test
+//! ```
+#![tactic(auto)]
+
+#[cfg(test)]
+mod flushes;
+#[cfg(test)]
+mod untelling;
