@@ -1,5 +1,6 @@
 ghost use Rattle.std.specs.Prelude.{◌≡◌, ◌≤◌, ◌<◌, ◌+◌, ◌*◌, ◌/◌, ◌^◌, ℕ, List, length, take, IsErrOf};
 ghost use Rattle.std.specs.Result.{result_map_both};
+ghost use Rattle.tree_model.specs.Asked.{count_limit};
 ghost use Rattle.tree_model.specs.Rows.{slice_of};
 ghost use Rattle.file_chunks.specs.File.{IsKey, content_of};
 ghost use Rattle.outside.specs.Calls.{Told};
@@ -38,7 +39,7 @@ pub(crate) fn header_of<R: Reads>(
 
 /// The index of the first chunk that a slice of at most 65,536 bytes meets, and how many chunks it meets.
 pub(crate) fn few_chunks(at: u64, count: u64) -> (u64, u64)
-    requires few { count ≤ 65536 }
+    requires few { count ≤ count_limit }
     requires small { at + count < 2 ^ 64 }
     ensures chunks { Meets at count result.0 result.1 }
     ensures first { result.0 ≡ at / 32768 }
@@ -59,7 +60,7 @@ pub(crate) fn fill<R: Reads>(
     out: &mut [u8],
 ) -> Result<(), ReadErr>
     requires some { 0 < slice.count }
-    requires few { slice.count ≤ 65536 }
+    requires few { slice.count ≤ count_limit }
     requires small { slice.at + slice.count < 2 ^ 64 }
     requires place { 68 + 32796 * (slice.at / 32768) < 2 ^ 64 }
     requires sealed { length sealed.old ≡ 98388 }

@@ -1,5 +1,6 @@
 ghost use Rattle.std.specs.Prelude.{◌≡◌, ◌≤◌, ◌<◌, ◌+◌, ◌*◌, ◌^◌, ◌++◌, ℕ, List, length, take, drop, Some, None, IfOk, OnOk, OnErr, IfErr};
 ghost use Rattle.siv_mode.specs.Keys.{KeyPair};
+ghost use Rattle.tree_model.specs.Asked.{count_limit};
 ghost use Rattle.tree_model.specs.Rows.{slice_of};
 ghost use Rattle.file_chunks.specs.Chunk.{chunk_opens};
 ghost use Rattle.file_chunks.specs.File.{content_of};
@@ -20,7 +21,7 @@ pub(crate) fn gather(
     out: &mut [u8],
 ) -> Result<(), ReadErr>
     requires small { at + length out.old < 2 ^ 64 }
-    requires few { length out.old ≤ 65536 }
+    requires few { length out.old ≤ count_limit }
     requires clear { length clear.old ≡ 32768 }
     ensures opened { (keys : KeyPair) (bytes : List ℕ) → IsSpan keys header.now at (length out.old) sealed.now bytes
         → OnOk result (slice_of (content_of keys bytes) at (length out.old) ≡ Some out.new) }

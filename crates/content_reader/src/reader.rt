@@ -2,6 +2,7 @@ ghost use Rattle.std.specs.Prelude.{◌≡◌, ◌≤◌, ◌-◌, ℕ, List, le
 ghost use Rattle.std.specs.Result.{result_map_both};
 ghost use Rattle.outside.specs.Calls.{Told};
 ghost use Rattle.outside.specs.Images.{disk_in};
+ghost use Rattle.tree_model.specs.Asked.{count_limit};
 ghost use Rattle.file_chunks.specs.File.{content_of};
 ghost use Rattle.content_reader.specs.Reading.{Ends, RoseUntold, IsFileOf, read_of};
 
@@ -76,7 +77,7 @@ impl ContentReader {
         slice: Slice,
         buffer: &mut [u8],
     ) -> Result<u32, ReadErr>
-        requires few { slice.count ≤ 65536 }
+        requires few { slice.count ≤ count_limit }
         requires room { slice.count ≤ length buffer.old }
         ensures bytes { Told (disk_in (R.log folder.old)) (λ d. (bytes : List ℕ) → IsFileOf d file.now.path file.now.size bytes →
             Ends (read_of (content_of keys.now bytes) slice.at slice.count) (R.faults folder.old) (R.faults folder.new)

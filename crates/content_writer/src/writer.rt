@@ -1,7 +1,9 @@
 ghost use Rattle.std.specs.Prelude.{◌≡◌, ◌≤◌, ◌<◌, ◌+◌, ◌^◌, ℕ, List, length, Some, None, OnOk, OnErr, IsErrOf};
 ghost use Rattle.outside.specs.Calls.{Rose, Told, Changes, Extends};
 ghost use Rattle.outside.specs.Images.{disk_in};
+ghost use Rattle.tree_model.specs.Asked.{write_limit};
 ghost use Rattle.tree_model.specs.Contents.{written, resized};
+ghost use Rattle.tree_model.specs.Step.{file_limit, gap_limit};
 ghost use Rattle.file_chunks.specs.File.{clear_length, content_of};
 ghost use Rattle.content_changes.specs.Rewriting.{sealed_size};
 ghost use Rattle.content_changes.specs.Laws.{IsRewritten};
@@ -89,9 +91,9 @@ impl ContentWriter {
         entropy: &mut E,
     ) -> Result<(), WriteErr>
         requires some { 0 < length input.now }
-        requires few { length input.now ≤ 65537 }
-        requires sized { (n : ℕ) × (clear_length file.now.size ≡ Some n) × (at ≤ n + 1048576) }
-        requires limit { at + length input.now ≤ 2 ^ 40 }
+        requires few { length input.now ≤ write_limit }
+        requires sized { (n : ℕ) × (clear_length file.now.size ≡ Some n) × (at ≤ n + gap_limit) }
+        requires limit { at + length input.now ≤ file_limit }
         ensures written { OnOk result (Told (disk_in (R.log folder.old)) (λ d. (bytes : List ℕ) → IsFileOf d file.now.path file.now.size bytes
             → IsRewritten keys.now bytes self.new (written (content_of keys.now bytes) at input.now))) }
         ensures damaged { IsErrOf result WriteErr.Damaged → Told (disk_in (R.log folder.old)) (λ d. (bytes : List ℕ) → IsFileOf d file.now.path file.now.size bytes
@@ -123,8 +125,8 @@ impl ContentWriter {
         len: u64,
         entropy: &mut E,
     ) -> Result<(), WriteErr>
-        requires sized { (n : ℕ) × (clear_length file.now.size ≡ Some n) × (len ≤ n + 1048576) }
-        requires limit { len ≤ 2 ^ 40 }
+        requires sized { (n : ℕ) × (clear_length file.now.size ≡ Some n) × (len ≤ n + gap_limit) }
+        requires limit { len ≤ file_limit }
         ensures resized { OnOk result (Told (disk_in (R.log folder.old)) (λ d. (bytes : List ℕ) → IsFileOf d file.now.path file.now.size bytes
             → IsRewritten keys.now bytes self.new (resized (content_of keys.now bytes) len))) }
         ensures damaged { IsErrOf result WriteErr.Damaged → Told (disk_in (R.log folder.old)) (λ d. (bytes : List ℕ) → IsFileOf d file.now.path file.now.size bytes
@@ -175,10 +177,10 @@ impl ContentWriter {
         entropy: &mut E,
     ) -> Result<(), WriteErr>
         requires some { 0 < length write.now.input.now }
-        requires few { length write.now.input.now ≤ 65537 }
+        requires few { length write.now.input.now ≤ write_limit }
         requires sized { clear_length file.now.size ≡ Some content.now.length }
-        requires near { write.now.at ≤ content.now.length + 1048576 }
-        requires limit { write.now.at + length write.now.input.now ≤ 2 ^ 40 }
+        requires near { write.now.at ≤ content.now.length + gap_limit }
+        requires limit { write.now.at + length write.now.input.now ≤ file_limit }
         ensures written { OnOk result (OfOpen (disk_in (R.log folder.old)) file.now.path content.now.header content.now.length (λ keys bytes. length bytes ≡ file.now.size
             → IsRewritten keys bytes self.new (written (content_of keys bytes) write.now.at write.now.input.now))) }
         ensures damaged { IsErrOf result WriteErr.Damaged → OfOpen (disk_in (R.log folder.old)) file.now.path content.now.header content.now.length

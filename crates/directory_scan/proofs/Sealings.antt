@@ -81,13 +81,13 @@ sha1_length m = digest_length (hash_after (padded_message m) (length (padded_mes
 
 -- ---- base64url is made of the bytes of a path's parts
 
-abbrev all_part : List ℕ → Bool
+abbrev pub all_part : List ℕ → Bool
 all_part xs = list_all is_part_byte xs
 
 cons_part : (x : ℕ) (xs : List ℕ) → is_part_byte x ≡ true → all_part xs ≡ true → all_part (x ∷ xs) ≡ true
 cons_part x xs p q = rw (p, q) refl
 
-append_part : (xs ys : List ℕ) → all_part xs ≡ true → all_part ys ≡ true → all_part (xs ++ ys) ≡ true
+pub append_part : (xs ys : List ℕ) → all_part xs ≡ true → all_part ys ≡ true → all_part (xs ++ ys) ≡ true
 append_part xs ys p q = rw (list_all-append is_part_byte xs ys, p, q) refl
 
 symbol_part : (table : List ℕ) (k : ℕ) → all_part table ≡ true → k < length table → is_part_byte (slice_index table k) ≡ true
@@ -129,7 +129,7 @@ padding_length : (n : ℕ) → length {A = ℕ} (replicate n 61) ≡ n
 padding_length zero = refl
 padding_length (suc n) = ap suc (padding_length n)
 
-encoded_part : (m : List ℕ) → AreBytes m → all_part (encode_of url_safe m) ≡ true
+pub encoded_part : (m : List ℕ) → AreBytes m → all_part (encode_of url_safe m) ≡ true
 encoded_part m are =
     append_part (encode_symbols (engine_symbols url_safe) m) (replicate (padding_len (length m)) 61) (symbols_part (engine_symbols url_safe) refl refl m are)
     (padding_part (padding_len (length m)))
@@ -146,13 +146,13 @@ ending xs s four =
     let size : length (xs ++ s) - 4 ≡ length xs = omega (arith, length-append xs s) in
     rw size (drop_at xs s (length xs) refl)
 
-part_of_32 : (part : List ℕ) → length part ≡ 32 → all_part part ≡ true → is_part part ≡ true
-part_of_32 part len all =
+pub part_of_more : (part : List ℕ) → 4 ≤ length part → length part ≤ 255 → all_part part ≡ true → is_part part ≡ true
+part_of_more part more few all =
     let some : nat_le 1 (length part) ≡ true = grind (arith, nat_tests) in
-    let few : nat_le (length part) 255 ≡ true = grind (arith, nat_tests) in
-    let dot : bytes_eq part (46 ∷ []) ≡ false = apart part (46 ∷ []) (λ e. let bad : 32 ≡ 1 = sym len ∙ e in cc) in
-    let dots : bytes_eq part (46 ∷ 46 ∷ []) ≡ false = apart part (46 ∷ 46 ∷ []) (λ e. let bad : 32 ≡ 2 = sym len ∙ e in cc) in
-    rw (some, few, all, dot, dots) refl
+    let fits : nat_le (length part) 255 ≡ true = grind (arith, nat_tests) in
+    let dot : bytes_eq part (46 ∷ []) ≡ false = apart part (46 ∷ []) (λ e. let one : length part ≡ 1 = e in omega (arith, one, more)) in
+    let dots : bytes_eq part (46 ∷ 46 ∷ []) ≡ false = apart part (46 ∷ 46 ∷ []) (λ e. let two : length part ≡ 2 = e in omega (arith, two, more)) in
+    rw (some, fits, all, dot, dots) refl
 
 long_length : (m : List ℕ) → length m ≡ 20 → length (encode_of url_safe m ++ long_suffix) ≡ 32
 long_length m twenty =
@@ -162,7 +162,8 @@ long_length m twenty =
 pub is_part-long_folder : (t : List ℕ) → is_part (long_folder t) ≡ true
 unfolding long_folder
 is_part-long_folder t =
-    part_of_32 (encode_of url_safe (sha1 t) ++ long_suffix) (long_length (sha1 t) (sha1_length t))
+    let size : length (encode_of url_safe (sha1 t) ++ long_suffix) ≡ 32 = long_length (sha1 t) (sha1_length t) in
+    part_of_more (encode_of url_safe (sha1 t) ++ long_suffix) (omega (arith, size)) (omega (arith, size))
     (append_part (encode_of url_safe (sha1 t)) long_suffix (encoded_part (sha1 t) (sha1_bytes t)) refl)
 
 ends_long : (t : List ℕ) → is_long_entry (long_folder t) ≡ true

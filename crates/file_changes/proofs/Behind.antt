@@ -22,7 +22,6 @@ use Rattle.tree_model.specs.Asked.{PlainRequest}
 use Rattle.tree_model.specs.Step.{Answer}
 use Rattle.clear_tree.specs.Walk.{Sealing}
 use Rattle.directory_scan.specs.Format.{sealing_of}
-use Rattle.tree_changes.proofs.Beside.{stays_beside}
 use Rattle.live_tree.specs.Held.{HeldTree, path_of}
 use Rattle.held_changes.specs.Writing.{IsRewritten}
 use Rattle.content_changes.specs.Rewriting.{Rewriting, rewritten}
@@ -30,6 +29,7 @@ use Rattle.content_deeds.specs.Deeds.{rewriting_in}
 use Rattle.content_writer.specs.Sealed.{nonces_of}
 use Rattle.write_back.specs.Shown.{HasFile}
 use Rattle.node_changes.specs.Changed.{StandsOn, IsStepAnswer, IsLate}
+use Rattle.node_changes.proofs.Beside.{stands_beside}
 use Rattle.change_plans.specs.Files.{IsFileOf}
 use Rattle.file_changes.specs.Held.{rewritten_tree, RowsAreRewritten}
 use Rattle.file_changes.specs.Steps.{ChangesContent}
@@ -60,16 +60,6 @@ stands_laid s live claims waiting log rest =
     (told_then log (IsAtRestOver s live claims waiting) (λ (l : Log). Stands s live claims (laid_log waiting l)) rest (λ l r. (r.contents, r.stands)))
 
 -- ---- what was committed, or waits still
-
-stands_beside : (s : Sealing) (d d' : Disk) (live : HeldTree) (claims : List (List ℕ × ℕ)) (contents : ℕ → Content) → StandsOn s d live claims contents → IsTree d' → IsAlike d d'
-    → StandsOn s d' live claims contents
-stands_beside s d d' live claims contents stands host same = record {
-  tree = stands.tree;
-  is = stays_beside s d d' stands.tree stands.is host same;
-  holds = stands.holds;
-  claimed = stands.claimed;
-  are = stands.are;
-}
 
 -- a file that isn't in the folder itself is none of the journal's
 same_file : (path : HostPath) → IsInside path → (a b : Disk) → IsAlike a b → thing_at b path ≡ thing_at a path

@@ -2,7 +2,7 @@ ghost use Rattle.std.specs.Prelude.{◌≡◌, ◌≤◌, ◌<◌, length, None,
 ghost use Rattle.std.specs.Option.{option_map};
 ghost use Rattle.outside.specs.Calls.{Changes, Rose, Told};
 ghost use Rattle.outside.specs.Images.{disk_in};
-ghost use Rattle.tree_model.specs.Asked.{PlainRequest, write, count};
+ghost use Rattle.tree_model.specs.Asked.{PlainRequest, write, count, write_limit};
 ghost use Rattle.tree_model.specs.Step.{Answer, says};
 ghost use Rattle.directory_scan.specs.Format.{sealing_of};
 ghost use Rattle.content_writer.specs.Sealing.{GoesOn};
@@ -45,7 +45,7 @@ impl FileChanges {
     ) -> Result<(), ChangeErr>
         requires rest { Told (D.log back.old.folder) (IsAtRestOver (sealing_of tree.old.keys) tree.old.live tree.old.claims back.old.waiting) }
         requires some { 0 < length bytes.now }
-        requires few { length bytes.now ≤ 65537 }
+        requires few { length bytes.now ≤ write_limit }
         requires file { IsWritable tree.old.live number at (length bytes.now) }
         ensures put { OnOk result (Changes (D.log back.old.folder) (D.log back.new.folder) (HasPut (sealing_of tree.old.keys)
             (write number at bytes.now) now (says (count (length bytes.now))) tree.old.live tree.new.live tree.old.claims tree.new.claims

@@ -1,7 +1,7 @@
 // Where journals are damaged.
 
 use crate::row::{RowErr, at, bytes, word};
-use crate::untelling::Untelling;
+use untold_folder::Untelling;
 use chunk_journal::{Journal, JournalErr};
 use outside::{Folder, Kind, Reads};
 use outside_mem::MemFolder;

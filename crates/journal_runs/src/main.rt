@@ -12,7 +12,6 @@ mod images;
 mod row;
 mod runs;
 mod stops;
-mod untelling;
 
 use row::RowErr;
 use std::process::ExitCode;

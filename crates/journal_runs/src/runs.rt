@@ -4,7 +4,7 @@ ghost use Rattle.deeds.specs.Grammar.{IsBatch};
 ghost use Rattle.deeds.specs.Plain.{plains};
 
 use crate::row::{RowErr, at};
-use crate::untelling::Untelling;
+use untold_folder::Untelling;
 use chunk_journal::Journal;
 use deeds::{Deed, is_repeatable, read_batch};
 use outside::{Kind, Reads};

@@ -46,7 +46,7 @@ IsWrapped-from kek key text other_key other_text same is encodes decodes opens l
     subst (λ (k : List ℕ). IsWrapped kek k text) is
     (record { encodes = encoded; decodes = ap (decode_of standard) encoded ∙ decodes; opens = opens; long = long })
 
-pub key_file-texts : (keys : KeyPair) (password salt kek mac enc salted version : List ℕ) → kek ≡ scrypt password salt 32768 8 1 32
+pub key_file-texts : (keys : KeyPair) (password salt kek mac enc salted version : List ℕ) → kek ≡ scrypt password salt new_cost new_block_size new_parallelization 32
     → IsWrapped kek keys.mac mac → IsWrapped kek keys.enc enc → salted ≡ encode_of standard salt → version ≡ encode_of standard (version_mac keys)
     → compact_text (value_of_texts mac enc salted version) ≡ key_file keys password salt
 unfolding key_file
@@ -102,17 +102,17 @@ fields_in-texts mac enc salt mac_text enc_text salted version m e s long_mac lon
 
 good_cost : is_good_cost 32768 8 ≡ true
 good_cost =
-    let cost : IsCost 32768 8 1 = record { power = 15; above = lit< tt; is_power = refl; block = lit< tt; parts = lit< tt } in
+    let cost : IsCost new_cost new_block_size new_parallelization = record { power = 15; above = lit< tt; is_power = refl; block = lit< tt; parts = lit< tt } in
     is_good_cost-unrefused 32768 8 (λ not. not cost) (λ large. elim large.1 [ inl table ↦ absurd (omega arith) | inr parts ↦ absurd (omega arith) ])
 
 -- the members that are written open to the keys
-keys_in-written : (keys : KeyPair) (password salt kek : List ℕ) → kek ≡ scrypt password salt 32768 8 1 32
+keys_in-written : (keys : KeyPair) (password salt kek : List ℕ) → kek ≡ scrypt password salt new_cost new_block_size new_parallelization 32
     → unwrapped (inverse_aes kek) (wrapped (aes kek) keys.mac) ≡ Some keys.mac → unwrapped (inverse_aes kek) (wrapped (aes kek) keys.enc) ≡ Some keys.enc
     → keys_in password (written_fields (wrapped (aes kek) keys.mac) (wrapped (aes kek) keys.enc) salt) ≡ Ok keys
 keys_in-written keys password salt kek key m e = rw (good_cost, ← key, e, m) refl
 
 -- the written file opens to the keys
-pub keys_of-texts : (keys : KeyPair) (password salt kek bytes mac enc salted version : List ℕ) → kek ≡ scrypt password salt 32768 8 1 32
+pub keys_of-texts : (keys : KeyPair) (password salt kek bytes mac enc salted version : List ℕ) → kek ≡ scrypt password salt new_cost new_block_size new_parallelization 32
     → IsWrapped kek keys.mac mac → IsWrapped kek keys.enc enc → salted ≡ encode_of standard salt → decode_of standard salted ≡ Ok salt → length salt ≡ 8
     → version ≡ encode_of standard (version_mac keys) → length (version_mac keys) ≡ 32
     → bytes ≡ compact_text (value_of_texts mac enc salted version) → object_of bytes ≡ Some (value_of_texts mac enc salted version)

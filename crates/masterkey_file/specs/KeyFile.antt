@@ -125,14 +125,24 @@ text_of bytes = string (encode_of standard bytes)
 abbrev pub version_mac : KeyPair → List ℕ
 version_mac keys = hmac sha256 64 keys.mac (bytes_of 4 999)
 
--- N 32768 and r 8; the members in the order of their names' bytes
+-- scrypt's cost, block size and parallelization in a new file
+abbrev pub new_cost : ℕ
+new_cost = 32768
+
+abbrev pub new_block_size : ℕ
+new_block_size = 8
+
+abbrev pub new_parallelization : ℕ
+new_parallelization = 1
+
+-- the members in the order of their names' bytes
 abbrev pub written_value : KeyPair → List ℕ → List ℕ → Data
 written_value keys password salt_bytes =
-    let kek = scrypt password salt_bytes 32768 8 1 32 in
+    let kek = scrypt password salt_bytes new_cost new_block_size new_parallelization 32 in
     object (member (codes "hmacMasterKey") (text_of (wrapped (aes kek) keys.mac))
     (member (codes "primaryMasterKey") (text_of (wrapped (aes kek) keys.enc))
-    (member (codes "scryptBlockSize") (number (unsigned 8))
-    (member (codes "scryptCostParam") (number (unsigned 32768))
+    (member (codes "scryptBlockSize") (number (unsigned new_block_size))
+    (member (codes "scryptCostParam") (number (unsigned new_cost))
     (member (codes "scryptSalt") (text_of salt_bytes)
     (member (codes "version") (number (unsigned 999))
     (member (codes "versionMac") (text_of (version_mac keys)) no_members)))))))

@@ -6,7 +6,7 @@ ghost use Rattle.base64.specs.Engines.{standard};
 ghost use Rattle.key_wrap.specs.Wrap.{unwrapped, wrapped};
 ghost use Rattle.scrypt_kdf.specs.Scrypt.{scrypt};
 ghost use Rattle.serde_json.specs.View.{view};
-ghost use Rattle.masterkey_file.specs.KeyFile.{key_file, keys_of, version_mac};
+ghost use Rattle.masterkey_file.specs.KeyFile.{key_file, keys_of, new_block_size, new_cost, new_parallelization, version_mac};
 ghost use Rattle.masterkey_file.specs.Written.{value_of_texts};
 
 use aes_block::Key256;
@@ -18,10 +18,12 @@ use serde_json::{Value, json};
 use siv_mode::VaultKeys;
 use std::alloc::{AllocError, Global};
 
-// scrypt's cost and block size.
+// scrypt's cost, block size and parallelization.
 const COST: u64 = 32768;
 
 const BLOCK_SIZE: u64 = 8;
+
+const PARALLELIZATION: u64 = 1;
 
 // The version, which says that the vault's format stands in its configuration.
 const VERSION: u32 = 999;
@@ -50,11 +52,11 @@ pub fn write(
 
 // The key that wraps the others.
 fn new_wrapping_key(alloc: Global, password: &[u8], salt: &[u8; 8]) -> Result<[u8; 32], AllocError>
-    ensures { IfOk result (λ key. key ≡ scrypt password.now salt.now 32768 8 1 32) }
+    ensures { IfOk result (λ key. key ≡ scrypt password.now salt.now new_cost new_block_size new_parallelization 32) }
 {
     let mut key = [0; 32];
     // The cost and the sizes are good, so only memory can run out.
-    scrypt(alloc, password, salt, COST, BLOCK_SIZE, 1, &mut key).map_err(|_| AllocError)?;
+    scrypt(alloc, password, salt, COST, BLOCK_SIZE, PARALLELIZATION, &mut key).map_err(|_| AllocError)?;
     Ok(key)
 }
 

@@ -1,14 +1,11 @@
 -- The text of a sealed name is made of the bytes of a path's parts, so that a short one is a part.
 use Rattle.std.proofs.Common.{◌≡◌, ◌≢◌, ◌↔◌, ℕ, zero, suc, ◌+◌, ◌*◌, ◌/◌, ◌%◌, ◌<◌, ◌≤◌, Bool, true, false, not, nat_le, List, [], ◌∷◌, ◌++◌, replicate, length, slice_index, Option, Some, if◌then◌else◌, refl, sym, ap, ◌∙◌, inl, inr, arith, length-append}
-use Rattle.std.specs.List.{list_all}
 use Rattle.std.specs.Str.{bytes_eq}
 use Rattle.std.proofs.lemmas.Bool.{cases_Bool, and_parts}
 use Rattle.std.proofs.lemmas.Bool.Decides.{nat_tests}
-use Rattle.std.proofs.lemmas.List.Folds.{list_all-append}
 use Rattle.std.proofs.lemmas.Slice.Eq.{bytes_eq-Decides}
-use Rattle.base64.specs.GeneralPurpose.{encode_of, engine_symbols}
+use Rattle.base64.specs.GeneralPurpose.{encode_of}
 use Rattle.base64.specs.Engines.{url_safe}
-use Rattle.base64.specs.Rfc4648.{encode_symbols, padding_len}
 use Rattle.aes_block.specs.Aes.{aes}
 use Rattle.aes_block.specs.Bytes.{AreBytes}
 use Rattle.siv_mode.specs.Keys.{KeyPair}
@@ -21,75 +18,10 @@ use Rattle.long_names.specs.Places.{long_folder, place_of}
 use Rattle.long_names.specs.declared.place.Place.TheVariants.{Short, Long}
 use Rattle.clear_tree.specs.Walk.{is_name}
 use Rattle.directory_scan.specs.Format.{sealing_of}
-use Rattle.directory_scan.proofs.Sealings.{is_part-long_folder}
+use Rattle.directory_scan.proofs.Sealings.{all_part, append_part, encoded_part, is_part-long_folder, part_of_more}
 use Rattle.name_places.specs.New.{IsNewPlace}
 
--- ---- base64url is made of the bytes of a path's parts
-
-abbrev all_part : List ℕ → Bool
-all_part xs = list_all is_part_byte xs
-
-cons_part : (x : ℕ) (xs : List ℕ) → is_part_byte x ≡ true → all_part xs ≡ true → all_part (x ∷ xs) ≡ true
-cons_part x xs p q = rw (p, q) refl
-
-append_part : (xs ys : List ℕ) → all_part xs ≡ true → all_part ys ≡ true → all_part (xs ++ ys) ≡ true
-append_part xs ys p q = rw (list_all-append is_part_byte xs ys, p, q) refl
-
-symbol_part : (table : List ℕ) (k : ℕ) → all_part table ≡ true → k < length table → is_part_byte (slice_index table k) ≡ true
-symbol_part [] k all within = absurd (omega arith)
-symbol_part (x ∷ xs) zero all within = (and_parts (is_part_byte x) (all_part xs) all).0
-symbol_part (x ∷ xs) (suc k) all within = symbol_part xs k (and_parts (is_part_byte x) (all_part xs) all).1 (omega arith)
-
-module _ (table : List ℕ) (all : all_part table ≡ true) (long : length table ≡ 64) where
-  symbol : (k : ℕ) → k < 64 → is_part_byte (slice_index table k) ≡ true
-  symbol k low = symbol_part table k all (omega arith)
-
-  symbols_part : (m : List ℕ) → AreBytes m → all_part (encode_symbols table m) ≡ true
-  unfolding encode_symbols
-  symbols_part [] are = refl
-  symbols_part (a ∷ []) are =
-      let low : a < 256 = are.0 in
-      cons_part (slice_index table (a / 4)) (slice_index table (a % 4 * 16) ∷ []) (symbol (a / 4) (omega arith))
-      (cons_part (slice_index table (a % 4 * 16)) [] (symbol (a % 4 * 16) (omega arith)) refl)
-  symbols_part (a ∷ b ∷ []) are =
-      let low : a < 256 = are.0 in
-      let next : b < 256 = are.1.0 in
-      cons_part (slice_index table (a / 4)) (slice_index table (a % 4 * 16 + b / 16) ∷ slice_index table (b % 16 * 4) ∷ []) (symbol (a / 4) (omega arith))
-      (cons_part (slice_index table (a % 4 * 16 + b / 16)) (slice_index table (b % 16 * 4) ∷ []) (symbol (a % 4 * 16 + b / 16) (omega arith))
-      (cons_part (slice_index table (b % 16 * 4)) [] (symbol (b % 16 * 4) (omega arith)) refl))
-  symbols_part (a ∷ b ∷ c ∷ rest) are =
-      let low : a < 256 = are.0 in
-      let next : b < 256 = are.1.0 in
-      let third : c < 256 = are.1.1.0 in
-      cons_part (slice_index table (a / 4)) (slice_index table (a % 4 * 16 + b / 16) ∷ slice_index table (b % 16 * 4 + c / 64) ∷ slice_index table (c % 64) ∷ encode_symbols table rest) (symbol (a / 4) (omega arith))
-      (cons_part (slice_index table (a % 4 * 16 + b / 16)) (slice_index table (b % 16 * 4 + c / 64) ∷ slice_index table (c % 64) ∷ encode_symbols table rest) (symbol (a % 4 * 16 + b / 16) (omega arith))
-      (cons_part (slice_index table (b % 16 * 4 + c / 64)) (slice_index table (c % 64) ∷ encode_symbols table rest) (symbol (b % 16 * 4 + c / 64) (omega arith))
-      (cons_part (slice_index table (c % 64)) (encode_symbols table rest) (symbol (c % 64) (omega arith)) (symbols_part rest are.1.1.1))))
-
-padding_part : (n : ℕ) → all_part (replicate n 61) ≡ true
-padding_part zero = refl
-padding_part (suc n) = padding_part n
-
-encoded_part : (m : List ℕ) → AreBytes m → all_part (encode_of url_safe m) ≡ true
-encoded_part m are =
-    append_part (encode_symbols (engine_symbols url_safe) m) (replicate (padding_len (length m)) 61) (symbols_part (engine_symbols url_safe) refl refl m are)
-    (padding_part (padding_len (length m)))
-
 -- ---- parts
-
-apart : (xs ys : List ℕ) → length xs ≢ length ys → bytes_eq xs ys ≡ false
-apart xs ys other = elim (cases_Bool (bytes_eq xs ys)) [
-  | inl same ↦ absurd (other (ap length ((bytes_eq-Decides xs ys).0 same)))
-  | inr differ ↦ differ
-]
-
-part_of_more : (part : List ℕ) → 4 ≤ length part → length part ≤ 255 → all_part part ≡ true → is_part part ≡ true
-part_of_more part more few all =
-    let some : nat_le 1 (length part) ≡ true = grind (arith, nat_tests) in
-    let fits : nat_le (length part) 255 ≡ true = grind (arith, nat_tests) in
-    let dot : bytes_eq part (46 ∷ []) ≡ false = apart part (46 ∷ []) (λ e. let one : length part ≡ 1 = e in omega (arith, one, more)) in
-    let dots : bytes_eq part (46 ∷ 46 ∷ []) ≡ false = apart part (46 ∷ 46 ∷ []) (λ e. let two : length part ≡ 2 = e in omega (arith, two, more)) in
-    rw (some, fits, all, dot, dots) refl
 
 byte_low : (b : ℕ) → is_part_byte b ≡ true → b < 256
 byte_low b is = grind (arith, nat_tests)

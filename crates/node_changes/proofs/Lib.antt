@@ -11,3 +11,4 @@ pub mod Named
 pub mod Sites
 pub mod Makings
 pub mod Draws
+pub mod Beside

@@ -110,16 +110,11 @@ impl VaultTree {
         entries_are_parts(&self.keys);
         // for its clause: each node is in a directory
         let _count = self.live.len();
-        let site = match self.site(parent, name) {
-            Ok(site) => site,
-            Err(refusal) => return Err(refusal),
-        };
+        let site = self.site(parent, name)?;
         let Ok(directory) = draw_directory(&self.keys, entropy, is_dir) else {
             return Err(Refusal::RandomFault);
         };
-        if let Err(refusal) = self.check_places(folder, &site, directory.as_ref()) {
-            return Err(refusal);
-        }
+        self.check_places(folder, &site, directory.as_ref())?;
         match directory {
             Some(directory) => match self.make_directory(parent, site, &directory, now) {
                 Ok(deeds) => Ok(deeds),

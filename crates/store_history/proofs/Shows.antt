@@ -33,16 +33,6 @@ shows_blind keys a b rows shows host same = record {
   shape = shows.shape;
 }
 
-pub stands_beside : (s : Sealing) (d d' : Disk) (live : HeldTree) (claims : List (List ℕ × ℕ)) (contents : ℕ → Content) → StandsOn s d live claims contents → IsTree d' → IsAlike d d'
-    → StandsOn s d' live claims contents
-stands_beside s d d' live claims contents stands host same = record {
-  tree = stands.tree;
-  is = stays_beside s d d' stands.tree stands.is host same;
-  holds = stands.holds;
-  claimed = stands.claimed;
-  are = stands.are;
-}
-
 -- ---- the rows of a tree in memory
 
 number_in : (P : ℕ → Type 0) (contents : ℕ → Content) (es : List (ℕ × HeldNode)) (n : ℕ) → AllByRecursion P (keys_of es)

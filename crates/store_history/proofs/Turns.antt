@@ -37,7 +37,8 @@ use Rattle.stop_history.proofs.Stable.{stable_next}
 use Rattle.stop_history.proofs.States.{state_runs, running_state, broken_state}
 use Rattle.store_history.specs.Store.{StoreView, bounded, moment_of, shows_under, ArePlaced, HasRows, IsPlacedOn, IsSaidFrom, IsStoredIn, IsStoreOf, LogGoesOn}
 use Rattle.store_history.specs.Turns.{Draws, IsMadeOf, Turn, made_in, made_of, IsTurn, IsQuietTurn, IsChangedTurn, IsBrokenTurn, IsUnflushedTurn, QuietTurnsAdd, ChangedTurnsAdd, BrokenTurnsAdd, UnflushedTurnsAdd}
-use Rattle.store_history.proofs.Shows.{shows_blind, stands_beside, stands_shows}
+use Rattle.node_changes.proofs.Beside.{stands_beside}
+use Rattle.store_history.proofs.Shows.{shows_blind, stands_shows}
 use Rattle.store_history.proofs.Alike.{for_alike, looks_itself, looks_through}
 use Rattle.store_history.proofs.Placed.{at_its_end, goes_later, goes_nowhere, grows_on, leaves_go_on, placed_more}
 

@@ -6,6 +6,7 @@ use Rattle.std.proofs.lemmas.Grind.{common_steps}
 use borrow.Rule.Slice.PartMut.{mid_of, post_of, put_mid}
 use Rattle.std.proofs.lemmas.List.{append-nil, nil_from_length, take_rest, length-append, length-take, length-drop, take_at, drop_at, take-append-drop, take-append-le, drop-append-le, drop-drop}
 use Rattle.std.proofs.lemmas.List.Concat.{flat_map-cons, flat_map-append}
+use Rattle.outside.proofs.Lists.{all_more}
 use Rattle.tree_model.specs.Wire.{PlainStat, spelled_stat, IsTreeStat}
 use Rattle.tree_model.specs.Asked.{AreStats}
 use Rattle.tree_model.specs.Step.{fitting, is_too_small}
@@ -93,10 +94,6 @@ module _ (old new : List ℕ) (used : ℕ) (text : List ℕ) (put : IsPut old ne
 
 -- ---- whole stats
 
-all_more : (s : PlainStat) (stats : List PlainStat) → AllByRecursion IsTreeStat stats → IsTreeStat s → AllByRecursion IsTreeStat (stats ++ s ∷ [])
-all_more s [] all good = (good, tt)
-all_more s (t ∷ stats) all good = (all.0, all_more s stats all.1 good)
-
 pub stats_none : (most : ℕ) → AreStats most []
 stats_none most = record { fit = omega arith; stats = []; spelled = refl; each = tt }
 
@@ -108,7 +105,7 @@ stats_more most bytes s are good fit = record {
       let one : flat_map spelled_stat (s ∷ []) ≡ spelled_stat s = flat_map-cons spelled_stat s [] ∙ append-nil (spelled_stat s) in
       ap (λ (w : List ℕ). w ++ spelled_stat s) are.spelled ∙ ap (λ (w : List ℕ). flat_map spelled_stat are.stats ++ w) (sym one)
       ∙ sym (flat_map-append spelled_stat are.stats (s ∷ []));
-  each = all_more s are.stats are.each good;
+  each = all_more IsTreeStat are.stats s are.each good;
 }
 
 -- ---- whether the first is too large

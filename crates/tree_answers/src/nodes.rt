@@ -52,7 +52,7 @@ pub fn open_node(tree: &LiveTree, number: u64, mode: u8) -> Reply
     }
 }
 
-/// The answer to a sync, where nothing is ever pending.
+/// The answer to a sync, once nothing waits to be committed.
 pub fn sync(tree: &LiveTree, number: u64) -> Reply
     ensures answer { IsStepOf tree.now (sync_request number) (says (plain_reply result)) }
     ensures form { IsReplyTo (sync_request number) (plain_reply result) [] }

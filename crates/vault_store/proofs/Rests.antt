@@ -23,7 +23,7 @@ use Rattle.file_changes.specs.Waiting.{IsAtRestOver}
 use Rattle.node_changes.specs.Changed.{IsAtRest, StandsOn, ShowsRows, HasChanged}
 use Rattle.store_history.specs.Store.{StoreView}
 use Rattle.store_history.specs.Turns.{Turn, IsQuietTurn, IsChangedTurn, made_of}
-use Rattle.store_history.proofs.Shows.{stands_beside}
+use Rattle.node_changes.proofs.Beside.{stands_beside}
 use Rattle.vault_store.specs.declared.answering.Broken.{Broken}
 use Rattle.vault_store.specs.Open.{running, counted}
 use Rattle.vault_store.specs.Outcome.{IsWork}

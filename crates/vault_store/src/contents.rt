@@ -2,7 +2,7 @@ ghost use Rattle.std.specs.Prelude.{◌≡◌, ◌≤◌, ℕ, List, [], None, O
 ghost use Rattle.outside.specs.Calls.{Told};
 ghost use Rattle.outside.specs.Views.{entropy_view, folder_view};
 ghost use Rattle.directory_scan.specs.Format.{sealing_of};
-ghost use Rattle.tree_model.specs.Asked.{PlainChange, change as change_request, open_node as open_request, write as write_request};
+ghost use Rattle.tree_model.specs.Asked.{PlainChange, change as change_request, open_node as open_request, write as write_request, write_limit};
 ghost use Rattle.tree_model.specs.Step.{truncates};
 ghost use Rattle.change_plans.specs.declared.planning.Plan.TheVariants.{Resize};
 ghost use Rattle.change_plans.specs.Files.{IsResizable};
@@ -31,7 +31,7 @@ impl<D: Folder> Vault<D> {
         now: u32,
         entropy: &mut E,
     ) -> Result<Reply, Broken>
-        requires few { length bytes.now ≤ 65537 }
+        requires few { length bytes.now ≤ write_limit }
         requires rest { Told (D.log self.old.back.folder) (IsAtRestOver (sealing_of self.old.tree.keys) self.old.tree.live self.old.tree.claims self.old.back.waiting) }
         ensures outcome { (entries : ℕ) (buffer : List ℕ) → IsOutcome (view_of self.old.tree self.old.back.waiting entries None) (view_of self.new.tree self.new.back.waiting entries None)
             (folder_view D.log D.faults D.changes self.old.back.folder) (folder_view D.log D.faults D.changes self.new.back.folder)

@@ -5,7 +5,7 @@ ghost use Rattle.outside.specs.Calls.{Told};
 ghost use Rattle.outside.specs.Images.{disk_in};
 ghost use Rattle.outside.specs.Views.{EntropyView, folder_view};
 ghost use Rattle.directory_scan.specs.Format.{sealing_of};
-ghost use Rattle.tree_model.specs.Asked.{CanAsk, plain_request, read as read_request};
+ghost use Rattle.tree_model.specs.Asked.{CanAsk, count_limit, plain_request, read as read_request};
 ghost use Rattle.tree_model.specs.declared.refusal.Refusal.TheVariants as refusals;
 ghost use Rattle.tree_model.specs.declared.reply.Reply.TheVariants as replies;
 ghost use Rattle.tree_model.specs.Step.{IsReading};
@@ -91,7 +91,7 @@ fn read<R: Reads>(
     slice: Slice,
     buffer: &mut [u8],
 ) -> Reply
-    requires few { slice.count ≤ 65536 }
+    requires few { slice.count ≤ count_limit }
     requires room { slice.count ≤ length buffer.old }
     requires contents { Told (disk_in (R.log folder.old)) (HasContents (sealing_of keys.now) tree.now) }
     ensures { (claims : List (List ℕ × ℕ)) (entries second : ℕ) (source : EntropyView) → IsStill (running keys.now tree.now claims entries) (running keys.now tree.now claims entries)

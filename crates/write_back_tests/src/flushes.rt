@@ -4,7 +4,7 @@ ghost use Rattle.std.specs.Prelude.{◌≤◌, length, IsTrue};
 ghost use Rattle.content_changes.specs.Rewriting.{CanPutChunks};
 ghost use Rattle.content_deeds.specs.Sealed.{rewriting_of};
 
-use crate::untelling::Untelling;
+use untold_folder::Untelling;
 use chunk_journal::Journal;
 use content_deeds::SealedChunks;
 use outside::{Folder, FolderErr, Kind, Reads};

@@ -7,5 +7,3 @@
 
 #[cfg(test)]
 mod flushes;
-#[cfg(test)]
-mod untelling;

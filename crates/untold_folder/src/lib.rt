@@ -1,4 +1,11 @@
 //! A folder that tells nothing, as a real one does, over one that may.
+//!
+//! ```
+//! let mut folder = Untelling::over(memory);
+//! folder.put(&path, b"bytes")?;
+//! let memory = folder.folder;
+//! ```
+#![tactic(auto)]
 
 ghost use Rattle.std.specs.Prelude.{IsErrOf};
 ghost use Rattle.outside.specs.Calls.{HasCause, Rose};
@@ -9,13 +16,15 @@ use vault_path::{Text, VaultPath};
 
 /// Answers as the folder behind it does. What runs over it needs no proof of what the folder holds.
 #[derive(Drop)]
-pub(crate) struct Untelling<D> {
-    pub(crate) folder: D,
+pub struct Untelling<D> {
+    /// The folder that answers.
+    pub folder: D,
     faults: u64,
 }
 
 impl<D> Untelling<D> {
-    pub(crate) fn over(folder: D) -> Untelling<D> {
+    /// Answers as `folder` does.
+    pub fn over(folder: D) -> Untelling<D> {
         Untelling { folder, faults: 0 }
     }
 }
