@@ -43,7 +43,7 @@ module _ (Shows : DiskShows) (rows : Rows) where
     clean = is.clean;
     disk = is.disk;
     recovers = is.recovers;
-    shows = elim is.shows [ inl a ↦ inl a.shows | inr f ↦ inr (record { entry = f.entry; there = f.there; failed = f.failed; shows = f.shows }) ];
+    shows = elim is.shows [ inl a ↦ inl a.shows | inr f ↦ inr (record { begun = omega (arith, ended_above history m is.k is.within f.ended); entry = f.entry; there = f.there; failed = f.failed; shows = f.shows }) ];
   }
 
   module _ (opened : ℕ) where

@@ -17,8 +17,9 @@ abbrev pub ended_at : List Entry → ℕ → ℕ
 ended_at [] m = 0
 ended_at (entry ∷ entries) m = (if nat_le entry.made.moment m then 1 else 0) + ended_at entries m
 
--- the change of entry k, whose commit failed, on the rows after the first k
-pub record IsFailedChange (Shows : DiskShows) (rows : Rows) (history : List Entry) (k : ℕ) (disk : Disk) : Type 0 where
+-- the change of entry k, whose commit failed, on the rows after the first k, where it is among the first `high`
+pub record IsFailedChange (Shows : DiskShows) (rows : Rows) (history : List Entry) (high k : ℕ) (disk : Disk) : Type 0 where
+  pub begun : suc k ≤ high
   pub entry : Entry
   pub there : entry_at history k ≡ Some entry
   pub failed : entry.made.commit_failed ≡ true
@@ -34,7 +35,7 @@ pub record IsCrashPrefix (Shows : DiskShows) (rows : Rows) (history : List Entry
   pub clean : IsFolder image new_file → ⊥
   pub disk : Disk
   pub recovers : RecoversTo image disk
-  pub shows : Shows disk (rows_at rows history k) ⊎ IsFailedChange Shows rows history k disk
+  pub shows : Shows disk (rows_at rows history k) ⊎ IsFailedChange Shows rows history high k disk
 
 -- A stop at any moment since `opened`, the end of the opening's first sync, recovers to a prefix of the history that holds all that was
 -- synced, and nothing that hadn't begun.

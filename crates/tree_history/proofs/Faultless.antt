@@ -40,7 +40,7 @@ tree_answer rows made cause faultless (inl is) =
 tree_answer rows made cause faultless (inr (inl is)) = absurd (faultless.folder (cause_of made refusals.DeviceFault is.0 cause))
 tree_answer rows made cause faultless (inr (inr (inl is))) = absurd (faultless.entropy (cause_of made refusals.RandomFault is.0 cause))
 tree_answer rows made cause faultless (inr (inr (inr is))) =
-    inr (inr (record { may = cause_of made refusals.OutOfMemory is.0 cause; answer = is.0 }))
+    inr (inr (record { may = cause_of made refusals.OutOfMemory is.0 cause; there = is.1; answer = is.0 }))
 
 -- what was made of one request
 stepped : (rows : Rows) (tally : Tally) (entry : Entry) → IsNone tally.stopped → IsCaused tally entry → IsAnswered rows entry.made → IsFaultless entry.made

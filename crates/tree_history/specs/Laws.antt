@@ -1,5 +1,5 @@
 -- What a legal history comes to in which nothing of the outside failed.
-use Rattle.std.specs.Prelude.{◌≡◌, ◌⊎◌, ℕ, List, true, false, Some, IsNone}
+use Rattle.std.specs.Prelude.{◌≡◌, ◌≢◌, ◌⊎◌, ℕ, List, true, false, Some, IsNone}
 use Rattle.std.specs.List.{AllByRecursion}
 use Rattle.outside.specs.Disk.{Path}
 use Rattle.outside.specs.Calls.{Rose}
@@ -25,9 +25,10 @@ pub record IsPlaceTaken (rows : Rows) (made : Made) : Type 0 where
   pub accepted : is_refusal (step rows made.asked.request made.asked.second).answer.reply ≡ false
   pub answer : answer_of made ≡ refuses (refusals.PlaceTaken path)
 
--- memory ran out on a request on which it may
-pub record IsOutOfMemory (made : Made) : Type 0 where
+-- memory ran out on a request on which it may, of a node that is there
+pub record IsOutOfMemory (rows : Rows) (made : Made) : Type 0 where
   pub may : MayLackMemory made.asked.request
+  pub there : (step rows made.asked.request made.asked.second).answer ≢ refuses refusals.Removed
   pub answer : answer_of made ≡ refuses refusals.OutOfMemory
 
 -- the answer is the step's, or one of the two that no count of faults is the cause of
@@ -35,7 +36,7 @@ abbrev pub IsStepAnswer : Rows → Made → Type 0
 IsStepAnswer rows made =
     (answer_of made ≡ (step rows made.asked.request made.asked.second).answer)
     ⊎ IsPlaceTaken rows made
-    ⊎ IsOutOfMemory made
+    ⊎ IsOutOfMemory rows made
 
 -- what was made of a request where nothing failed: its commit neither, and the store goes on
 pub record IsStepped (rows : Rows) (made : Made) : Type 0 where
