@@ -1,11 +1,11 @@
 // Where journals are damaged.
 
 use crate::row::{RowErr, at, bytes, word};
-use untold_folder::Untelling;
 use chunk_journal::{Journal, JournalErr};
 use outside::{Folder, Kind, Reads};
 use outside_mem::MemFolder;
 use std::alloc::Global;
+use untold_folder::Untelling;
 
 /// What opening a journal came to.
 #[derive(Clone, Copy, PartialEq, Eq)]

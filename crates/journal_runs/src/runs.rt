@@ -4,12 +4,12 @@ ghost use Rattle.deeds.specs.Grammar.{IsBatch};
 ghost use Rattle.deeds.specs.Plain.{plains};
 
 use crate::row::{RowErr, at};
-use untold_folder::Untelling;
 use chunk_journal::Journal;
 use deeds::{Deed, is_repeatable, read_batch};
 use outside::{Kind, Reads};
 use outside_mem::MemFolder;
 use std::alloc::Global;
+use untold_folder::Untelling;
 use vault_path::VaultPath;
 
 /// A folder after a run, and how many commits were acknowledged.

@@ -4,13 +4,13 @@ ghost use Rattle.std.specs.Prelude.{◌≤◌, length, IsTrue};
 ghost use Rattle.content_changes.specs.Rewriting.{CanPutChunks};
 ghost use Rattle.content_deeds.specs.Sealed.{rewriting_of};
 
-use untold_folder::Untelling;
 use chunk_journal::Journal;
 use content_deeds::SealedChunks;
 use outside::{Folder, FolderErr, Kind, Reads};
 use outside_mem::MemFolder;
 use pending_files::Pending;
 use std::test::Fail;
+use untold_folder::Untelling;
 use vault_path::VaultPath;
 use write_back::WriteBack;
 
