@@ -1,6 +1,6 @@
-//! Seals a name by SIV under a directory's identifier of 36 bytes, again and again, so that a script can take the time. The
-//! words are: how (lanes; blocks, by AES a block at a time; or tag, which is S2V alone in lanes), the
-//! tag is printed in hexadecimal.
+//! Seals a name by SIV under a directory's identifier of 36 bytes, again and again, so that a script can take the time.
+//! The words are: how (lanes; blocks, by AES a block at a time; or tag, which is S2V alone in lanes), the name's bytes,
+//! and how many times. The last tag is printed in hexadecimal.
 #![tactic(auto)]
 
 use aes_block::BlockKey;

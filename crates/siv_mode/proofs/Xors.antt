@@ -1,5 +1,5 @@
 -- Laws of lists of bytes that are xored place by place.
-use Rattle.std.proofs.Common.{◌≡◌, ℕ, zero, suc, min, List, [], ◌∷◌, ◌++◌, length, bit_xor, refl, ap, arith}
+use Rattle.std.proofs.Common.{◌≡◌, ℕ, min, List, [], ◌∷◌, ◌++◌, length, bit_xor, refl, ap, arith}
 use Rattle.aes_block.specs.Bytes.{xor_bytes}
 
 -- the xor is as long as the shorter of the two
