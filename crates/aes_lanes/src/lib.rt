@@ -1,4 +1,4 @@
-//! AES-256 (FIPS 197) on four blocks at a time: each byte of a vector is substituted by look-ups of 4
+//! AES-256 (FIPS 197) on one block or four at a time: each byte of a vector is substituted by look-ups of 4
 //! bits within vectors, in a basis in which its inverse is made from those (vector permutation).
 //!
 //! ```
@@ -9,9 +9,9 @@
 //! ```
 //!
 //! Not promised by any clause: that the time taken is independent of key and text, or that a key is
-//! wiped from memory when it is dropped. By reading, `encrypted_four` and making a key ready have no
-//! branch on a secret and no index by one, as far as the compiler keeps it so. `encrypt_blocks` hands
-//! the last one to three blocks to `Key256::encrypt`, which has a table that is indexed by secrets.
+//! wiped from memory when it is dropped. By reading, encryption and making a key ready have no branch
+//! on a secret and no index by one, as far as the compiler keeps it so. `decrypt` is `Key256`'s, which
+//! has a table that is indexed by secrets.
 #![tactic(auto)]
 
 mod key;

@@ -22,8 +22,8 @@ pub fn folder_of(keys: &VaultKeys, identifier: &[u8]) -> VaultPath
 {
     let mut buffer = [0; SEALED_LIMIT];
     let sealed = &mut buffer[..identifier.len() + TAG_LEN];
-    let mac = keys.mac_key();
-    let ctr = keys.encryption_key();
+    let mac = keys.mac_lanes();
+    let ctr = keys.encryption_lanes();
     siv_mode::seal(mac, ctr, None, identifier, sealed);
     path_of(&Sha1::digest(sealed))
 }

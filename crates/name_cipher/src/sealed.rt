@@ -30,8 +30,8 @@ pub fn seal_name(
 {
     let clear = name.as_bytes();
     let mut sealed = vec![in alloc; 0u8; clear.len() + TAG_LEN]?;
-    let mac = keys.mac_key();
-    let ctr = keys.encryption_key();
+    let mac = keys.mac_lanes();
+    let ctr = keys.encryption_lanes();
     siv_mode::seal(mac, ctr, Some(parent), clear, &mut sealed);
     let mut text = URL_SAFE.encode(alloc, &sealed)?;
     text.push_str(SUFFIX)?;
@@ -118,8 +118,8 @@ fn unsealed(
         return Ok(None);
     };
     let mut name = vec![in alloc; 0u8; len]?;
-    let mac = keys.mac_key();
-    let ctr = keys.encryption_key();
+    let mac = keys.mac_lanes();
+    let ctr = keys.encryption_lanes();
     match siv_mode::open(mac, ctr, Some(parent), sealed, &mut name) {
         Ok(()) => Ok(Some(name)),
         Err(_) => Ok(None),

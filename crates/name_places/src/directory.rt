@@ -47,8 +47,8 @@ pub(crate) fn folder_of(keys: &VaultKeys, identifier: &[u8]) -> [u8; 32]
     let mut buffer = [0; SEALED_LIMIT];
     let sealed = &mut buffer[..identifier.len() + TAG_LEN];
     siv_mode::seal(
-        keys.mac_key(),
-        keys.encryption_key(),
+        keys.mac_lanes(),
+        keys.encryption_lanes(),
         None,
         identifier,
         sealed,

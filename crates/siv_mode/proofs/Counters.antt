@@ -2,31 +2,29 @@
 use Rattle.std.proofs.Common.{◌≡◌, ℕ, zero, suc, ◌+◌, ◌-◌, ◌*◌, ◌/◌, ◌%◌, ◌^◌, ◌<◌, ◌≤◌, min, List, [], ◌∷◌, ◌++◌, length, take, drop, flat_map, refl, sym, ap, ◌∙◌, arith}
 use Rattle.std.specs.List.{range_with_len}
 use Rattle.std.proofs.lemmas.Grind.{flat_map-append}
-use Rattle.std.proofs.lemmas.List.{append-nil, append_assoc, length-append, length-take, length-take-le, length-drop, take-append-drop, take_all, drop_all, take_at, drop_at, drop-drop, take-take, drop-take, take_min, drop_min}
+use Rattle.std.proofs.lemmas.List.{append-nil, append_assoc, length-append, length-take-le, length-drop, take-append-drop, take_all, drop_all, take_at, drop_at, drop-drop, take-take, drop-take, take_min, drop_min}
 use Rattle.aes_block.specs.Bytes.{xor_bytes, bytes_of}
 use Rattle.siv_mode.specs.Siv.{first_counter, keystream, counted}
-use Rattle.siv_mode.proofs.Xors.{length-xor_bytes, xor_bytes-append, xor_bytes-take}
-
--- the counter i places on from the first, encrypted
-abbrev pub counter_block : (List ℕ → List ℕ) → ℕ → ℕ → List ℕ
-counter_block ctr first i = ctr (bytes_of 16 ((first + i) % 2 ^ 128))
+use Rattle.siv_mode.specs.Counted.{IsCountedTo, encrypted_counter}
+use Rattle.siv_mode.proofs.Xors.{length-xor_bytes, xor_bytes-append}
 
 range-push : (a n : ℕ) → range_with_len a (suc n) ≡ range_with_len a n ++ (a + n) ∷ []
 range-push a zero = let same : a ≡ a + 0 = omega arith in ap (λ k. k ∷ []) same
 range-push a (suc n) = let same : a + 1 + n ≡ a + suc n = omega arith in ap (λ t. a ∷ t) (range-push (a + 1) n ∙ ap (λ k. range_with_len (a + 1) n ++ k ∷ []) same)
 
-pub keystream-push : (ctr : List ℕ → List ℕ) (first n : ℕ) → keystream ctr first (n + 1) ≡ keystream ctr first n ++ counter_block ctr first n
+pub keystream-push : (ctr : List ℕ → List ℕ) (first n : ℕ) → keystream ctr first (n + 1) ≡ keystream ctr first n ++ encrypted_counter ctr first n
 keystream-push ctr first n =
     let next : n + 1 ≡ suc n = omega arith in
     let from_zero : 0 + n ≡ n = omega arith in
     let push = ap (range_with_len 0) next ∙ range-push 0 n ∙ ap (λ k. range_with_len 0 n ++ k ∷ []) from_zero in
-    ap (flat_map (counter_block ctr first)) push ∙ flat_map-append (counter_block ctr first) (range_with_len 0 n) (n ∷ [])
-    ∙ ap (λ t. keystream ctr first n ++ t) (append-nil (counter_block ctr first n))
+    ap (flat_map (encrypted_counter ctr first)) push ∙ flat_map-append (encrypted_counter ctr first) (range_with_len 0 n) (n ∷ [])
+    ∙ ap (λ t. keystream ctr first n ++ t) (append-nil (encrypted_counter ctr first n))
 
--- a text of which the first i blocks are xored
-pub record IsCountedTo (ctr : List ℕ → List ℕ) (first : ℕ) (old new : List ℕ) (i : ℕ) : Type 0 where
-  pub long : length (keystream ctr first i) ≡ 16 * i
-  pub done : new ≡ xor_bytes (take (16 * i) old) (keystream ctr first i) ++ drop (16 * i) old
+-- a counter that has wrapped counts on
+pub counter_from : (ctr : List ℕ → List ℕ) (first start i : ℕ) → ctr (bytes_of 16 (((first + start) % 2 ^ 128 + i) % 2 ^ 128)) ≡ encrypted_counter ctr first (start + i)
+counter_from ctr first start i =
+    let same : ((first + start) % 2 ^ 128 + i) % 2 ^ 128 ≡ (first + (start + i)) % 2 ^ 128 = omega arith in
+    ap (λ (n : ℕ). ctr (bytes_of 16 n)) same
 
 pub counted_none : (ctr : List ℕ → List ℕ) (first : ℕ) (old : List ℕ) → IsCountedTo ctr first old old 0
 counted_none ctr first old = record { long = refl; done = refl }
@@ -36,7 +34,7 @@ take-add m n xs = sym (take-append-drop m (take (m + n) xs)) ∙ (λ i. take-tak
 
 pub counted_more : (ctr : List ℕ → List ℕ) (first : ℕ) (old now part new block : List ℕ) (i k : ℕ)
     → IsCountedTo ctr first old now i → 16 * i < length old → k ≡ min (length old - 16 * i) 16
-    → block ≡ counter_block ctr first i → length block ≡ 16 → part ≡ xor_bytes (take k (drop (16 * i) now)) (take k block)
+    → block ≡ encrypted_counter ctr first i → length block ≡ 16 → part ≡ xor_bytes (take k (drop (16 * i) now)) block
     → new ≡ take (16 * i) now ++ (part ++ drop k (drop (16 * i) now)) → IsCountedTo ctr first old new (i + 1)
 counted_more ctr first old now part new block i k h within k_is block_is whole part_is new_is =
     let at = 16 * i in
@@ -53,9 +51,8 @@ counted_more ctr first old now part new block i k h within k_is block_is whole p
     let pushed = keystream-push ctr first i ∙ ap (λ b. stream ++ b) (sym block_is) in
     let same_take : take k rest ≡ take 16 rest = ap (λ n. take n rest) (let e : k ≡ min 16 (length rest) = omega arith in e) ∙ take_min 16 rest in
     let same_drop : drop k rest ≡ drop 16 rest = ap (λ n. drop n rest) (let e : k ≡ min 16 (length rest) = omega arith in e) ∙ drop_min 16 rest in
-    let piece_long = length-take 16 rest in
     let piece : part ≡ xor_bytes (take 16 rest) block =
-    part_is ∙ (λ j. xor_bytes (take k (rest_is j)) (take k block)) ∙ (λ j. xor_bytes (same_take j) (take k block)) ∙ xor_bytes-take (take 16 rest) block k (omega arith) in
+    part_is ∙ (λ j. xor_bytes (take k (rest_is j)) block) ∙ (λ j. xor_bytes (same_take j) block) in
     let tail : drop k (drop at now) ≡ drop (at + 16) old = ap (drop k) rest_is ∙ same_drop ∙ drop-drop 16 at old in
     let joined : xor_bytes (take (at + 16) old) (keystream ctr first (i + 1)) ≡ front ++ xor_bytes (take 16 rest) block =
     (λ j. xor_bytes (take-add at 16 old j) (pushed j)) ∙ xor_bytes-append (take at old) stream (take 16 rest) block (omega (arith, h.long)) in

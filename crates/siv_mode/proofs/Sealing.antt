@@ -9,7 +9,8 @@ use Rattle.siv_mode.specs.Cmac.{doubled, padded, cmac}
 use Rattle.siv_mode.specs.Siv.{mixed, xored_end, s2v, first_counter, keystream, counted, siv_sealed, siv_text, siv_opened}
 use Rattle.siv_mode.proofs.Xors.{length-xor_bytes}
 use Rattle.aes_block.proofs.ByteLemmas.{xor_bytes-twice}
-use Rattle.siv_mode.proofs.Counters.{keystream-push, counter_block}
+use Rattle.siv_mode.specs.Counted.{encrypted_counter}
+use Rattle.siv_mode.proofs.Counters.{keystream-push}
 
 -- n counters give n blocks
 pub length-keystream : (ctr : List ℕ → List ℕ) (first n : ℕ) → MakesBlocks ctr → length (keystream ctr first n) ≡ 16 * n
@@ -17,7 +18,7 @@ length-keystream ctr first zero makes = refl
 length-keystream ctr first (suc n) makes =
     let next : suc n ≡ n + 1 = omega arith in
     let pushed = ap (keystream ctr first) next ∙ keystream-push ctr first n in
-    ap length pushed ∙ length-append (keystream ctr first n) (counter_block ctr first n)
+    ap length pushed ∙ length-append (keystream ctr first n) (encrypted_counter ctr first n)
     ∙ omega (arith, length-keystream ctr first n makes, makes.long (bytes_of 16 ((first + n) % 2 ^ 128)))
 
 length-cmac : (mac : List ℕ → List ℕ) (text : List ℕ) → MakesBlocks mac → length (cmac mac text) ≡ 16

@@ -5,7 +5,8 @@ use Rattle.aes_block.specs.Bytes.{AreBytes, MakesBlocks, xor_bytes, bytes_of}
 use Rattle.siv_mode.specs.Cmac.{doubled, padded, cmac}
 use Rattle.siv_mode.specs.Siv.{mixed, xored_end, s2v, first_counter, keystream, counted, siv_sealed}
 use Rattle.siv_mode.proofs.Xors.{length-xor_bytes}
-use Rattle.siv_mode.proofs.Counters.{keystream-push, counter_block}
+use Rattle.siv_mode.specs.Counted.{encrypted_counter}
+use Rattle.siv_mode.proofs.Counters.{keystream-push}
 use Rattle.siv_mode.proofs.Sealing.{length-keystream, length-s2v}
 use Rattle.std.proofs.lemmas.Nat.{xor_lt}
 
@@ -40,7 +41,7 @@ AreBytes-keystream ctr first zero makes = tt
 AreBytes-keystream ctr first (suc n) makes =
     let next : suc n ≡ n + 1 = omega arith in
     let pushed = ap (keystream ctr first) next ∙ keystream-push ctr first n in
-    subst AreBytes (sym pushed) (AreBytes-append (keystream ctr first n) (counter_block ctr first n) (AreBytes-keystream ctr first n makes) (makes.bytes (bytes_of 16 ((first + n) % 2 ^ 128))))
+    subst AreBytes (sym pushed) (AreBytes-append (keystream ctr first n) (encrypted_counter ctr first n) (AreBytes-keystream ctr first n makes) (makes.bytes (bytes_of 16 ((first + n) % 2 ^ 128))))
 
 AreBytes-cmac : (mac : List ℕ → List ℕ) (text : List ℕ) → MakesBlocks mac → AreBytes (cmac mac text)
 unfolding cmac

@@ -1,5 +1,5 @@
 -- Laws of lists of bytes that are xored place by place.
-use Rattle.std.proofs.Common.{◌≡◌, ℕ, zero, suc, ◌≤◌, min, List, [], ◌∷◌, ◌++◌, length, take, bit_xor, refl, ap, arith}
+use Rattle.std.proofs.Common.{◌≡◌, ℕ, min, List, [], ◌∷◌, ◌++◌, length, bit_xor, refl, ap, arith}
 use Rattle.aes_block.specs.Bytes.{xor_bytes}
 
 -- the xor is as long as the shorter of the two
@@ -14,10 +14,3 @@ xor_bytes-append [] [] us vs same = refl
 xor_bytes-append [] (y ∷ ys) us vs same = absurd (omega arith)
 xor_bytes-append (x ∷ xs) [] us vs same = absurd (omega arith)
 xor_bytes-append (x ∷ xs) (y ∷ ys) us vs same = ap (λ t. bit_xor x y ∷ t) (xor_bytes-append xs ys us vs (omega arith))
-
--- the bytes past the end of the first list don't matter
-pub xor_bytes-take : (xs ys : List ℕ) (n : ℕ) → length xs ≤ n → xor_bytes xs (take n ys) ≡ xor_bytes xs ys
-xor_bytes-take [] ys n long = refl
-xor_bytes-take (x ∷ xs) ys zero long = absurd (omega arith)
-xor_bytes-take (x ∷ xs) [] (suc n) long = refl
-xor_bytes-take (x ∷ xs) (y ∷ ys) (suc n) long = ap (λ t. bit_xor x y ∷ t) (xor_bytes-take xs ys n (omega arith))

@@ -2,13 +2,14 @@ ghost use Rattle.std.specs.Prelude.{◌≡◌, length};
 ghost use Rattle.aes_block.specs.Bytes.{AreBytes};
 
 use aes_block::Key256;
+use aes_lanes::LaneKey;
 use std::marker::Model;
 
 /// The two keys of a vault, each of 32 bytes, ready for use.
 #[derive(Drop)]
 pub struct VaultKeys {
-    enc: Key256,
-    mac: Key256,
+    enc: LaneKey,
+    mac: LaneKey,
 }
 
 impl Model for VaultKeys {
@@ -26,8 +27,8 @@ impl VaultKeys {
         ensures mac { result.mac ≡ mac.now }
     {
         VaultKeys {
-            enc: Key256::new(enc),
-            mac: Key256::new(mac),
+            enc: LaneKey::new(Key256::new(enc)),
+            mac: LaneKey::new(Key256::new(mac)),
         }
     }
 
@@ -45,11 +46,25 @@ impl VaultKeys {
     pub fn encryption_key(&self) -> &Key256
         ensures { result.now ≡ self.now.enc }
     {
+        self.enc.key()
+    }
+
+    /// The encryption key, as names are encrypted by it.
+    pub fn encryption_lanes(&self) -> &LaneKey
+        ensures { result.now ≡ self.now.enc }
+    {
         &self.enc
     }
 
     /// The MAC key.
     pub fn mac_key(&self) -> &Key256
+        ensures { result.now ≡ self.now.mac }
+    {
+        self.mac.key()
+    }
+
+    /// The MAC key, as names are authenticated by it.
+    pub fn mac_lanes(&self) -> &LaneKey
         ensures { result.now ≡ self.now.mac }
     {
         &self.mac
@@ -62,7 +77,7 @@ impl VaultKeys {
         ensures enc_bytes { AreBytes self.now.enc }
         ensures mac_bytes { AreBytes self.now.mac }
     {
-        self.enc.has_32_bytes();
-        self.mac.has_32_bytes();
+        self.enc.key().has_32_bytes();
+        self.mac.key().has_32_bytes();
     }
 }

@@ -4,14 +4,15 @@
 //! ```
 //! let keys = VaultKeys::new(&[1; 32], &[2; 32]);
 //! let mut sealed = [0; TAG_LEN + 5];
-//! seal(keys.mac_key(), keys.encryption_key(), Some(b"folder"), b"hello", &mut sealed);
-//! open(keys.mac_key(), keys.encryption_key(), Some(b"folder"), &sealed, &mut [0; 5])?;
+//! let (mac, ctr) = (keys.mac_lanes(), keys.encryption_lanes());
+//! seal(mac, ctr, Some(b"folder"), b"hello", &mut sealed);
+//! open(mac, ctr, Some(b"folder"), &sealed, &mut [0; 5])?;
 //! ```
 //!
 //! SIV is deterministic: the same text sealed twice under the same keys and string gives the same
-//! bytes. Not promised: that the time taken is independent of keys and text (AES indexes tables by
-//! secret bytes; tags are compared without an early end), or that keys are wiped from memory when
-//! they are dropped.
+//! bytes. Not promised: that the time taken is independent of keys and text (by reading it is with
+//! keys in lanes, while `Key128` and `Key256` index a table by secret bytes; tags are compared
+//! without an early end), or that keys are wiped from memory when they are dropped.
 #![tactic(auto)]
 
 mod blocks;
