@@ -110,11 +110,16 @@ impl VaultTree {
         entries_are_parts(&self.keys);
         // for its clause: each node is in a directory
         let _count = self.live.len();
-        let site = self.site(parent, name)?;
+        let site = match self.site(parent, name) {
+            Ok(site) => site,
+            Err(refusal) => return Err(refusal),
+        };
         let Ok(directory) = draw_directory(&self.keys, entropy, is_dir) else {
             return Err(Refusal::RandomFault);
         };
-        self.check_places(folder, &site, directory.as_ref())?;
+        if let Err(refusal) = self.check_places(folder, &site, directory.as_ref()) {
+            return Err(refusal);
+        }
         match directory {
             Some(directory) => match self.make_directory(parent, site, &directory, now) {
                 Ok(deeds) => Ok(deeds),
