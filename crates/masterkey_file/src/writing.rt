@@ -56,7 +56,16 @@ fn new_wrapping_key(alloc: Global, password: &[u8], salt: &[u8; 8]) -> Result<[u
 {
     let mut key = [0; 32];
     // The cost and the sizes are good, so only memory can run out.
-    scrypt(alloc, password, salt, COST, BLOCK_SIZE, PARALLELIZATION, &mut key).map_err(|_| AllocError)?;
+    scrypt(
+        alloc,
+        password,
+        salt,
+        COST,
+        BLOCK_SIZE,
+        PARALLELIZATION,
+        &mut key,
+    )
+    .map_err(|_| AllocError)?;
     Ok(key)
 }
 
