@@ -33,6 +33,7 @@ fn main(rt: HostRuntime) -> io::Result<ExitCode> {
             &taken,
             Part::Requests(Manner::Redrawing),
         ),
+        ("runs that stop with what waits", &script, Part::Waits),
         ("runs with a draw that fails", &script, Part::Draws),
         ("runs with a call that fails", &script, Part::Calls),
         ("images of stopped runs", &script, Part::Stops),

@@ -1,7 +1,7 @@
 // What runs come to where nothing fails, where a draw or a call does, and where they are stopped.
 
 use crate::error::RunErr;
-use crate::run::{Ended, Manner, Progress, run_script};
+use crate::run::{Ended, Manner, Progress, check_stop, run_script};
 use crate::table::{Script, read_scripts};
 use crate::vault::{seeded, tree_in};
 use std::alloc::Global;
@@ -20,6 +20,8 @@ const MOST_DRAWS: u64 = 256;
 pub(crate) enum Part {
     /// The requests of a run in which nothing fails.
     Requests(Manner),
+    /// A run up to each request, in which nothing fails, and that stops behind it.
+    Waits,
     /// A run for each draw, which fails.
     Draws,
     /// Two runs for each call of the folder, which fails before it does anything or after a part of it.
@@ -47,6 +49,7 @@ impl Tally {
         for script in &read_scripts(alloc, table)? {
             match part {
                 Part::Requests(manner) => tally.look_at_requests(script, manner)?,
+                Part::Waits => tally.look_at_waits(script)?,
                 Part::Draws => tally.look_at_draws(script)?,
                 Part::Calls => tally.look_at_calls(script, false)?,
                 Part::Stops => tally.look_at_calls(script, true)?,
@@ -71,6 +74,14 @@ impl Tally {
             Err(error) => Err(error),
         };
         self.add(script.about, outcome)
+    }
+
+    fn look_at_waits(&mut self, script: &Script<'_>) -> Result<(), RunErr> {
+        for count in 0..=script.steps.len() {
+            let place = format!(in self.alloc; "{}, request {count}", script.about)?;
+            self.add(place.as_str(), check_stop(script, count))?;
+        }
+        Ok(())
     }
 
     fn look_at_draws(&mut self, script: &Script<'_>) -> Result<(), RunErr> {

@@ -54,13 +54,7 @@ pub(crate) fn run_script(
     folder: MemFolder,
     entropy: SeedEntropy,
 ) -> Result<Ended, RunErr> {
-    let mut progress = Progress {
-        begun: 0,
-        answered: 0,
-        stable: 0,
-        kept: 0,
-        faults: 0,
-    };
+    let mut progress = Progress::none();
     let mut opened = open(script.alloc, folder);
     if let Err(refused) = opened {
         progress.faults = 1;
@@ -80,6 +74,43 @@ pub(crate) fn run_script(
             folder: refused.folder,
             entropy,
         }),
+    }
+}
+
+/// Runs the first requests of a script, in which nothing fails, and stops there: what waits then is lost. The folder holds the tree after
+/// the last request that no stop undoes, and no later one.
+pub(crate) fn check_stop(script: &Script<'_>, count: usize) -> Result<(), RunErr> {
+    let alloc = script.alloc;
+    let vault = match open(alloc, script.folder()?) {
+        Ok(vault) => vault,
+        Err(refused) => return Err(RunErr::Open(refused.cause)),
+    };
+    let mut run = Run {
+        script,
+        manner: Manner::Plain,
+        vault,
+        entropy: seeded(alloc),
+        progress: Progress::none(),
+    };
+    run.go(count)?;
+    let Run {
+        vault,
+        progress,
+        ..
+    } = run;
+    let tree = tree_in(alloc, vault.into_folder())?;
+    script.check_tree(progress.stable, progress.stable, tree.as_str())
+}
+
+impl Progress {
+    fn none() -> Progress {
+        Progress {
+            begun: 0,
+            answered: 0,
+            stable: 0,
+            kept: 0,
+            faults: 0,
+        }
     }
 }
 
@@ -110,7 +141,7 @@ fn is_fault(words: &str) -> bool {
 impl Run<'_, '_> {
     // Asks for all that the script does, and closes the vault.
     fn finish(mut self) -> Result<Ended, RunErr> {
-        let stopped = self.go()?;
+        let stopped = self.go(self.script.steps.len())?;
         let Run {
             script,
             vault,
@@ -139,12 +170,12 @@ impl Run<'_, '_> {
         })
     }
 
-    // Each reply is the wanted one; or something failed, and asked once more it is the wanted one, with all as it was before, or the store
+    // Asks for so many of the requests. Each reply is the wanted one; or something failed, and asked once more it is the wanted one, with all as it was before, or the store
     // stopped there and says so from then on. Where something fails twice, the run ends. Gives whether the store stopped.
-    fn go(&mut self) -> Result<bool, RunErr> {
+    fn go(&mut self, count: usize) -> Result<bool, RunErr> {
         let script = self.script;
         let mut stop: Option<String> = None;
-        for step in &script.steps {
+        for step in script.steps.iter().take(count) {
             let entry = self.vault.entries();
             let mut words = self.ask(step)?;
             if let Some(stop) = &stop {

@@ -13,6 +13,9 @@ use vault_path::VaultPath;
 /// Most bytes of a write.
 const MOST_WRITTEN: usize = 65537;
 
+/// The mode OWRITE with OTRUNC (open(5)).
+const TRUNCATING: u8 = 0x11;
+
 /// Most times that a text is repeated.
 const MOST_TIMES: usize = 1 << 16;
 
@@ -131,6 +134,10 @@ impl<'a> Step<'a> {
                 at: number(Some(name))?,
                 bytes: &self.bytes[..self.bytes.len().min(MOST_WRITTEN)],
             },
+            "truncate" => Request::OpenNode {
+                node,
+                mode: TRUNCATING,
+            },
             "remove" => Request::Remove { node },
             "stat" => Request::StatOf { node },
             "sync" => Request::Sync { node },
@@ -140,7 +147,7 @@ impl<'a> Step<'a> {
 
     /// Whether no stop undoes it once it is done.
     pub(crate) fn is_stable(&self) -> bool {
-        !matches!(self.verb, "date" | "write" | "stat")
+        !matches!(self.verb, "date" | "write" | "truncate" | "stat")
     }
 }
 

@@ -33,9 +33,28 @@ use Rattle.node_changes.proofs.Beside.{stands_beside}
 use Rattle.change_plans.specs.Files.{IsFileOf}
 use Rattle.file_changes.specs.Held.{rewritten_tree, RowsAreRewritten}
 use Rattle.file_changes.specs.Steps.{ChangesContent}
-use Rattle.file_changes.specs.Waiting.{HasPut, HasWritten, IsAtRestOver, IsFlush, IsNotFlushed, IsPutBehind, IsReadyOver, MayBeFlushed}
-use Rattle.file_changes.proofs.Standing.{IsSealedFor, there, host, old, old_long, answered, shows}
-use Rattle.file_changes.proofs.Telling.{IsSealedIn, Stands, both_changed}
+use Rattle.file_changes.specs.Files.{IsSealedFor, IsSealedIn}
+use Rattle.file_changes.specs.Waiting.{HasPut, HasWritten, IsAtRestOver, IsFlush, IsNotFlushed, MayBeFlushed}
+use Rattle.file_changes.proofs.Standing.{there, host, old, old_long, answered, shows, still_stands}
+use Rattle.file_changes.proofs.Telling.{Stands, both_changed}
+
+-- ---- a change that waits
+
+-- the journal is quiet, what waits can be done, and a host file at a path has so many bytes once it is
+pub record IsReadyOver (waiting : List PlainDeed) (path : HostPath) (len : ℕ) (log : Log) : Type 0 where
+  pub quiet : IsQuiet log
+  pub waits : CanWait waiting (now log)
+  pub there : HasFile waiting path len (now log)
+
+-- A change of such a host file waits besides: what waited before may have been committed, and over what waited behind that the file is
+-- rewritten, and nothing else.
+pub record IsPutBehind (path : HostPath) (len : ℕ) (rewriting : Rewriting) (waiting waiting' : List PlainDeed) (old new : Log) : Type 0 where
+  pub middle : List PlainDeed
+  pub flushed : MayBeFlushed waiting middle old new
+  pub are : waiting' ≡ rewriting_in path len rewriting middle
+  pub waits : CanWait waiting' (now new)
+  pub is : (bytes : List ℕ) → thing_at (laid middle (now new)) path ≡ Some (host_file bytes)
+      → IsRewritten (laid middle (now new)) (laid waiting' (now new)) path (rewritten bytes rewriting)
 
 -- ---- what is laid over a log tells the log, and what waits
 
@@ -58,6 +77,34 @@ pub stands_laid : (s : Sealing) (live : HeldTree) (claims : List (List ℕ × �
 stands_laid s live claims waiting log rest =
     told_laid waiting log (Stands s live claims)
     (told_then log (IsAtRestOver s live claims waiting) (λ (l : Log). Stands s live claims (laid_log waiting l)) rest (λ l r. (r.contents, r.stands)))
+
+-- reads keep the log, and what waits
+module _ (waiting between : List PlainDeed) (log log_between : Option Log) (kept : option_map (laid_log between) log_between ≡ option_map (laid_log waiting) log) where
+  -- what was told before them is told still
+  pub told_still : (P : List PlainDeed → Log → Type 0) → Told log (P waiting) → Told log_between (P between)
+  told_still P told =
+      subst (λ (o : Option Log). Told o (P between)) (sym (kept_log waiting between log log_between kept))
+      (told_both log (P waiting) (λ (l : Log). between ≡ waiting) (P between) told (kept_waiting waiting between log log_between kept)
+      (λ l p e. subst (λ (w : List PlainDeed). P w l) (sym e) p))
+
+  -- what was sealed by them is sealed still
+  pub sealed_still : (keys read : KeyPair) (path : HostPath) (size : ℕ) (r : Rewriting) (change : Content → Option Content) → read ≡ keys
+      → IsSealedIn read path size r change (option_map (laid_log waiting) log) → IsSealedIn keys path size r change (option_map (laid_log between) log_between)
+  sealed_still keys read path size r change same sealed =
+      subst (λ (o : Option Log). IsSealedIn keys path size r change o) (sym kept)
+      (subst (λ (k : KeyPair). IsSealedIn k path size r change (option_map (laid_log waiting) log)) same sealed)
+
+  -- a change since is one from before them on
+  pub changed_since : (P : List PlainDeed → Log → Log → Type 0) (log' : Option Log) → Changes log_between log' (P between) → Changes log log' (P waiting)
+  changed_since P log' changed =
+      changed_from log log' (λ (l : Log). between ≡ waiting) (P between) (P waiting) (λ x y e p. subst (λ (w : List PlainDeed). P w x y) e p) (kept_waiting waiting between log log_between kept)
+      (subst (λ (o : Option Log). Changes o log' (P between)) (kept_log waiting between log log_between kept) changed)
+
+  -- and so is a commit of what waits that failed
+  pub not_flushed : (s : Sealing) (request : PlainRequest) (live : HeldTree) (claims : List (List ℕ × ℕ)) → ((d : Disk) → IsLate s request d live claims)
+      → (log' : Option Log) → Changes log_between log' (AnyMoment between) → Changes log log' (IsNotFlushed s request live claims waiting)
+  not_flushed s request live claims late log' any =
+      changed_by log log' (AnyMoment waiting) (IsNotFlushed s request live claims waiting) (λ x y h. record { late = late (laid waiting (now x)); any_moment = h }) (changed_since AnyMoment log' any)
 
 -- ---- what was committed, or waits still
 
@@ -112,9 +159,6 @@ ready_after waiting middle path len inside old new flushed ready =
       };
     }
 
-pub told_quiet : (waiting : List PlainDeed) (path : HostPath) (len : ℕ) (log : Option Log) → Told log (IsReadyOver waiting path len) → Told log IsQuiet
-told_quiet waiting path len log ready = told_then log (IsReadyOver waiting path len) IsQuiet ready (λ l r. r.quiet)
-
 -- such a host file, once what waits is done behind a flush
 pub told_file_behind : (waiting middle : List PlainDeed) (path : HostPath) (len : ℕ) → IsInside path → (old new : Option Log) → Told old (IsReadyOver waiting path len)
     → Changes old new (MayBeFlushed waiting middle) → Told new (λ (l : Log). HasFile middle path len (now l))
@@ -147,7 +191,7 @@ flushed_after (Ok x) waiting waiting' before after none committed any =
 pub chunk_count_is : (bytes : List ℕ) (size : ℕ) → length (map (slice_chunk bytes size) (range_with_len 0 (div_ceil (length bytes) size))) ≡ div_ceil (length bytes) size
 chunk_count_is bytes size = length-map (range_with_len 0 (div_ceil (length bytes) size)) (slice_chunk bytes size) ∙ length-range_with_len 0 (div_ceil (length bytes) size)
 
--- ---- a change waits
+-- ---- a change is put behind it
 
 -- what is known of a put, by what is told of the calls before and behind it
 pub put_behind : (path : HostPath) (len : ℕ) (r r' : Rewriting) (waiting middle waiting' : List PlainDeed) (old new new' : Option Log) → r' ≡ r → new' ≡ new
@@ -167,17 +211,10 @@ put_behind path len r r' waiting middle waiting' old new new' same_r same_log fl
     go (Some x) None f w i = absurd f
     go (Some x) (Some y) f w i = record { middle = middle; flushed = f; are = are; waits = w; is = i }
 
-module _ (keys read : KeyPair) (same : read ≡ keys) (live : HeldTree) (claims : List (List ℕ × ℕ)) (number size clear : ℕ) (is : IsFileOf live number size clear) (path : HostPath) (path_is : path_of live number ≡ Some path)
-    (inside : IsInside path) (waiting between : List PlainDeed) (log log_between : Option Log) (rest : Told log (IsAtRestOver (sealing_of keys) live claims waiting))
-    (kept : option_map (laid_log between) log_between ≡ option_map (laid_log waiting) log) where
+module _ (keys : KeyPair) (live : HeldTree) (claims : List (List ℕ × ℕ)) (number size clear : ℕ) (is : IsFileOf live number size clear) (path : HostPath) (path_is : path_of live number ≡ Some path) (inside : IsInside path)
+    (waiting : List PlainDeed) (log : Option Log) (rest : Told log (IsAtRestOver (sealing_of keys) live claims waiting)) where
   abbrev s : Sealing
   s = sealing_of keys
-
-  same_log : log_between ≡ log
-  same_log = kept_log waiting between log log_between kept
-
-  told_waiting : Told log (λ (l : Log). between ≡ waiting)
-  told_waiting = kept_waiting waiting between log log_between kept
 
   -- ---- before it
 
@@ -193,42 +230,33 @@ module _ (keys read : KeyPair) (same : read ≡ keys) (live : HeldTree) (claims 
     };
   }
 
-  pub ready : Told log_between (IsReadyOver between path size)
-  ready =
-      subst (λ (o : Option Log). Told o (IsReadyOver between path size)) (sym same_log)
-      (told_both log (IsAtRestOver s live claims waiting) (λ (l : Log). between ≡ waiting) (IsReadyOver between path size) rest told_waiting
-      (λ l r e. subst (λ (w : List PlainDeed). IsReadyOver w path size l) (sym e) (ready_here l r)))
+  pub ready : Told log (IsReadyOver waiting path size)
+  ready = told_then log (IsAtRestOver s live claims waiting) (IsReadyOver waiting path size) rest ready_here
 
-  -- a change from the log between is one from the log before it
-  module _ (P : List PlainDeed → Log → Log → Type 0) where
-    since : (log' : Option Log) → Changes log_between log' (P between) → Changes log log' (λ x y. IsAtRestOver s live claims waiting x × P waiting x y)
-    since log' p =
-        changed_from log log' (λ (l : Log). IsAtRestOver s live claims waiting l × (between ≡ waiting)) (P between) (λ x y. IsAtRestOver s live claims waiting x × P waiting x y)
-        (λ x y t q. (t.0, subst (λ (w : List PlainDeed). P w x y) t.1 q))
-        (told_both log (IsAtRestOver s live claims waiting) (λ (l : Log). between ≡ waiting) (λ (l : Log). IsAtRestOver s live claims waiting l × (between ≡ waiting)) rest told_waiting (λ l r e. (r, e)))
-        (subst (λ (o : Option Log). Changes o log' (P between)) same_log p)
+  -- ---- it waits
+  module _ (r : Rewriting) (change : Content → Option Content) (sealed : IsSealedIn keys path size r change (option_map (laid_log waiting) log)) (second : ℕ) (live' : HeldTree) (claims' : List (List ℕ × ℕ))
+      (live_is : live' ≡ rewritten_tree live number r.size None second) (claims_are : claims' ≡ claims) (waiting' : List PlainDeed) where
+    module _ (x y : Log) (at_rest : IsAtRestOver (sealing_of keys) live claims waiting x) (can : IsSealedFor keys path size r change (laid waiting (now x))) (put : IsPutBehind path size r waiting waiting' x y) where
+      abbrev over : Disk
+      over = laid put.middle (now y)
 
-  module _ (change : Content → Option Content) (second : ℕ) (request : PlainRequest) (answer : Answer) (its : ChangesContent (sealing_of keys) live claims number change None second request answer) where
-    -- ---- what waited couldn't be committed
-    pub not_flushed : ((d : Disk) → IsLate (sealing_of keys) request d live claims) → (log' : Option Log) → Changes log_between log' (AnyMoment between)
-        → Changes log log' (IsNotFlushed (sealing_of keys) request live claims waiting)
-    not_flushed late log' any =
-        changed_by log log' (λ x y. IsAtRestOver s live claims waiting x × AnyMoment waiting x y) (IsNotFlushed s request live claims waiting)
-        (λ x y h. record { late = late (laid waiting (now x)); any_moment = h.1 }) (since AnyMoment log' any)
+      same_here : thing_at (laid put.middle (now y)) path ≡ thing_at (laid waiting (now x)) path
+      same_here = file_after waiting put.middle x y put.flushed at_rest.waits path inside
 
-    -- ---- it waits
-    module _ (r : Rewriting) (sealed : IsSealedIn read path size r change (option_map (laid_log waiting) log)) (live' : HeldTree) (claims' : List (List ℕ × ℕ))
-        (live_is : live' ≡ rewritten_tree live number r.size None second) (claims_are : claims' ≡ claims) (rows : RowsAreRewritten live live' number None second) (waiting' : List PlainDeed) where
-      module _ (x y : Log) (at_rest : IsAtRestOver (sealing_of keys) live claims waiting x) (can : IsSealedFor keys path size r change (laid waiting (now x))) (put : IsPutBehind path size r waiting waiting' x y) where
-        abbrev over : Disk
-        over = laid put.middle (now y)
+      can_here : IsSealedFor keys path size r change (laid put.middle (now y))
+      can_here bytes file = can bytes (record { there = sym same_here ∙ file.there; long = file.long })
 
-        same_here : thing_at (laid put.middle (now y)) path ≡ thing_at (laid waiting (now x)) path
-        same_here = file_after waiting put.middle x y put.flushed at_rest.waits path inside
+      is_here : (contents : ℕ → Content) (stands : StandsOn (sealing_of keys) (laid put.middle (now y)) live claims contents)
+          → IsRewritten (laid put.middle (now y)) (laid waiting' (now y)) path (rewritten (old keys (laid put.middle (now y)) live claims number size clear is contents stands) r)
+      is_here contents stands = put.is (old keys over live claims number size clear is contents stands) (there keys over live claims number size clear is contents stands path path_is)
 
-        can_here : IsSealedFor keys path size r change (laid put.middle (now y))
-        can_here bytes file = can bytes (record { there = sym same_here ∙ file.there; long = file.long })
+      rests : IsAtRestOver (sealing_of keys) live' claims' waiting' y
+      rests =
+          let stands = stands_after waiting put.middle x y put.flushed at_rest.waits s live claims at_rest.contents at_rest.stands in
+          let still = still_stands keys over live claims number size clear is at_rest.contents stands path path_is r change can_here (laid waiting' (now y)) (is_here at_rest.contents stands) second None live' claims' live_is claims_are in
+          record { quiet = quiet_after waiting put.middle x y put.flushed at_rest.quiet; waits = put.waits; contents = still.0; stands = still.1 }
 
+      module _ (request : PlainRequest) (answer : Answer) (its : ChangesContent (sealing_of keys) live claims number change None second request answer) (rows : RowsAreRewritten live live' number None second) where
         step_answers : IsStepAnswer (sealing_of keys) request second answer (laid put.middle (now y)) live claims
         step_answers contents stands = answered keys over live claims number size clear is contents stands path path_is r change can_here second None request answer (its over contents stands)
 
@@ -243,39 +271,36 @@ module _ (keys read : KeyPair) (same : read ≡ keys) (live : HeldTree) (claims 
           waits = put.waits;
           answer_is = step_answers;
           stepped = λ contents stands.
-              shows keys over live claims number size clear is contents stands path path_is r change can_here (laid waiting' (now y))
-              (put.is (old keys over live claims number size clear is contents stands) (there keys over live claims number size clear is contents stands path path_is)) second None request answer
-              (its over contents stands) live' claims' live_is claims_are rows;
+              shows keys over live claims number size clear is contents stands path path_is r change can_here (laid waiting' (now y)) (is_here contents stands) second None live' claims' live_is claims_are request answer
+              (its over contents stands) rows;
         }
 
-        rests : IsAtRestOver (sealing_of keys) live' claims' waiting' y
-        unfolding has_put
-        rests =
-            let shown = has_put.stepped at_rest.contents (stands_after waiting put.middle x y put.flushed at_rest.waits s live claims at_rest.contents at_rest.stands) in
-            record { quiet = quiet_after waiting put.middle x y put.flushed at_rest.quiet; waits = put.waits; contents = shown.contents; stands = shown.stands }
+    abbrev All : Log → Log → Type 0
+    All x y = IsAtRestOver s live claims waiting x × IsSealedFor keys path size r change (laid waiting (now x)) × IsPutBehind path size r waiting waiting' x y
 
-      abbrev All : Log → Log → Type 0
-      All x y = IsAtRestOver s live claims waiting x × IsSealedFor keys path size r change (laid waiting (now x)) × IsPutBehind path size r waiting waiting' x y
+    told_sealed : (o : Option Log) → IsSealedIn keys path size r change (option_map (laid_log waiting) o) → Told o (λ (l : Log). IsSealedFor keys path size r change (laid waiting (now l)))
+    told_sealed None p = tt
+    told_sealed (Some l) p = p
 
-      told_sealed : (o : Option Log) → IsSealedIn read path size r change (option_map (laid_log waiting) o) → Told o (λ (l : Log). IsSealedFor keys path size r change (laid waiting (now l)))
-      told_sealed None p = tt
-      told_sealed (Some l) p = subst (λ (k : KeyPair). IsSealedFor k path size r change (laid waiting (now l))) same p
+    module _ (log' : Option Log) (put : Changes log log' (IsPutBehind path size r waiting waiting')) where
+      all : Changes log log' All
+      all =
+          changed_from log log' (λ (l : Log). IsAtRestOver s live claims waiting l × IsSealedFor keys path size r change (laid waiting (now l))) (IsPutBehind path size r waiting waiting') All (λ x y c h. (c.0, c.1, h))
+          (told_both log (IsAtRestOver s live claims waiting) (λ (l : Log). IsSealedFor keys path size r change (laid waiting (now l)))
+          (λ (l : Log). IsAtRestOver s live claims waiting l × IsSealedFor keys path size r change (laid waiting (now l))) rest (told_sealed log sealed) (λ l a b. (a, b))) put
 
-      module _ (log' : Option Log) (put : Changes log_between log' (IsPutBehind path size r between waiting')) where
-        all : Changes log log' All
-        all =
-            changed_from log log' (λ (l : Log). IsSealedFor keys path size r change (laid waiting (now l))) (λ x y. IsAtRestOver s live claims waiting x × IsPutBehind path size r waiting waiting' x y) All
-            (λ x y c h. (h.0, c, h.1)) (told_sealed log sealed) (since (λ w. IsPutBehind path size r w waiting') log' put)
+      pub rests_after : Told log' (IsAtRestOver (sealing_of keys) live' claims' waiting')
+      rests_after = told_new log log' All (IsAtRestOver s live' claims' waiting') (λ x y h. rests x y h.0 h.1 h.2) all
 
-        pub waits_put : Changes log log' (HasPut (sealing_of keys) request second answer live live' claims claims' waiting waiting')
-        waits_put = changed_by log log' All (HasPut s request second answer live live' claims claims' waiting waiting') (λ x y h. has_put x y h.0 h.1 h.2) all
+      pub writes_put : (request : PlainRequest) (answer : Answer) (drew drew' : Option (List ℕ)) → ChangesContent (sealing_of keys) live claims number change None second request answer → RowsAreRewritten live live' number None second
+          → Extends drew drew' (nonces_of r.sealed) → Changes log log' (HasWritten (sealing_of keys) request second answer live live' claims claims' waiting waiting' drew drew')
+      unfolding has_put
+      writes_put request answer drew drew' its rows drawn =
+          changed_by log log' All (HasWritten s request second answer live live' claims claims' waiting waiting' drew drew')
+          (λ x y h. record { put = has_put x y h.0 h.1 h.2 request answer its rows; nonces = drawn }) all
 
-        pub rests_after : Told log' (IsAtRestOver (sealing_of keys) live' claims' waiting')
-        rests_after = told_new log log' All (IsAtRestOver s live' claims' waiting') (λ x y h. rests x y h.0 h.1 h.2) all
-
-        pub writes_put : (drew drew' : Option (List ℕ)) → Extends drew drew' (nonces_of r.sealed)
-            → Changes log log' (HasWritten (sealing_of keys) request second answer live live' claims claims' waiting waiting' drew drew')
-        unfolding has_put
-        writes_put drew drew' drawn =
-            changed_by log log' All (HasWritten s request second answer live live' claims claims' waiting waiting' drew drew')
-            (λ x y h. record { put = has_put x y h.0 h.1 h.2; nonces = drawn }) all
+-- of what was written it is known that it was put
+pub put_of : (s : Sealing) (request : PlainRequest) (second : ℕ) (answer : Answer) (live live' : HeldTree) (claims claims' : List (List ℕ × ℕ)) (waiting waiting' : List PlainDeed) (drew drew' : Option (List ℕ)) (log log' : Option Log)
+    → Changes log log' (HasWritten s request second answer live live' claims claims' waiting waiting' drew drew') → Changes log log' (HasPut s request second answer live live' claims claims' waiting waiting')
+put_of s request second answer live live' claims claims' waiting waiting' drew drew' log log' written =
+    changed_by log log' (HasWritten s request second answer live live' claims claims' waiting waiting' drew drew') (HasPut s request second answer live live' claims claims' waiting waiting') (λ x y h. h.put) written

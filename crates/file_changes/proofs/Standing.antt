@@ -35,14 +35,10 @@ use Rattle.pending_files.specs.Pending.{IsInside}
 use Rattle.node_changes.specs.Changed.{StandsOn, ShowsRows}
 use Rattle.node_changes.proofs.Nodes.{IsBelow, is_below}
 use Rattle.change_plans.specs.Files.{IsFileOf}
-use Rattle.file_changes.specs.Files.{HasFileFor}
+use Rattle.file_changes.specs.Files.{HasFileFor, IsSealedFor}
 use Rattle.file_changes.specs.Held.{rewritten_tree, RowsAreRewritten}
 use Rattle.file_changes.specs.Steps.{dated, IsContentStep}
 use Rattle.file_changes.proofs.Places.{below_root, is_held_file}
-
--- the chunks that are sealed make this change of the content of a host file at a path, whatever its bytes are
-abbrev pub IsSealedFor : KeyPair → HostPath → ℕ → Rewriting → (Content → Option Content) → Disk → Type 0
-IsSealedFor keys path size r change d = (bytes : List ℕ) → IsHostFileOf d path size bytes → IsRewritten keys bytes r (change (content_of keys bytes))
 
 -- what is kept of files is kept of no other node
 pub is_file : (s : Sealing) (x : Node) (size : ℕ) → what_of s x ≡ KeptFile size → (bytes : List ℕ) × (x ≡ File bytes) × (length bytes ≡ size)
@@ -174,13 +170,21 @@ module _ (keys : KeyPair) (d : Disk) (live : HeldTree) (claims : List (List ℕ 
                 are = dating_keeps_contents s t.tree (touched live number r.size second) number m after_contents t.holds t.are;
               }
 
-          module _ (modified : Option ℕ) (request : PlainRequest) (answer : Answer) (its : IsContentStep live number change modified second request answer contents) where
-            pub shows : (live' : HeldTree) (claims' : List (List ℕ × ℕ)) → live' ≡ rewritten_tree live number r.size modified second → claims' ≡ claims → RowsAreRewritten live live' number modified second
+          module _ (modified : Option ℕ) (live' : HeldTree) (claims' : List (List ℕ × ℕ)) (live_is : live' ≡ rewritten_tree live number r.size modified second) (claims_are : claims' ≡ claims) where
+            stands_there : StandsOn s after live' claims' after_contents
+            stands_there =
+                subst (λ (l : HeldTree). StandsOn s after l claims' after_contents) (sym live_is)
+                (subst (λ (c : List (List ℕ × ℕ)). StandsOn s after (rewritten_tree live number r.size modified second) c after_contents) (sym claims_are) (rewritten_stands modified))
+
+            -- the tree in memory is that of the disk again
+            pub still_stands : (theirs : ℕ → Content) × StandsOn (sealing_of keys) after live' claims' theirs
+            still_stands = (after_contents, stands_there)
+
+            pub shows : (request : PlainRequest) (answer : Answer) → IsContentStep live number change modified second request answer contents → RowsAreRewritten live live' number modified second
                 → ShowsRows s (step (live_rows contents live) request second).rows after live' claims'
-            shows live' claims' live_is claims_are rows = record {
+            shows request answer its rows = record {
               contents = after_contents;
-              stands = subst (λ (l : HeldTree). StandsOn s after l claims' after_contents) (sym live_is)
-                  (subst (λ (c : List (List ℕ × ℕ)). StandsOn s after (rewritten_tree live number r.size modified second) c after_contents) (sym claims_are) (rewritten_stands modified));
+              stands = stands_there;
               shows =
                   rows contents after_contents its.row its.there agree
                   ∙ ap (λ (c : Content). wrapped (set_row (live_rows contents live) (dated modified (with_content its.row c second)))) here

@@ -29,11 +29,11 @@ use Rattle.node_changes.specs.Changed.{StandsOn, IsAtRest, MakesStep, ShowsRows,
 use Rattle.node_changes.specs.Causes.{RefusalCause}
 use Rattle.file_changes.specs.Causes.{ContentCause, write_refusal}
 use Rattle.change_plans.specs.Files.{IsFileOf}
-use Rattle.file_changes.specs.Files.{HasFileFor}
+use Rattle.file_changes.specs.Files.{HasFileFor, IsSealedFor, IsSealedIn}
 use Rattle.file_changes.specs.Held.{rewritten_tree, RowsAreRewritten}
 use Rattle.file_changes.specs.Rewritten.{DrawsNonces, HasRewritten}
 use Rattle.file_changes.specs.Steps.{ChangesContent}
-use Rattle.file_changes.proofs.Standing.{IsSealedFor, there, host, old, content_of_row, has_file, made, answered, shows}
+use Rattle.file_changes.proofs.Standing.{there, host, old, content_of_row, has_file, made, answered, shows}
 
 -- what is told of the disk is told of the log
 of_disk : (log : Option Log) (P : Disk → Type 0) → Told (disk_in log) P → Told log (λ (l : Log). P (now l))
@@ -45,10 +45,6 @@ both_changed None None P Q p q = tt
 both_changed None (Some y) P Q p q = absurd p
 both_changed (Some x) None P Q p q = absurd p
 both_changed (Some x) (Some y) P Q p q = (p, q)
-
--- the chunks that are sealed make this change of the content of the host file that is told
-abbrev pub IsSealedIn : KeyPair → HostPath → ℕ → Rewriting → (Content → Option Content) → Option Log → Type 0
-IsSealedIn keys path size r change log = Told (disk_in log) (IsSealedFor keys path size r change)
 
 -- the change makes nothing of it
 abbrev pub IsDamagedIn : KeyPair → HostPath → ℕ → (Content → Option Content) → Option Log → Type 0
@@ -64,6 +60,11 @@ Stands s live claims log = (contents : ℕ → Content) × StandsOn s (now log) 
 
 pub at_rest : (s : Sealing) (live : HeldTree) (claims : List (List ℕ × ℕ)) (log : Option Log) → Told log (IsAtRest s live claims) → Told log (Stands s live claims)
 at_rest s live claims log rest = told_then log (IsAtRest s live claims) (Stands s live claims) rest (λ l r. (r.contents, r.stands))
+
+-- such a request is refused by nothing that comes before the work
+pub never_early : (s : Sealing) (live : HeldTree) (claims : List (List ℕ × ℕ)) (number : ℕ) (change : Content → Option Content) (modified : Option ℕ) (second : ℕ) (request : PlainRequest) (answer : Answer)
+    → ChangesContent s live claims number change modified second request answer → (d : Disk) → IsLate s request d live claims
+never_early s live claims number change modified second request answer its d contents stands = ap (λ (o : Option Refusal). is_some o) (its d contents stands).late
 
 -- The file of a number stands at this path in a tree that stands for what is told; its keys were read.
 module _ (keys read : KeyPair) (same : read ≡ keys) (live : HeldTree) (claims : List (List ℕ × ℕ)) (number size clear : ℕ) (is : IsFileOf live number size clear) (path : HostPath) (path_is : path_of live number ≡ Some path) (log : Option Log)
@@ -90,8 +91,8 @@ module _ (keys read : KeyPair) (same : read ≡ keys) (live : HeldTree) (claims 
         (λ l p q. has_file keys (now l) live claims number size clear is p.0 p.1 path path_is r change q))
 
   module _ (change : Content → Option Content) (modified : Option ℕ) (second : ℕ) (request : PlainRequest) (answer : Answer) (its : ChangesContent (sealing_of keys) live claims number change modified second request answer) where
-    pub late : (d : Disk) → IsLate (sealing_of keys) request d live claims
-    late d contents stands = ap (λ (o : Option Refusal). is_some o) (its d contents stands).late
+    late : (d : Disk) → IsLate (sealing_of keys) request d live claims
+    late = never_early (sealing_of keys) live claims number change modified second request answer its
 
     -- ---- the change was made
     module _ (r : Rewriting) (sealed : IsSealedIn read path size r change log) (law : DeedsRewrite) (inside : IsInside path) (puttable : IsPuttable size r) (live' : HeldTree) (claims' : List (List ℕ × ℕ))
@@ -117,7 +118,7 @@ module _ (keys read : KeyPair) (same : read ≡ keys) (live : HeldTree) (claims 
                   let more_here = (done others more).1 in
                   let same_disk : more_here.after ≡ here.after = same_run (in_order deeds) d more_here.after here.after more_here.does here.does in
                   subst (λ (x : Disk). ShowsRows s (step (live_rows others live) request second).rows x live' claims') same_disk
-                  (shows keys d live claims number size clear is others more path path_is r change can more_here.after more_here.is second modified request answer (its d others more) live' claims' live_is claims_are rows);
+                  (shows keys d live claims number size clear is others more path path_is r change can more_here.after more_here.is second modified live' claims' live_is claims_are request answer (its d others more) rows);
             }
 
         answer_is : IsStepAnswer s request second answer d live claims

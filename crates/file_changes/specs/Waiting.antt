@@ -1,7 +1,7 @@
--- A write whose chunks wait to be committed.
-use Rattle.std.specs.Prelude.{◌≡◌, ◌⊎◌, ℕ, List, [], Option, Some}
+-- A write or a truncation that waits to be committed.
+use Rattle.std.specs.Prelude.{◌≡◌, ◌⊎◌, ℕ, List, [], Option}
 use Rattle.outside.specs.Calls.{Extends}
-use Rattle.outside.specs.Disk.{Path as HostPath, node_at as thing_at, file as host_file}
+use Rattle.outside.specs.Disk.{Path as HostPath}
 use Rattle.outside.specs.Images.{Log, now}
 use Rattle.deeds.specs.Deeds.{PlainDeed}
 use Rattle.chunk_journal.specs.Journal.{AnyMoment, HasCommitted, IsQuiet}
@@ -11,11 +11,9 @@ use Rattle.tree_model.specs.Asked.{PlainRequest}
 use Rattle.tree_model.specs.Step.{Answer, step}
 use Rattle.clear_tree.specs.Walk.{Sealing}
 use Rattle.live_tree.specs.Held.{HeldTree, live_rows}
-use Rattle.held_changes.specs.Writing.{IsRewritten}
-use Rattle.content_changes.specs.Rewriting.{Rewriting, rewritten}
+use Rattle.content_changes.specs.Rewriting.{Rewriting}
 use Rattle.content_deeds.specs.Deeds.{rewriting_in}
 use Rattle.content_writer.specs.Sealed.{nonces_of}
-use Rattle.write_back.specs.Shown.{HasFile}
 use Rattle.node_changes.specs.Changed.{IsLate, IsStepAnswer, ShowsRows, StandsOn}
 
 -- the journal is quiet, what waits can be done, and the tree in memory is that of the disk once it is
@@ -33,22 +31,6 @@ pub record IsFlush (waiting : List PlainDeed) (old new : Log) : Type 0 where
 -- all of it waits still, or it was committed
 abbrev pub MayBeFlushed : List PlainDeed → List PlainDeed → Log → Log → Type 0
 MayBeFlushed waiting middle old new = ((middle ≡ waiting) × (new ≡ old)) ⊎ ((middle ≡ []) × IsFlush waiting old new)
-
--- the journal is quiet, what waits can be done, and a host file at a path has so many bytes once it is
-pub record IsReadyOver (waiting : List PlainDeed) (path : HostPath) (len : ℕ) (log : Log) : Type 0 where
-  pub quiet : IsQuiet log
-  pub waits : CanWait waiting (now log)
-  pub there : HasFile waiting path len (now log)
-
--- A change of such a host file waits besides: what waited before may have been committed, and over what waited behind that the file is
--- rewritten, and nothing else.
-pub record IsPutBehind (path : HostPath) (len : ℕ) (rewriting : Rewriting) (waiting waiting' : List PlainDeed) (old new : Log) : Type 0 where
-  pub middle : List PlainDeed
-  pub flushed : MayBeFlushed waiting middle old new
-  pub are : waiting' ≡ rewriting_in path len rewriting middle
-  pub waits : CanWait waiting' (now new)
-  pub is : (bytes : List ℕ) → thing_at (laid middle (now new)) path ≡ Some (host_file bytes)
-      → IsRewritten (laid middle (now new)) (laid waiting' (now new)) path (rewritten bytes rewriting)
 
 -- Chunks that were sealed for a host file wait besides: what waited before may have been committed, the answer is the step's, and the tree
 -- in memory is that of the step's rows once all is done.

@@ -89,6 +89,70 @@ impl FileChanges {
         }
     }
 
+    /// Gives the file of a number the length 0, at a second since 1970-01-01. That waits as a write does; where there is no room for
+    /// it, what waited before is committed. It takes no memory.
+    ///
+    /// It is refused as `Damaged` where the file's header doesn't open, as `DeviceFault` where the folder failed in a read, as
+    /// `RandomFault` where the random source failed. After `Broken`, which is of what waited before, the folder's count of faults
+    /// rose, and the tree in memory is the one with the old length.
+    pub fn truncate<D: Folder, E: Entropy>(
+        &mut self,
+        tree: &mut VaultTree,
+        back: &mut WriteBack<D>,
+        entropy: &mut E,
+        number: u64,
+        now: u32,
+    ) -> Result<(), ChangeErr>
+        requires rest { Told (D.log back.old.folder) (IsAtRestOver (sealing_of tree.old.keys) tree.old.live tree.old.claims back.old.waiting) }
+        requires file { IsResizable tree.old.live number 0 }
+        // of each request that empties the file so
+        ensures put { (request : PlainRequest) (answer : Answer)
+            → IsResizing (sealing_of tree.old.keys) tree.old.live tree.old.claims number 0 None now request answer
+            → OnOk result (Changes (D.log back.old.folder) (D.log back.new.folder) (HasPut (sealing_of tree.old.keys)
+            request now answer tree.old.live tree.new.live tree.old.claims tree.new.claims back.old.waiting back.new.waiting)) }
+        ensures broken { (request : PlainRequest) (answer : Answer)
+            → IsResizing (sealing_of tree.old.keys) tree.old.live tree.old.claims number 0 None now request answer
+            → IfErr result (λ error. IfBroken error (Changes (D.log back.old.folder) (D.log back.new.folder)
+            (IsNotFlushed (sealing_of tree.old.keys) request tree.old.live tree.old.claims back.old.waiting))) }
+        ensures refused { (request : PlainRequest) (answer : Answer)
+            → IsResizing (sealing_of tree.old.keys) tree.old.live tree.old.claims number 0 None now request answer
+            → IfErr result (λ error. IfRefused error (λ refusal. Told (disk_in (option_map (laid_log back.old.waiting) (D.log back.old.folder)))
+            (λ d. MayRefuse (sealing_of tree.old.keys) request now None refusal d tree.old.live tree.old.claims))) }
+        ensures unchanged { IfErr result (λ error. IfRefused error (λ refusal.
+            IsUnchanged tree.old.live tree.new.live tree.old.claims tree.new.claims (D.log back.old.folder) (D.log back.new.folder))) }
+        ensures waiting { IfErr result (λ error. IfRefused error (λ refusal. Told (D.log back.old.folder) (λ log. back.new.waiting ≡ back.old.waiting))) }
+        ensures same_live { OnErr result (tree.new.live ≡ tree.old.live) }
+        ensures same_claims { tree.new.claims ≡ tree.old.claims }
+        ensures rest_after { OnOk result (Told (D.log back.new.folder)
+            (IsAtRestOver (sealing_of tree.new.keys) tree.new.live tree.new.claims back.new.waiting)) }
+        ensures cause { (request : PlainRequest) → IfErr result (ErrCause request (Rose (D.faults back.old.folder) (D.faults back.new.folder))
+            (Rose (E.faults entropy.old) (E.faults entropy.new))) }
+        ensures own { IfErr result (λ error. IfRefused error (ContentCause (Rose (D.faults back.old.folder) (D.faults back.new.folder))
+            (Rose (E.faults entropy.old) (E.faults entropy.new)))) }
+        ensures drawn { Changes (E.drawn entropy.old) (E.drawn entropy.new) GoesOn }
+        ensures nonces { (request : PlainRequest) (answer : Answer)
+            → IsResizing (sealing_of tree.old.keys) tree.old.live tree.old.claims number 0 None now request answer
+            → OnOk result (Changes (D.log back.old.folder) (D.log back.new.folder) (HasWritten (sealing_of tree.old.keys)
+            request now answer tree.old.live tree.new.live tree.old.claims tree.new.claims
+            back.old.waiting back.new.waiting (E.drawn entropy.old) (E.drawn entropy.new))) }
+        ensures later { D.faults back.old.folder ≤ D.faults back.new.folder }
+        ensures entropy { E.faults entropy.old ≤ E.faults entropy.new }
+        ensures keys { tree.new.keys ≡ tree.old.keys }
+        ensures threshold { tree.new.threshold ≡ tree.old.threshold }
+    {
+        let file = sealed_file(tree, number);
+        match self
+            .writer
+            .seal_length(back, tree.keys(), &file, 0, entropy)
+        {
+            Ok(()) => match self.put(tree, back, &file, number, now) {
+                Ok(()) => Ok(()),
+                Err(_) => Err(ChangeErr::Broken),
+            },
+            Err(cause) => Err(ChangeErr::Refused(refusal_of(cause))),
+        }
+    }
+
     /// Gives the file of a number another length in bytes, at a second since 1970-01-01, by a cut or by zeros behind its end, of
     /// which there are at most 1,048,576; it has at most 2^40 bytes afterwards. `modified` is an mtime that is set besides. It
     /// takes no memory.

@@ -1,10 +1,12 @@
-//! Changes of a file's content in an open vault: a write, which waits to be committed, and another length, which is committed at once.
+//! Changes of a file's content in an open vault: a write and a truncation, which wait to be committed, and another length, which is
+//! committed at once.
 //!
 //! ```
 //! let mut changes = FileChanges::new(alloc)?;
+//! changes.truncate(&mut tree, &mut back, &mut entropy, number, now)?;
 //! changes.write(&mut tree, &mut back, &mut entropy, number, at, bytes, now)?;
 //! back.flush()?;
-//! changes.resize(&mut tree, back.journal(), &mut entropy, number, 0, None, now)?;
+//! changes.resize(&mut tree, back.journal(), &mut entropy, number, len, None, now)?;
 //! ```
 //!
 //! Each change is refused where what it would keep of the file doesn't open, or the folder or the random source failed, and then

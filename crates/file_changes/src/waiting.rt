@@ -1,10 +1,19 @@
-ghost use Rattle.std.specs.Prelude.{◌≡◌, ◌≤◌, None, OnOk, OnErr, IsErr};
-ghost use Rattle.outside.specs.Calls.{Changes, HasCause, Told};
+ghost use Rattle.std.specs.Prelude.{◌≡◌, ◌≤◌, ℕ, List, Option, Some, None, OnOk, OnErr, IsErr};
+ghost use Rattle.std.specs.Option.{option_map};
+ghost use Rattle.outside.specs.Calls.{Changes, Extends, HasCause, Told};
 ghost use Rattle.pending_files.specs.Pending.{HasRoom, IsInside};
+ghost use Rattle.pending_files.specs.Laid.{laid_log};
 ghost use Rattle.chunk_journal.specs.Journal.{IsQuiet, AnyMoment};
-ghost use Rattle.content_writer.specs.Sealed.{IsPuttable};
-ghost use Rattle.file_changes.specs.Held.{IsHeldFile, rewritten_tree, RowsAreRewritten};
-ghost use Rattle.file_changes.specs.Waiting.{IsPutBehind, IsReadyOver, MayBeFlushed};
+ghost use Rattle.tree_model.specs.Rows.{Content};
+ghost use Rattle.tree_model.specs.Asked.{PlainRequest};
+ghost use Rattle.tree_model.specs.Step.{Answer};
+ghost use Rattle.directory_scan.specs.Format.{sealing_of};
+ghost use Rattle.live_tree.specs.Held.{path_of};
+ghost use Rattle.content_writer.specs.Sealed.{IsPuttable, nonces_of};
+ghost use Rattle.change_plans.specs.Files.{IsFileOf};
+ghost use Rattle.file_changes.specs.Files.{IsSealedIn};
+ghost use Rattle.file_changes.specs.Steps.{ChangesContent};
+ghost use Rattle.file_changes.specs.Waiting.{HasWritten, IsAtRestOver, MayBeFlushed};
 
 use crate::file::put_size;
 use crate::room::FileChanges;
@@ -29,16 +38,23 @@ impl FileChanges {
         number: u64,
         now: u32,
     ) -> Result<(), Device>
-        requires ready { Told (D.log back.old.folder) (IsReadyOver back.old.waiting file.now.path file.now.size) }
-        requires held { IsHeldFile tree.old.live number }
-        requires puttable { IsPuttable file.now.size self.now.writer }
+        requires rest { Told (D.log back.old.folder) (IsAtRestOver (sealing_of tree.old.keys) tree.old.live tree.old.claims back.old.waiting) }
+        requires file { (clear : ℕ) × IsFileOf tree.old.live number file.now.size clear }
+        requires path { path_of tree.old.live number ≡ Some file.now.path }
         requires inside { IsInside file.now.path }
-        ensures put { OnOk result (Changes (D.log back.old.folder) (D.log back.new.folder)
-            (IsPutBehind file.now.path file.now.size self.now.writer back.old.waiting back.new.waiting)) }
+        requires puttable { IsPuttable file.now.size self.now.writer }
+        // of each change that the chunks are sealed for, and each request that makes it
+        ensures written { (change : Content → Option Content) (request : PlainRequest) (answer : Answer) (drew drew' : Option (List ℕ))
+            → IsSealedIn tree.old.keys file.now.path file.now.size self.now.writer change (option_map (laid_log back.old.waiting) (D.log back.old.folder))
+            → ChangesContent (sealing_of tree.old.keys) tree.old.live tree.old.claims number change None now request answer
+            → Extends drew drew' (nonces_of self.now.writer.sealed)
+            → OnOk result (Changes (D.log back.old.folder) (D.log back.new.folder) (HasWritten (sealing_of tree.old.keys)
+            request now answer tree.old.live tree.new.live tree.old.claims tree.new.claims back.old.waiting back.new.waiting drew drew')) }
+        ensures rest { (change : Content → Option Content)
+            → IsSealedIn tree.old.keys file.now.path file.now.size self.now.writer change (option_map (laid_log back.old.waiting) (D.log back.old.folder))
+            → OnOk result (Told (D.log back.new.folder) (IsAtRestOver (sealing_of tree.new.keys) tree.new.live tree.new.claims back.new.waiting)) }
         ensures any_moment { OnErr result (Changes (D.log back.old.folder) (D.log back.new.folder) (AnyMoment back.old.waiting)) }
         ensures cause { HasCause (D.faults back.old.folder) (D.faults back.new.folder) (IsErr result) }
-        ensures live { OnOk result (tree.new.live ≡ rewritten_tree tree.old.live number self.now.writer.size None now) }
-        ensures rows { OnOk result (RowsAreRewritten tree.old.live tree.new.live number None now) }
         ensures same_live { OnErr result (tree.new.live ≡ tree.old.live) }
         ensures claims { tree.new.claims ≡ tree.old.claims }
         ensures keys { tree.new.keys ≡ tree.old.keys }

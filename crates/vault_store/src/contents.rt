@@ -6,7 +6,7 @@ ghost use Rattle.tree_model.specs.Asked.{PlainChange, change as change_request, 
 ghost use Rattle.tree_model.specs.Step.{truncates};
 ghost use Rattle.change_plans.specs.declared.planning.Plan.TheVariants.{Resize};
 ghost use Rattle.change_plans.specs.Files.{IsResizable};
-ghost use Rattle.change_plans.specs.Plans.{IsOpenRefusal, IsPlanned};
+ghost use Rattle.change_plans.specs.Plans.{IsPlanned};
 ghost use Rattle.file_changes.specs.Waiting.{IsAtRestOver};
 ghost use Rattle.node_changes.specs.Changed.{IsAtRest};
 ghost use Rattle.vault_store.specs.Contents.{IsChangedQid};
@@ -16,7 +16,7 @@ ghost use Rattle.vault_store.specs.Outcome.{IsOutcome, IsWork};
 use crate::answering::{Broken, Vault};
 use crate::changing::refused;
 use crate::sizes::have_sizes;
-use change_plans::write_refusal;
+use change_plans::{truncation_refusal, write_refusal};
 use live_tree::LiveTree;
 use outside::{Entropy, Folder};
 use tree_model::{Qid, Reply};
@@ -64,8 +64,8 @@ impl<D: Folder> Vault<D> {
         }
     }
 
-    /// Opens a node in a mode that truncates, where nothing waits and no refusal comes early: gives a file the length 0.
-    pub(crate) fn truncate_idle<E: Entropy>(
+    /// Opens a node in a mode that truncates: gives a file the length 0, which waits to be committed.
+    pub(crate) fn truncate<E: Entropy>(
         &mut self,
         number: u64,
         mode: u8,
@@ -73,31 +73,26 @@ impl<D: Folder> Vault<D> {
         entropy: &mut E,
     ) -> Result<Reply, Broken>
         requires cuts { truncates mode ≡ true }
-        requires file { IsResizable self.old.tree.live number 0 }
-        requires late { IsOpenRefusal self.old.tree.live number mode None }
-        requires idle { self.old.back.waiting ≡ [] }
-        requires rest { Told (D.log self.old.back.folder) (IsAtRest (sealing_of self.old.tree.keys) self.old.tree.live self.old.tree.claims) }
-        ensures outcome { (entries : ℕ) (buffer : List ℕ) → IsWork (view_of self.old.tree [] entries None) (view_of self.new.tree [] entries None)
+        requires rest { Told (D.log self.old.back.folder) (IsAtRestOver (sealing_of self.old.tree.keys) self.old.tree.live self.old.tree.claims self.old.back.waiting) }
+        ensures outcome { (entries : ℕ) (buffer : List ℕ) → IsOutcome (view_of self.old.tree self.old.back.waiting entries None) (view_of self.new.tree self.new.back.waiting entries None)
             (folder_view D.log D.faults D.changes self.old.back.folder) (folder_view D.log D.faults D.changes self.new.back.folder)
             (entropy_view E.drawn E.faults entropy.old) (entropy_view E.drawn E.faults entropy.new)
             (open_request number mode) now result buffer buffer }
-        ensures idle { self.new.back.waiting ≡ [] }
+        ensures rest { OnOk result (Told (D.log self.new.back.folder) (IsAtRestOver (sealing_of self.new.tree.keys) self.new.tree.live self.new.tree.claims self.new.back.waiting)) }
         ensures threshold { self.new.tree.threshold ≡ self.old.tree.threshold }
         ensures keys { self.new.tree.keys ≡ self.old.tree.keys }
         ensures faults { D.faults self.old.back.folder ≤ D.faults self.new.back.folder }
         ensures entropy { E.faults entropy.old ≤ E.faults entropy.new }
     {
         have_sizes(self.tree.keys());
+        if let Some(refusal) = truncation_refusal(self.tree.live(), number, mode) {
+            return Ok(Reply::Refused(refusal));
+        }
         let qid = changed_qid(self.tree.live(), number);
-        match self.files.resize(
-            &mut self.tree,
-            self.back.journal(),
-            entropy,
-            number,
-            0,
-            None,
-            now,
-        ) {
+        match self
+            .files
+            .truncate(&mut self.tree, &mut self.back, entropy, number, now)
+        {
             Ok(()) => Ok(Reply::Qid(qid)),
             Err(error) => refused(error),
         }

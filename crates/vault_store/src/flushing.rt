@@ -1,10 +1,9 @@
-ghost use Rattle.std.specs.Prelude.{◌≡◌, ◌≤◌, ℕ, List, [], None, true, OnOk, OnErr, IsErr, length};
+ghost use Rattle.std.specs.Prelude.{◌≡◌, ◌≤◌, ℕ, List, [], None, OnOk, OnErr, IsErr};
 ghost use Rattle.outside.specs.Calls.{Changes, HasCause, Told};
 ghost use Rattle.outside.specs.Views.{EntropyView, entropy_view, folder_view};
 ghost use Rattle.chunk_journal.specs.Journal.{AnyMoment};
 ghost use Rattle.directory_scan.specs.Format.{sealing_of};
-ghost use Rattle.tree_model.specs.Asked.{change as change_request, create as create_request, open_node as open_request, plain_change, remove as remove_request, sync as sync_request};
-ghost use Rattle.tree_model.specs.Step.{truncates};
+ghost use Rattle.tree_model.specs.Asked.{change as change_request, create as create_request, plain_change, remove as remove_request, sync as sync_request};
 ghost use Rattle.node_changes.specs.Changed.{IsAtRest};
 ghost use Rattle.file_changes.specs.Waiting.{IsAtRestOver};
 ghost use Rattle.store_history.specs.Turns.{IsFlushed};
@@ -13,7 +12,7 @@ ghost use Rattle.vault_store.specs.Outcome.{IsOutcome};
 
 use crate::answering::{Broken, Vault};
 use crate::sizes::have_sizes;
-use change_plans::{creation_refusal, plan_change, truncation_refusal};
+use change_plans::{creation_refusal, plan_change};
 use node_changes::removal_refusal;
 use outside::{Entropy, Folder};
 use tree_answers::sync;
@@ -117,36 +116,6 @@ impl<D: Folder> Vault<D> {
         };
         match self.flush() {
             Ok(()) => self.change_idle(number, plan, change.modified, now, entropy),
-            Err(broken) => Err(broken),
-        }
-    }
-
-    /// Opens a node in a mode that truncates: gives a file the length 0.
-    pub(crate) fn truncate<E: Entropy>(
-        &mut self,
-        number: u64,
-        mode: u8,
-        now: u32,
-        entropy: &mut E,
-    ) -> Result<Reply, Broken>
-        requires cuts { truncates mode ≡ true }
-        requires rest { Told (D.log self.old.back.folder) (IsAtRestOver (sealing_of self.old.tree.keys) self.old.tree.live self.old.tree.claims self.old.back.waiting) }
-        ensures outcome { (entries : ℕ) (buffer : List ℕ) → IsOutcome (view_of self.old.tree self.old.back.waiting entries None) (view_of self.new.tree self.new.back.waiting entries None)
-            (folder_view D.log D.faults D.changes self.old.back.folder) (folder_view D.log D.faults D.changes self.new.back.folder)
-            (entropy_view E.drawn E.faults entropy.old) (entropy_view E.drawn E.faults entropy.new)
-            (open_request number mode) now result buffer buffer }
-        ensures rest { OnOk result (Told (D.log self.new.back.folder) (IsAtRestOver (sealing_of self.new.tree.keys) self.new.tree.live self.new.tree.claims self.new.back.waiting)) }
-        ensures threshold { self.new.tree.threshold ≡ self.old.tree.threshold }
-        ensures keys { self.new.tree.keys ≡ self.old.tree.keys }
-        ensures faults { D.faults self.old.back.folder ≤ D.faults self.new.back.folder }
-        ensures entropy { E.faults entropy.old ≤ E.faults entropy.new }
-    {
-        have_sizes(self.tree.keys());
-        if let Some(refusal) = truncation_refusal(self.tree.live(), number, mode) {
-            return Ok(Reply::Refused(refusal));
-        }
-        match self.flush() {
-            Ok(()) => self.truncate_idle(number, mode, now, entropy),
             Err(broken) => Err(broken),
         }
     }

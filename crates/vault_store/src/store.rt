@@ -20,8 +20,8 @@ use std::alloc::Global;
 use std::marker::Model;
 use tree_model::{Refusal, Reply, Request};
 
-/// A vault that is open: its folder, which changes by whole batches alone, and its tree, which was loaded whole. Writes wait in memory until
-/// a sync, a change that is to last, or a lack of room has them committed. Clauses see what it is in memory, and the folder.
+/// A vault that is open: its folder, which changes by whole batches alone, and its tree, which was loaded whole. Writes and truncations
+/// wait in memory until a sync, a change that is to last, or a lack of room has them committed. Clauses see what it is in memory, and the folder.
 #[derive(Drop)]
 pub struct Store<D: Folder> {
     vault: Vault<D>,
@@ -77,8 +77,9 @@ impl<D: Folder> Store<D> {
     /// Answers a request that is made at a second since 1970-01-01: one entry of the history, of whoever has this random
     /// source. Bytes of the reply are put into `buffer`, from its front on. Reads, writes and syncs take no memory.
     ///
-    /// Each change of the tree's shape or of a length is committed before it is answered, and what waits before it; a write waits, and is shown by reads at
-    /// once. Where a commit fails, that is answered as the folder's fault, and from then on each request is answered that the store stopped there.
+    /// Each change of the tree's shape or of a length is committed before it is answered, and what waits before it; a write and a truncation
+    /// wait, and reads show them at once. Where a commit fails, that is answered as the folder's fault, and from then on each request is
+    /// answered that the store stopped there.
     pub fn serve<E: Entropy>(
         &mut self,
         request: &Request<'_>,

@@ -1,15 +1,24 @@
-use Rattle.std.proofs.Common.{◌≡◌, sym, ap, subst, arith, length}
+use Rattle.std.proofs.Common.{◌≡◌, ℕ, None, sym, ap, ◌∙◌, subst, arith, length}
+use Rattle.outside.specs.Calls.{Told}
+use Rattle.outside.proofs.Told.{told_then}
+use Rattle.chunk_journal.specs.Journal.{IsQuiet}
+use Rattle.siv_mode.specs.Keys.{KeyPair}
+use Rattle.directory_scan.specs.Format.{sealing_of}
 use Rattle.content_changes.specs.Rewriting.{Rewriting, CanPutChunks}
 use Rattle.content_writer.specs.Sealed.{chunks_of}
 use Rattle.file_chunks.specs.declared.size.TheConstants.{SEALED_LENGTH}
 use Rattle.pending_files.specs.Pending.{HasRoom}
+use Rattle.file_changes.specs.Held.{rewritten_tree}
+use Rattle.file_changes.specs.Waiting.{IsAtRestOver}
+use Rattle.file_changes.proofs.Places.{is_held_file}
 use Rattle.file_changes.proofs.Putting.{same_rewriting}
-use Rattle.file_changes.proofs.Behind.{chunk_count_is, put_behind, told_file_behind, told_quiet}
+use Rattle.file_changes.proofs.Behind.{chunk_count_is, put_behind, ready, rests_after, told_file_behind, writes_put}
 use Rattle.file_changes.proofs.room.FileChanges.put.Goals as goal
 
 pub make_room-requires-clause-quiet : goal.make_room-requires-clause-quiet
 make_room-requires-clause-quiet g c =
-    told_quiet c.args.back.now.waiting c.args.file.now.path c.args.file.now.size (g.D.Reads.log c.args.back.now.folder) c.requires.ready
+    let tree = c.args.tree.now in
+    told_then (g.D.Reads.log c.args.back.now.folder) (IsAtRestOver (sealing_of tree.keys) tree.live tree.claims c.args.back.now.waiting) IsQuiet c.requires.rest (λ l is. is.quiet)
 
 pub make_room-requires-clause-few : goal.make_room-requires-clause-few
 make_room-requires-clause-few g c = omega (arith, c.requires.puttable.few, ap length c.sealed.ensures, chunk_count_is c.sealed.result.now SEALED_LENGTH)
@@ -27,13 +36,42 @@ put-requires-clause-can g c =
 
 pub put-requires-clause-file : goal.put-requires-clause-file
 put-requires-clause-file g c =
-    told_file_behind c.args.back.now.waiting c.make_room.new.back.waiting c.args.file.now.path c.args.file.now.size c.requires.inside (g.D.Reads.log c.args.back.now.folder)
-    (g.D.Reads.log c.make_room.new.back.folder) c.requires.ready c.in_ok-make_room.ensures.flushed
+    let tree = c.args.tree.now in
+    let file = c.args.file.now in
+    let back = c.args.back.now in
+    let log = g.D.Reads.log back.folder in
+    told_file_behind back.waiting c.make_room.new.back.waiting file.path file.size c.requires.inside log (g.D.Reads.log c.make_room.new.back.folder)
+    (ready tree.keys tree.live tree.claims c.args.number file.size c.requires.file.0 c.requires.file.1 file.path c.requires.path c.requires.inside back.waiting log c.requires.rest) c.in_ok-make_room.ensures.flushed
 
-pub returns-clause-put : goal.returns-clause-put
-returns-clause-put g c =
+pub put_size-requires-clause-file : goal.put_size-requires-clause-file
+put_size-requires-clause-file g c = is_held_file c.args.tree.now.live c.args.number c.args.file.now.size c.requires.file.0 c.requires.file.1
+
+pub returns-clause-written : goal.returns-clause-written
+returns-clause-written g c = λ change request answer drew drew' sealed its drawn.
+    let tree = c.args.tree.now in
+    let file = c.args.file.now in
+    let back = c.args.back.now in
+    let log = g.D.Reads.log back.folder in
     let r = c.args.self.now.writer in
     let same = same_rewriting r c.first.result c.size.result (chunks_of SEALED_LENGTH c.sealed.result.now) c.first.ensures c.sealed.ensures c.size.ensures in
-    put_behind c.args.file.now.path c.args.file.now.size r _ c.args.back.now.waiting c.make_room.new.back.waiting c.put.new.self.waiting (g.D.Reads.log c.args.back.now.folder)
-    (g.D.Reads.log c.make_room.new.back.folder) (g.D.Reads.log c.put.new.self.folder) same (ap (λ folder. g.D.Reads.log folder) c.put.ensures.folder) c.in_ok-make_room.ensures.flushed
-    c.put.ensures.waiting c.put.ensures.waits c.put.ensures.rewritten
+    let behind = put_behind file.path file.size r _ back.waiting c.make_room.new.back.waiting c.put.new.self.waiting log (g.D.Reads.log c.make_room.new.back.folder) (g.D.Reads.log c.put.new.self.folder) same
+    (ap (λ folder. g.D.Reads.log folder) c.put.ensures.folder) c.in_ok-make_room.ensures.flushed c.put.ensures.waiting c.put.ensures.waits c.put.ensures.rewritten in
+    let live_is = c.put_size.ensures.live ∙ ap (λ (size : ℕ). rewritten_tree tree.live c.args.number size None c.args.now) c.size.ensures in
+    writes_put tree.keys tree.live tree.claims c.args.number file.size c.requires.file.0 c.requires.file.1 file.path c.requires.path c.requires.inside back.waiting log c.requires.rest r change sealed c.args.now
+    c.put_size.new.tree.live c.put_size.new.tree.claims live_is c.put_size.ensures.claims c.put.new.self.waiting (g.D.Reads.log c.put.new.self.folder) behind request answer drew drew' its c.put_size.ensures.rows drawn
+
+pub returns-clause-rest : goal.returns-clause-rest
+returns-clause-rest g c = λ change sealed.
+    let tree = c.args.tree.now in
+    let new = c.put_size.new.tree in
+    let file = c.args.file.now in
+    let back = c.args.back.now in
+    let log = g.D.Reads.log back.folder in
+    let r = c.args.self.now.writer in
+    let same = same_rewriting r c.first.result c.size.result (chunks_of SEALED_LENGTH c.sealed.result.now) c.first.ensures c.sealed.ensures c.size.ensures in
+    let behind = put_behind file.path file.size r _ back.waiting c.make_room.new.back.waiting c.put.new.self.waiting log (g.D.Reads.log c.make_room.new.back.folder) (g.D.Reads.log c.put.new.self.folder) same
+    (ap (λ folder. g.D.Reads.log folder) c.put.ensures.folder) c.in_ok-make_room.ensures.flushed c.put.ensures.waiting c.put.ensures.waits c.put.ensures.rewritten in
+    let live_is = c.put_size.ensures.live ∙ ap (λ (size : ℕ). rewritten_tree tree.live c.args.number size None c.args.now) c.size.ensures in
+    subst (λ (k : KeyPair). Told (g.D.Reads.log c.put.new.self.folder) (IsAtRestOver (sealing_of k) new.live new.claims c.put.new.self.waiting)) (sym c.put_size.ensures.keys)
+    (rests_after tree.keys tree.live tree.claims c.args.number file.size c.requires.file.0 c.requires.file.1 file.path c.requires.path c.requires.inside back.waiting log c.requires.rest r change sealed c.args.now
+    new.live new.claims live_is c.put_size.ensures.claims c.put.new.self.waiting (g.D.Reads.log c.put.new.self.folder) behind)

@@ -1,108 +1,82 @@
-use Rattle.std.proofs.Common.{arith, None, length, refl, sym, subst, ap, ◌∙◌}
+use Rattle.std.proofs.Common.{arith, None, length, refl, sym, ap, ◌∙◌}
 use Rattle.std.specs.Option.{option_map}
-use Rattle.outside.specs.Calls.{Told}
 use Rattle.pending_files.specs.Laid.{laid_log}
+use Rattle.tree_model.specs.Rows.{Content}
 use Rattle.tree_model.specs.Contents.{written}
 use Rattle.tree_model.specs.Asked.{write, count}
 use Rattle.tree_model.specs.Step.{says}
 use Rattle.siv_mode.specs.Keys.{KeyPair}
 use Rattle.directory_scan.specs.Format.{sealing_of}
-use Rattle.file_changes.specs.Waiting.{IsAtRestOver}
-use Rattle.file_changes.proofs.Telling.{late, content_refused, content_cause, request_cause}
-use Rattle.file_changes.proofs.Behind.{kept_log, kept_waiting, stands_laid, ready, not_flushed, waits_put, rests_after, writes_put}
+use Rattle.file_changes.specs.Waiting.{HasWritten, IsAtRestOver}
+use Rattle.file_changes.proofs.Telling.{never_early, content_refused, content_cause, request_cause}
+use Rattle.file_changes.proofs.Behind.{changed_since, kept_log, kept_waiting, not_flushed, put_of, sealed_still, stands_laid, told_still}
 use Rattle.file_changes.proofs.Writes.{writes_content}
 use Rattle.file_changes.proofs.room.FileChanges.write.Goals as goal
 
 pub seal_write-requires-clause-sized : goal.seal_write-requires-clause-sized
 seal_write-requires-clause-sized g c = (c.requires.file.clear, (c.sealed_file-file.ensures.file _ _ c.requires.file.is).sized, omega (arith, c.requires.file.gap))
 
-pub put-requires-clause-ready : goal.put-requires-clause-ready
-put-requires-clause-ready g c =
-    let keys = c.args.tree.now.keys in
-    let live = c.args.tree.now.live in
-    let claims = c.args.tree.now.claims in
-    let file = c.sealed_file-file.result in
-    let is = c.sealed_file-file.ensures.file _ _ c.requires.file.is in
-    let path_is = c.sealed_file-file.ensures.path in
+pub put-requires-clause-rest : goal.put-requires-clause-rest
+put-requires-clause-rest g c =
+    let tree = c.args.tree.now in
     let back = c.args.back.now in
     let between = c.seal_write.new.folder in
-    ready keys c.keys-2.result.now c.keys-2.ensures live claims c.args.number file.size c.requires.file.clear is file.path path_is c.sealed_file-file.ensures.inside back.waiting between.waiting (g.D.Reads.log back.folder) (g.D.Reads.log between.folder)
-    c.requires.rest c.in-Ok.ensures.log
+    told_still back.waiting between.waiting (g.D.Reads.log back.folder) (g.D.Reads.log between.folder) c.in-Ok.ensures.log (IsAtRestOver (sealing_of tree.keys) tree.live tree.claims) c.requires.rest
 
-pub returns-in-Ok-put-clause-put : goal.returns-in-Ok-put-clause-put
-returns-in-Ok-put-clause-put g c =
-    let keys = c.args.tree.now.keys in
-    let live = c.args.tree.now.live in
-    let claims = c.args.tree.now.claims in
-    let file = c.sealed_file-file.result in
-    let is = c.sealed_file-file.ensures.file _ _ c.requires.file.is in
-    let path_is = c.sealed_file-file.ensures.path in
-    let back = c.args.back.now in
-    let between = c.seal_write.new.folder in
-    let key = sym (ap (λ (k : KeyPair). length k.enc) c.keys.ensures) ∙ c.have_32_bytes.ensures.enc in
-    let its = writes_content keys key live claims c.args.number c.args.at c.args.bytes.now c.requires.some c.requires.file c.args.now in
-    waits_put keys c.keys-2.result.now c.keys-2.ensures live claims c.args.number file.size c.requires.file.clear is file.path path_is c.sealed_file-file.ensures.inside back.waiting between.waiting (g.D.Reads.log back.folder) (g.D.Reads.log between.folder)
-    c.requires.rest c.in-Ok.ensures.log
-    (λ content. written content c.args.at c.args.bytes.now) c.args.now (write c.args.number c.args.at c.args.bytes.now) (says (count (length c.args.bytes.now))) its
-    c.seal_write.new.self c.in-Ok.ensures.written c.put.new.tree.live c.put.new.tree.claims c.in-Ok-put.ensures.live c.in-Ok-put.ensures.claims c.in-Ok-put.ensures.rows
-    c.put.new.back.waiting (g.D.Reads.log c.put.new.back.folder) c.in-Ok-put.ensures.put
-
-pub returns-in-Ok-put-clause-rest_after : goal.returns-in-Ok-put-clause-rest_after
-returns-in-Ok-put-clause-rest_after g c =
-    let keys = c.args.tree.now.keys in
-    let live = c.args.tree.now.live in
-    let claims = c.args.tree.now.claims in
-    let file = c.sealed_file-file.result in
-    let is = c.sealed_file-file.ensures.file _ _ c.requires.file.is in
-    let path_is = c.sealed_file-file.ensures.path in
-    let back = c.args.back.now in
-    let between = c.seal_write.new.folder in
-    let key = sym (ap (λ (k : KeyPair). length k.enc) c.keys.ensures) ∙ c.have_32_bytes.ensures.enc in
-    let its = writes_content keys key live claims c.args.number c.args.at c.args.bytes.now c.requires.some c.requires.file c.args.now in
-    subst (λ (k : KeyPair). Told (g.D.Reads.log c.put.new.back.folder) (IsAtRestOver (sealing_of k) c.put.new.tree.live c.put.new.tree.claims c.put.new.back.waiting)) (sym c.in-Ok-put.ensures.keys)
-    (rests_after keys c.keys-2.result.now c.keys-2.ensures live claims c.args.number file.size c.requires.file.clear is file.path path_is c.sealed_file-file.ensures.inside back.waiting between.waiting (g.D.Reads.log back.folder) (g.D.Reads.log between.folder)
-    c.requires.rest c.in-Ok.ensures.log
-    (λ content. written content c.args.at c.args.bytes.now) c.args.now (write c.args.number c.args.at c.args.bytes.now) (says (count (length c.args.bytes.now))) its
-    c.seal_write.new.self c.in-Ok.ensures.written c.put.new.tree.live c.put.new.tree.claims c.in-Ok-put.ensures.live c.in-Ok-put.ensures.claims c.in-Ok-put.ensures.rows
-    c.put.new.back.waiting (g.D.Reads.log c.put.new.back.folder) c.in-Ok-put.ensures.put)
+pub put-requires-clause-file : goal.put-requires-clause-file
+put-requires-clause-file g c = (c.requires.file.clear, c.sealed_file-file.ensures.file _ _ c.requires.file.is)
 
 pub returns-in-Ok-put-clause-nonces : goal.returns-in-Ok-put-clause-nonces
 returns-in-Ok-put-clause-nonces g c =
-    let keys = c.args.tree.now.keys in
-    let live = c.args.tree.now.live in
-    let claims = c.args.tree.now.claims in
+    let tree = c.args.tree.now in
+    let new = c.put.new.tree in
     let file = c.sealed_file-file.result in
-    let is = c.sealed_file-file.ensures.file _ _ c.requires.file.is in
-    let path_is = c.sealed_file-file.ensures.path in
     let back = c.args.back.now in
     let between = c.seal_write.new.folder in
+    let before = g.D.Reads.log back.folder in
+    let amid = g.D.Reads.log between.folder in
+    let request = write c.args.number c.args.at c.args.bytes.now in
+    let answer = says (count (length c.args.bytes.now)) in
+    let change = λ (content : Content). written content c.args.at c.args.bytes.now in
     let key = sym (ap (λ (k : KeyPair). length k.enc) c.keys.ensures) ∙ c.have_32_bytes.ensures.enc in
-    let its = writes_content keys key live claims c.args.number c.args.at c.args.bytes.now c.requires.some c.requires.file c.args.now in
-    writes_put keys c.keys-2.result.now c.keys-2.ensures live claims c.args.number file.size c.requires.file.clear is file.path path_is c.sealed_file-file.ensures.inside back.waiting between.waiting (g.D.Reads.log back.folder) (g.D.Reads.log between.folder)
-    c.requires.rest c.in-Ok.ensures.log
-    (λ content. written content c.args.at c.args.bytes.now) c.args.now (write c.args.number c.args.at c.args.bytes.now) (says (count (length c.args.bytes.now))) its
-    c.seal_write.new.self c.in-Ok.ensures.written c.put.new.tree.live c.put.new.tree.claims c.in-Ok-put.ensures.live c.in-Ok-put.ensures.claims c.in-Ok-put.ensures.rows
-    c.put.new.back.waiting (g.D.Reads.log c.put.new.back.folder) c.in-Ok-put.ensures.put (g.E.Entropy.drawn c.args.entropy.now) (g.E.Entropy.drawn c.seal_write.new.entropy) c.in-Ok.ensures.drawn
+    let its = writes_content tree.keys key tree.live tree.claims c.args.number c.args.at c.args.bytes.now c.requires.some c.requires.file c.args.now in
+    let sealed = sealed_still back.waiting between.waiting before amid c.in-Ok.ensures.log tree.keys c.keys-2.result.now file.path file.size c.seal_write.new.self change c.keys-2.ensures c.in-Ok.ensures.written in
+    let drew = g.E.Entropy.drawn c.args.entropy.now in
+    let drew' = g.E.Entropy.drawn c.seal_write.new.entropy in
+    changed_since back.waiting between.waiting before amid c.in-Ok.ensures.log
+    (λ waiting. HasWritten (sealing_of tree.keys) request c.args.now answer tree.live new.live tree.claims new.claims waiting c.put.new.back.waiting drew drew') (g.D.Reads.log c.put.new.back.folder)
+    (c.in-Ok-put.ensures.written change request answer drew drew' sealed its c.in-Ok.ensures.drawn)
+
+pub returns-in-Ok-put-clause-put : goal.returns-in-Ok-put-clause-put
+returns-in-Ok-put-clause-put g c =
+    let tree = c.args.tree.now in
+    let new = c.put.new.tree in
+    let back = c.args.back.now in
+    put_of (sealing_of tree.keys) (write c.args.number c.args.at c.args.bytes.now) c.args.now (says (count (length c.args.bytes.now))) tree.live new.live tree.claims new.claims back.waiting c.put.new.back.waiting
+    (g.E.Entropy.drawn c.args.entropy.now) (g.E.Entropy.drawn c.seal_write.new.entropy) (g.D.Reads.log back.folder) (g.D.Reads.log c.put.new.back.folder) (returns-in-Ok-put-clause-nonces g c)
+
+pub returns-in-Ok-put-clause-rest_after : goal.returns-in-Ok-put-clause-rest_after
+returns-in-Ok-put-clause-rest_after g c =
+    let tree = c.args.tree.now in
+    let file = c.sealed_file-file.result in
+    let back = c.args.back.now in
+    let between = c.seal_write.new.folder in
+    let change = λ (content : Content). written content c.args.at c.args.bytes.now in
+    c.in-Ok-put.ensures.rest change
+    (sealed_still back.waiting between.waiting (g.D.Reads.log back.folder) (g.D.Reads.log between.folder) c.in-Ok.ensures.log tree.keys c.keys-2.result.now file.path file.size c.seal_write.new.self change c.keys-2.ensures
+    c.in-Ok.ensures.written)
 
 pub returns-in-Err-put-clause-broken : goal.returns-in-Err-put-clause-broken
 returns-in-Err-put-clause-broken g c =
-    let keys = c.args.tree.now.keys in
-    let live = c.args.tree.now.live in
-    let claims = c.args.tree.now.claims in
-    let file = c.sealed_file-file.result in
-    let is = c.sealed_file-file.ensures.file _ _ c.requires.file.is in
-    let path_is = c.sealed_file-file.ensures.path in
+    let tree = c.args.tree.now in
     let back = c.args.back.now in
     let between = c.seal_write.new.folder in
+    let request = write c.args.number c.args.at c.args.bytes.now in
     let key = sym (ap (λ (k : KeyPair). length k.enc) c.keys.ensures) ∙ c.have_32_bytes.ensures.enc in
-    let its = writes_content keys key live claims c.args.number c.args.at c.args.bytes.now c.requires.some c.requires.file c.args.now in
-    let log = option_map (laid_log back.waiting) (g.D.Reads.log back.folder) in
-    let stands = stands_laid (sealing_of keys) live claims back.waiting (g.D.Reads.log back.folder) c.requires.rest in
-    not_flushed keys c.keys-2.result.now c.keys-2.ensures live claims c.args.number file.size c.requires.file.clear is file.path path_is c.sealed_file-file.ensures.inside back.waiting between.waiting (g.D.Reads.log back.folder) (g.D.Reads.log between.folder)
-    c.requires.rest c.in-Ok.ensures.log
-    (λ content. written content c.args.at c.args.bytes.now) c.args.now (write c.args.number c.args.at c.args.bytes.now) (says (count (length c.args.bytes.now))) its
-    (late keys c.keys-2.result.now c.keys-2.ensures live claims c.args.number file.size c.requires.file.clear is file.path path_is log stands
-    (λ content. written content c.args.at c.args.bytes.now) None c.args.now (write c.args.number c.args.at c.args.bytes.now) (says (count (length c.args.bytes.now))) its) (g.D.Reads.log c.put.new.back.folder) c.in-Err-put.ensures.any_moment
+    let its = writes_content tree.keys key tree.live tree.claims c.args.number c.args.at c.args.bytes.now c.requires.some c.requires.file c.args.now in
+    not_flushed back.waiting between.waiting (g.D.Reads.log back.folder) (g.D.Reads.log between.folder) c.in-Ok.ensures.log (sealing_of tree.keys) request tree.live tree.claims
+    (never_early (sealing_of tree.keys) tree.live tree.claims c.args.number (λ content. written content c.args.at c.args.bytes.now) None c.args.now request (says (count (length c.args.bytes.now))) its)
+    (g.D.Reads.log c.put.new.back.folder) c.in-Err-put.ensures.any_moment
 
 pub returns-in-Err-clause-refused : goal.returns-in-Err-clause-refused
 returns-in-Err-clause-refused g c =

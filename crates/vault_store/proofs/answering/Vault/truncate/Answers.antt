@@ -1,17 +1,17 @@
-use Rattle.std.proofs.Common.{[], Some, None, is_some, refl, ap, subst, sym, ◌∙◌, arith}
+use Rattle.std.proofs.Common.{Some, None, refl, subst, sym, ◌∙◌, arith}
 use Rattle.outside.specs.Views.{entropy_view, folder_view}
 use Rattle.directory_scan.specs.Format.{sealing_of}
-use Rattle.tree_model.specs.Asked.{open_node}
+use Rattle.tree_model.specs.declared.reply.Reply.TheVariants as replies
+use Rattle.tree_model.specs.Asked.{open_node, qid}
+use Rattle.tree_model.specs.Step.{says}
 use Rattle.live_tree.specs.Held.{HeldTree, live_rows}
 use Rattle.change_plans.specs.Files.{IsResizable}
-use Rattle.change_plans.specs.Plans.{IsOpenRefusal}
-use Rattle.node_changes.specs.declared.tree.VaultTree.{VaultTree}
 use Rattle.vault_store.specs.Open.{view_of}
-use Rattle.vault_store.proofs.ContentTurns.{early_answer, open_early, own_reply}
-use Rattle.vault_store.proofs.Flushes.{flush_failed}
-use Rattle.vault_store.proofs.Rests.{rest_waits, rests}
+use Rattle.vault_store.proofs.ContentTurns.{come_drawing, early_answer, open_early, own_reply, truncation_here}
+use Rattle.vault_store.proofs.Flushes.{put_err, written}
+use Rattle.vault_store.proofs.Rests.{rest_waits}
 use Rattle.vault_store.proofs.Turns.{come_undrawn}
-use Rattle.vault_store.proofs.Waiting.{after_flush, over, refused_outcome}
+use Rattle.vault_store.proofs.Waiting.{over, refused_outcome}
 use Rattle.vault_store.proofs.answering.Vault.truncate.Goals as goal
 
 pub returns-in-Some-clause-outcome : goal.returns-in-Some-clause-outcome
@@ -32,41 +32,42 @@ pub returns-in-Ok-clause-outcome : goal.returns-in-Ok-clause-outcome
 returns-in-Ok-clause-outcome g c = λ entries buffer.
     let tree = c.args.self.now.tree in
     let back = c.args.self.now.back in
+    let new = c.truncate.new.tree in
     let before = folder_view g.D.Reads.log g.D.Reads.faults g.D.Reads.changes back.folder in
-    let amid = folder_view g.D.Reads.log g.D.Reads.faults g.D.Reads.changes c.flush.new.self.back.folder in
-    let after = folder_view g.D.Reads.log g.D.Reads.faults g.D.Reads.changes c.truncate_idle.new.self.back.folder in
+    let after = folder_view g.D.Reads.log g.D.Reads.faults g.D.Reads.changes c.truncate.new.back.folder in
     let source = entropy_view g.E.Entropy.drawn g.E.Entropy.faults c.args.entropy.now in
-    let source' = entropy_view g.E.Entropy.drawn g.E.Entropy.faults c.truncate_idle.new.entropy in
-    after_flush (view_of tree back.waiting entries None) c.flush.new.self.tree c.truncate_idle.new.self.tree c.truncate_idle.new.self.back.waiting entries before amid after source source' (open_node c.args.number c.args.mode) c.args.now
-    c.truncate_idle.result buffer buffer c.truncate_idle.ensures.idle (c.in-Ok.ensures.flushed entries) (c.truncate_idle.ensures.outcome entries buffer)
-
-pub returns-in-Ok-clause-rest : goal.returns-in-Ok-clause-rest
-returns-in-Ok-clause-rest g c =
-    let amid = folder_view g.D.Reads.log g.D.Reads.faults g.D.Reads.changes c.flush.new.self.back.folder in
-    let after = folder_view g.D.Reads.log g.D.Reads.faults g.D.Reads.changes c.truncate_idle.new.self.back.folder in
-    let was = c.flush.new.self.tree in
-    let new = c.truncate_idle.new.self in
-    let source = entropy_view g.E.Entropy.drawn g.E.Entropy.faults c.args.entropy.now in
-    let source' = entropy_view g.E.Entropy.drawn g.E.Entropy.faults c.truncate_idle.new.entropy in
-    rests was.keys new.tree.keys was.live new.tree.live was.claims new.tree.claims 0 amid after source source' (open_node c.args.number c.args.mode) c.args.now c.truncate_idle.result [] [] new.back.waiting
-    c.truncate_idle.ensures.keys c.truncate_idle.ensures.idle c.in-Ok.ensures.rest (c.truncate_idle.ensures.outcome 0 [])
+    let source' = entropy_view g.E.Entropy.drawn g.E.Entropy.faults c.truncate.new.entropy in
+    let request = open_node c.args.number c.args.mode in
+    let result = c.changed_qid-qid.result in
+    let resizing = truncation_here tree.keys c.keys.result.now tree.live c.live.result.now c.live-2.result.now tree.claims c.args.number c.args.mode c.args.now result c.keys.ensures c.live.ensures c.live-2.ensures
+    c.have_sizes.ensures c.requires.cuts c.in_default.ensures.allowed c.in_default.ensures.refusal c.changed_qid-qid.ensures in
+    written tree.keys new.keys tree.live new.live tree.claims new.claims back.waiting c.truncate.new.back.waiting entries before after source source' request c.args.now
+    (replies.Qid result) buffer (record { form = tt; count = tt; enters = refl; rest = refl }) refl refl refl refl (λ made. tt) (λ rows. refl)
+    (come_drawing tree.keys new.keys before after source source' request c.in-Ok.ensures.keys c.in-Ok.ensures.later c.in-Ok.ensures.entropy c.in-Ok.ensures.drawn)
+    (c.in-Ok.ensures.put request (says (qid result)) resizing)
 
 pub returns-in-Err-clause-outcome : goal.returns-in-Err-clause-outcome
 returns-in-Err-clause-outcome g c = λ entries buffer.
     let tree = c.args.self.now.tree in
     let back = c.args.self.now.back in
+    let new = c.truncate.new.tree in
     let before = folder_view g.D.Reads.log g.D.Reads.faults g.D.Reads.changes back.folder in
-    let after = folder_view g.D.Reads.log g.D.Reads.faults g.D.Reads.changes c.flush.new.self.back.folder in
+    let after = folder_view g.D.Reads.log g.D.Reads.faults g.D.Reads.changes c.truncate.new.back.folder in
     let source = entropy_view g.E.Entropy.drawn g.E.Entropy.faults c.args.entropy.now in
-    flush_failed tree c.flush.new.self.tree back.waiting c.flush.new.self.back.waiting entries before after source (open_node c.args.number c.args.mode) c.args.now c.in-Err.broken buffer c.in-Err.ensures.tree
-    c.in-Err.ensures.cause.later (c.in-Err.ensures.cause.rose refl) c.requires.cuts
-    (λ d contents stands. ap is_some (open_early tree.keys c.keys.result.now tree.live c.live.result.now tree.claims c.args.number c.args.mode None c.keys.ensures c.live.ensures c.have_sizes.ensures c.in_default.ensures.refusal d contents stands))
-    c.in-Err.ensures.failed
+    let source' = entropy_view g.E.Entropy.drawn g.E.Entropy.faults c.truncate.new.entropy in
+    let request = open_node c.args.number c.args.mode in
+    let result = c.changed_qid-qid.result in
+    let answer = says (qid result) in
+    let resizing = truncation_here tree.keys c.keys.result.now tree.live c.live.result.now c.live-2.result.now tree.claims c.args.number c.args.mode c.args.now result c.keys.ensures c.live.ensures c.live-2.ensures
+    c.have_sizes.ensures c.requires.cuts c.in_default.ensures.allowed c.in_default.ensures.refusal c.changed_qid-qid.ensures in
+    put_err tree.keys new.keys tree.live new.live tree.claims new.claims back.waiting c.truncate.new.back.waiting entries before after source source' request c.args.now
+    (come_drawing tree.keys new.keys before after source source' request c.in-Err.ensures.keys c.in-Err.ensures.later c.in-Err.ensures.entropy c.in-Err.ensures.drawn)
+    (rest_waits (sealing_of tree.keys) tree.live tree.claims back.waiting before.log c.requires.rest)
+    c.in-Err.error c.refused.result buffer c.refused.ensures.refused c.refused.ensures.broken c.in-Err.ensures.unchanged c.in-Err.ensures.waiting (c.in-Err.ensures.cause request) c.in-Err.ensures.own
+    (c.in-Err.ensures.refused request answer resizing) c.requires.cuts (c.in-Err.ensures.broken request answer resizing)
 
-pub truncate_idle-requires-clause-file : goal.truncate_idle-requires-clause-file
-truncate_idle-requires-clause-file g c =
-    subst (λ (l : HeldTree). IsResizable l c.args.number 0) (c.live.ensures ∙ ap (λ (t : VaultTree). t.live) (sym c.in-Ok.ensures.tree)) c.in_default.ensures.allowed
+pub changed_qid-qid-requires : goal.changed_qid-qid-requires
+changed_qid-qid-requires g c = (0, subst (λ (l : HeldTree). IsResizable l c.args.number 0) (c.live.ensures ∙ sym c.live-2.ensures) c.in_default.ensures.allowed)
 
-pub truncate_idle-requires-clause-late : goal.truncate_idle-requires-clause-late
-truncate_idle-requires-clause-late g c =
-    subst (λ (l : HeldTree). IsOpenRefusal l c.args.number c.args.mode None) (c.live.ensures ∙ ap (λ (t : VaultTree). t.live) (sym c.in-Ok.ensures.tree)) c.in_default.ensures.refusal
+pub truncate-requires-clause-file : goal.truncate-requires-clause-file
+truncate-requires-clause-file g c = subst (λ (l : HeldTree). IsResizable l c.args.number 0) c.live.ensures c.in_default.ensures.allowed

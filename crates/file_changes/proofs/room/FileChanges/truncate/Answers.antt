@@ -1,0 +1,122 @@
+use Rattle.std.proofs.Common.{arith, None, refl}
+use Rattle.std.specs.Option.{option_map}
+use Rattle.pending_files.specs.Laid.{laid_log}
+use Rattle.tree_model.specs.Rows.{Content}
+use Rattle.tree_model.specs.Contents.{resized}
+use Rattle.directory_scan.specs.Format.{sealing_of}
+use Rattle.file_changes.specs.Waiting.{HasWritten, IsAtRestOver}
+use Rattle.file_changes.proofs.Telling.{never_early, content_refused, content_cause, request_cause}
+use Rattle.file_changes.proofs.Behind.{changed_since, kept_log, kept_waiting, not_flushed, put_of, sealed_still, stands_laid, told_still}
+use Rattle.file_changes.proofs.room.FileChanges.truncate.Goals as goal
+
+pub seal_length-requires-clause-sized : goal.seal_length-requires-clause-sized
+seal_length-requires-clause-sized g c = (c.requires.file.clear, (c.sealed_file-file.ensures.file _ _ c.requires.file.is).sized, omega arith)
+
+pub put-requires-clause-rest : goal.put-requires-clause-rest
+put-requires-clause-rest g c =
+    let tree = c.args.tree.now in
+    let back = c.args.back.now in
+    let between = c.seal_length.new.folder in
+    told_still back.waiting between.waiting (g.D.Reads.log back.folder) (g.D.Reads.log between.folder) c.in-Ok.ensures.log (IsAtRestOver (sealing_of tree.keys) tree.live tree.claims) c.requires.rest
+
+pub put-requires-clause-file : goal.put-requires-clause-file
+put-requires-clause-file g c = (c.requires.file.clear, c.sealed_file-file.ensures.file _ _ c.requires.file.is)
+
+pub returns-in-Ok-put-clause-nonces : goal.returns-in-Ok-put-clause-nonces
+returns-in-Ok-put-clause-nonces g c = λ request answer its.
+    let tree = c.args.tree.now in
+    let new = c.put.new.tree in
+    let file = c.sealed_file-file.result in
+    let back = c.args.back.now in
+    let between = c.seal_length.new.folder in
+    let before = g.D.Reads.log back.folder in
+    let amid = g.D.Reads.log between.folder in
+    let change = λ (content : Content). resized content 0 in
+    let sealed = sealed_still back.waiting between.waiting before amid c.in-Ok.ensures.log tree.keys c.keys.result.now file.path file.size c.seal_length.new.self change c.keys.ensures c.in-Ok.ensures.resized in
+    let drew = g.E.Entropy.drawn c.args.entropy.now in
+    let drew' = g.E.Entropy.drawn c.seal_length.new.entropy in
+    changed_since back.waiting between.waiting before amid c.in-Ok.ensures.log
+    (λ waiting. HasWritten (sealing_of tree.keys) request c.args.now answer tree.live new.live tree.claims new.claims waiting c.put.new.back.waiting drew drew') (g.D.Reads.log c.put.new.back.folder)
+    (c.in-Ok-put.ensures.written change request answer drew drew' sealed its c.in-Ok.ensures.drawn)
+
+pub returns-in-Ok-put-clause-put : goal.returns-in-Ok-put-clause-put
+returns-in-Ok-put-clause-put g c = λ request answer its.
+    let tree = c.args.tree.now in
+    let new = c.put.new.tree in
+    let back = c.args.back.now in
+    put_of (sealing_of tree.keys) request c.args.now answer tree.live new.live tree.claims new.claims back.waiting c.put.new.back.waiting
+    (g.E.Entropy.drawn c.args.entropy.now) (g.E.Entropy.drawn c.seal_length.new.entropy) (g.D.Reads.log back.folder) (g.D.Reads.log c.put.new.back.folder) (returns-in-Ok-put-clause-nonces g c request answer its)
+
+pub returns-in-Ok-put-clause-rest_after : goal.returns-in-Ok-put-clause-rest_after
+returns-in-Ok-put-clause-rest_after g c =
+    let tree = c.args.tree.now in
+    let file = c.sealed_file-file.result in
+    let back = c.args.back.now in
+    let between = c.seal_length.new.folder in
+    let change = λ (content : Content). resized content 0 in
+    c.in-Ok-put.ensures.rest change
+    (sealed_still back.waiting between.waiting (g.D.Reads.log back.folder) (g.D.Reads.log between.folder) c.in-Ok.ensures.log tree.keys c.keys.result.now file.path file.size c.seal_length.new.self change c.keys.ensures
+    c.in-Ok.ensures.resized)
+
+pub returns-in-Err-put-clause-broken : goal.returns-in-Err-put-clause-broken
+returns-in-Err-put-clause-broken g c = λ request answer its.
+    let tree = c.args.tree.now in
+    let back = c.args.back.now in
+    let between = c.seal_length.new.folder in
+    not_flushed back.waiting between.waiting (g.D.Reads.log back.folder) (g.D.Reads.log between.folder) c.in-Ok.ensures.log (sealing_of tree.keys) request tree.live tree.claims
+    (never_early (sealing_of tree.keys) tree.live tree.claims c.args.number (λ content. resized content 0) None c.args.now request answer its)
+    (g.D.Reads.log c.put.new.back.folder) c.in-Err-put.ensures.any_moment
+
+pub returns-in-Err-clause-refused : goal.returns-in-Err-clause-refused
+returns-in-Err-clause-refused g c = λ request answer its.
+    let keys = c.args.tree.now.keys in
+    let live = c.args.tree.now.live in
+    let claims = c.args.tree.now.claims in
+    let file = c.sealed_file-file.result in
+    let is = c.sealed_file-file.ensures.file _ _ c.requires.file.is in
+    let path_is = c.sealed_file-file.ensures.path in
+    let back = c.args.back.now in
+    let log = option_map (laid_log back.waiting) (g.D.Reads.log back.folder) in
+    let stands = stands_laid (sealing_of keys) live claims back.waiting (g.D.Reads.log back.folder) c.requires.rest in
+    content_refused keys c.keys.result.now c.keys.ensures live claims c.args.number file.size c.requires.file.clear is file.path path_is log stands
+    (λ content. resized content 0) None c.args.now request answer its c.in-Err.cause c.refusal_of.result c.refusal_of.ensures c.in-Err.ensures.damaged
+
+pub returns-in-Err-clause-unchanged : goal.returns-in-Err-clause-unchanged
+returns-in-Err-clause-unchanged g c =
+    let back = c.args.back.now in
+    let between = c.seal_length.new.folder in
+    record { live = refl; claims = refl; log = kept_log back.waiting between.waiting (g.D.Reads.log back.folder) (g.D.Reads.log between.folder) c.in-Err.ensures.log }
+
+pub returns-in-Err-clause-waiting : goal.returns-in-Err-clause-waiting
+returns-in-Err-clause-waiting g c =
+    let back = c.args.back.now in
+    let between = c.seal_length.new.folder in
+    kept_waiting back.waiting between.waiting (g.D.Reads.log back.folder) (g.D.Reads.log between.folder) c.in-Err.ensures.log
+
+pub returns-in-Err-clause-cause : goal.returns-in-Err-clause-cause
+returns-in-Err-clause-cause g c = λ request.
+    let keys = c.args.tree.now.keys in
+    let live = c.args.tree.now.live in
+    let claims = c.args.tree.now.claims in
+    let file = c.sealed_file-file.result in
+    let is = c.sealed_file-file.ensures.file _ _ c.requires.file.is in
+    let path_is = c.sealed_file-file.ensures.path in
+    let back = c.args.back.now in
+    let log = option_map (laid_log back.waiting) (g.D.Reads.log back.folder) in
+    let stands = stands_laid (sealing_of keys) live claims back.waiting (g.D.Reads.log back.folder) c.requires.rest in
+    request_cause keys c.keys.result.now c.keys.ensures live claims c.args.number file.size c.requires.file.clear is file.path path_is log stands
+    c.in-Err.cause c.refusal_of.result c.refusal_of.ensures _ _ _ c.in-Err.ensures.device c.in-Err.ensures.random request
+
+pub returns-in-Err-clause-own : goal.returns-in-Err-clause-own
+returns-in-Err-clause-own g c =
+    let keys = c.args.tree.now.keys in
+    let live = c.args.tree.now.live in
+    let claims = c.args.tree.now.claims in
+    let file = c.sealed_file-file.result in
+    let is = c.sealed_file-file.ensures.file _ _ c.requires.file.is in
+    let path_is = c.sealed_file-file.ensures.path in
+    let back = c.args.back.now in
+    let log = option_map (laid_log back.waiting) (g.D.Reads.log back.folder) in
+    let stands = stands_laid (sealing_of keys) live claims back.waiting (g.D.Reads.log back.folder) c.requires.rest in
+    content_cause keys c.keys.result.now c.keys.ensures live claims c.args.number file.size c.requires.file.clear is file.path path_is log stands
+    c.in-Err.cause c.refusal_of.result c.refusal_of.ensures _ _ _ c.in-Err.ensures.device c.in-Err.ensures.random
