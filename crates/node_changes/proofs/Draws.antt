@@ -1,5 +1,5 @@
 -- What was drawn for a new node, why it was refused, and what its commit made of it.
-use Rattle.std.proofs.Common.{◌≡◌, ◌≤◌, ℕ, Bool, List, [], ◌++◌, Option, Some, None, IfSome, IsTrue, Ok, length, refl, sym, ap, ◌∙◌, subst, inl, inr, ◌⊎◌, false, true≢false, arith, append_assoc}
+use Rattle.std.proofs.Common.{◌≡◌, ◌≤◌, ℕ, Bool, List, [], ◌++◌, Option, Some, None, IfSome, IsTrue, Ok, length, refl, sym, ap, ◌∙◌, subst, inl, inr, ◌⊎◌, true, false, true≢false, arith, append_assoc}
 use Rattle.std.proofs.lemmas.List.{append-nil}
 use Rattle.std.specs.Prelude.{⊤}
 use Rattle.vault_path.specs.Parts.{is_path}
@@ -43,11 +43,23 @@ rose_from a b c low (inr end) = inr end
 
 -- ---- what was drawn
 
-pub stayed : (drew drew' : Option (List ℕ)) → drew' ≡ drew → Changes drew drew' GoesOn
+stayed : (drew drew' : Option (List ℕ)) → drew' ≡ drew → Changes drew drew' GoesOn
 stayed drew drew' e = unchanged drew drew' GoesOn e (λ x. ([], sym (append-nil x)))
 
-pub no_draw : (is_dir : Bool) (drew drew' : Option (List ℕ)) → Changes drew drew' GoesOn → IsDraw is_dir None drew drew'
-no_draw is_dir drew drew' changes = record { directory = λ e. absurd (true≢false (sym e)); more = changes; first = changed_by drew drew' GoesOn (λ old new. ⊤) (λ old new more. tt) changes }
+-- with no identifier, where nothing was drawn for a directory
+partly : (is_dir : Bool) (drew drew' : Option (List ℕ)) → Changes drew drew' GoesOn → (is_dir ≡ true → drew' ≡ drew) → IsDraw is_dir None drew drew'
+partly is_dir drew drew' changes unspent = record {
+  directory = λ e. absurd (true≢false (sym e));
+  more = changes;
+  first = changed_by drew drew' GoesOn (λ old new. ⊤) (λ old new more. tt) changes;
+  unspent = λ none made. unspent made;
+}
+
+pub no_draw : (is_dir : Bool) (drew drew' : Option (List ℕ)) → drew' ≡ drew → IsDraw is_dir None drew drew'
+no_draw is_dir drew drew' same = partly is_dir drew drew' (stayed drew drew' same) (λ made. same)
+
+pub file_draw : (is_dir : Bool) (drew drew' : Option (List ℕ)) → is_dir ≡ false → Changes drew drew' GoesOn → IsDraw is_dir None drew drew'
+file_draw is_dir drew drew' file changes = partly is_dir drew drew' changes (λ made. absurd (true≢false (sym made ∙ file)))
 
 pub identifier_drawn : (drew drew' : Option (List ℕ)) (bytes : List ℕ) → length bytes ≡ 16 → Changes drew drew' (λ old new. new ≡ old ++ bytes) → (identifier : List ℕ) → identifier ≡ identifier_of bytes
     → Changes drew drew' (IsIdentifierOf identifier)
@@ -57,8 +69,13 @@ identifier_drawn drew drew' bytes sixteen extends identifier is =
 
 module _ (keys : KeyPair) (is_dir : Bool) where
   pub drew_directory : (directory : Option NewDirectory) (drew drew' : Option (List ℕ)) → DrawsIf keys is_dir directory drew drew' → IsDraw is_dir (drawn_in directory) drew drew'
-  drew_directory None drew drew' h = no_draw is_dir drew drew' (stayed drew drew' h.1)
-  drew_directory (Some directory) drew drew' h = record { directory = λ e. h.0; more = changed_by drew drew' (IsIdentifierOf directory.identifier) GoesOn (λ old new it. (it.bytes ++ it.rest, it.drew ∙ append_assoc old it.bytes it.rest)) h.1.first; first = h.1.first }
+  drew_directory None drew drew' h = no_draw is_dir drew drew' h.1
+  drew_directory (Some directory) drew drew' h = record {
+    directory = λ e. h.0;
+    more = changed_by drew drew' (IsIdentifierOf directory.identifier) GoesOn (λ old new it. (it.bytes ++ it.rest, it.drew ∙ append_assoc old it.bytes it.rest)) h.1.first;
+    first = h.1.first;
+    unspent = λ none made. let no : Some directory.identifier ≡ None = none in absurd cc;
+  }
 
   pub own_folder : (directory : Option NewDirectory) (drew drew' : Option (List ℕ)) → DrawsIf keys is_dir directory drew drew'
       → IfSome directory (λ (d : NewDirectory). d.folder ≡ (sealing_of keys).folder_of d.identifier)

@@ -13,11 +13,12 @@ use Rattle.node_changes.specs.Causes.{IfBroken, IfRefused}
 use Rattle.node_changes.specs.Changed.{HasChanged, MayHaveChanged, MayRefuse}
 use Rattle.node_changes.specs.Placed.{taken_for, DrawsHeader, IfDrawn, IsIdentifierOf, GoesOn}
 
--- An identifier is drawn for a directory alone, and first of all that is drawn.
+-- An identifier is drawn for a directory alone, and first of all that is drawn; where a directory is asked for and none is named, nothing was drawn.
 pub record IsDraw (is_dir : Bool) (drawn : Option (List ℕ)) (old new : Option (List ℕ)) : Type 0 where
   pub directory : IsSome drawn → is_dir ≡ true
   pub more : Changes old new GoesOn
   pub first : Changes old new (λ before after. IfDrawn drawn (λ identifier. IsIdentifierOf identifier before after))
+  pub unspent : drawn ≡ None → is_dir ≡ true → new ≡ old
 
 -- It was made, at a place that isn't taken; for a directory an identifier was drawn, and for a file its header.
 pub record HasCreated (keys : KeyPair) (request : PlainRequest) (second : ℕ) (answer : Answer) (drawn : Option (List ℕ)) (live live' : HeldTree) (claims claims' : List (List ℕ × ℕ)) (drew drew' : Option (List ℕ)) (old new : Log) : Type 0 where

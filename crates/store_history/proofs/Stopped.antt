@@ -107,6 +107,7 @@ module _ (old : StoreView) (before : FolderView) (source : EntropyView) (turn : 
       more = [];
       on = sym (append-nil bytes);
       identifier = subst (λ (d : Option (List ℕ)). IfDrawn d (λ identifier. IsIdentifierOf identifier bytes bytes)) (sym undrawn) tt;
+      unspent = λ none may. refl;
     }
 
     made_so : IsMadeOf turn.asked old before before source source made

@@ -163,7 +163,7 @@ module _ (old new : StoreView) (before after : FolderView) (source source' : Ent
 
     drawn_so : Changes source.drawn source'.drawn (Draws made)
     drawn_so = changed_by source.drawn source'.drawn (Draws (made_of turn before after source source')) (Draws made)
-        (λ a b draws. record { more = draws.more; on = draws.on; identifier = draws.identifier }) is.drawn
+        (λ a b draws. record { more = draws.more; on = draws.on; identifier = draws.identifier; unspent = draws.unspent }) is.drawn
 
     pub made_so : IsMadeOf turn.asked old before after source source' made
     made_so = record {

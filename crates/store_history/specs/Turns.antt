@@ -19,11 +19,13 @@ use Rattle.store_history.specs.Store.{StoreView, IsStoreOf, bounded, moment_of, 
 
 -- ---- entries
 
--- the bytes that a random source has given go on from those of before, and an identifier is that of the first sixteen since
+-- the bytes that a random source has given go on from those of before, and an identifier is that of the first sixteen since; where one may be drawn
+-- and none is named, the source gave nothing
 pub record Draws (made : Made) (old new : List ℕ) : Type 0 where
   pub more : List ℕ
   pub on : new ≡ old ++ more
   pub identifier : IfDrawn made.drawn (λ identifier. IsIdentifierOf identifier old new)
+  pub unspent : made.drawn ≡ None → MayDraw made.asked.request → new ≡ old
 
 abbrev pub draws_for : Option (List ℕ) → Option (List ℕ) → Made → Type 0
 draws_for before after made = Changes before after (Draws made)

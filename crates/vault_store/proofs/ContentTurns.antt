@@ -18,7 +18,7 @@ use Rattle.tree_model.specs.Contents.{resized}
 use Rattle.tree_model.specs.Asked.{PlainChange, PlainRequest, change, open_node, write, count, done, qid, bytes_put, plain_reply}
 use Rattle.tree_model.specs.Step.{Stepped, early, early_refusal, new_length, new_name, node_of, place_step, refuses, says, set_row, step, stepped, truncates, with_content, with_mtime, work}
 use Rattle.tree_model.proofs.Steps.{step_worked}
-use Rattle.tree_history.specs.History.{Made, is_refusal, is_stopped, places, rows_then, HasCause, IsAnswered, MayCommit}
+use Rattle.tree_history.specs.History.{Made, is_refusal, is_stopped, places, rows_then, HasCause, IsAnswered, MayCommit, MayDraw}
 use Rattle.clear_tree.specs.Walk.{Sealing}
 use Rattle.clear_tree.specs.Kept.{What, kind_of}
 use Rattle.directory_scan.specs.Format.{sealing_of}
@@ -192,13 +192,14 @@ resize_unplaced s live claims number len c sizes planned d contents stands =
 
 -- where nonces are drawn alone
 pub come_drawing : (keys keys' : KeyPair) (before after : FolderView) (source source' : EntropyView) (request : PlainRequest) → keys' ≡ keys → before.faults ≤ after.faults → source.faults ≤ source'.faults
-    → Changes source.drawn source'.drawn GoesOn → IsCome keys keys' before after source source' request None
-come_drawing keys keys' before after source source' request same later entropy drawn = record {
+    → Changes source.drawn source'.drawn GoesOn → (MayDraw request → ⊥) → IsCome keys keys' before after source source' request None
+come_drawing keys keys' before after source source' request same later entropy drawn nonces = record {
   keys_are = same;
   folder = later;
   entropy = entropy;
   may_draw = λ some. let no : false ≡ true = some in absurd cc;
   drawn_is = changed_by source.drawn source'.drawn GoesOn (HasDrawn None) (λ a b more. record { more = more.0; on = more.1; identifier = tt }) drawn;
+  unspent = λ none may. absurd (nonces may);
 }
 
 -- ---- causes

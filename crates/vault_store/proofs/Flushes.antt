@@ -32,7 +32,7 @@ use Rattle.node_changes.specs.Placed.{taken_for}
 use Rattle.node_changes.specs.Removal.{IsRemovalRefusal}
 use Rattle.stop_history.specs.Stable.{is_kept}
 use Rattle.store_history.specs.Store.{StoreView, bounded}
-use Rattle.store_history.specs.Turns.{Draws, IsFlushed, IsQuietTurn, IsTurn, Turn, made_of}
+use Rattle.store_history.specs.Turns.{IsFlushed, IsQuietTurn, IsTurn, Turn, made_of}
 use Rattle.vault_store.specs.declared.answering.Broken.{Broken}
 use Rattle.vault_store.specs.Open.{running, counted, view_of}
 use Rattle.vault_store.specs.Outcome.{HasNotFlushed, HasReply, IsFormed, IsFrom, IsOutcome}
@@ -41,7 +41,7 @@ use Rattle.tree_answers.specs.Answers.{IsOwn, IsStepOf}
 use Rattle.vault_store.proofs.ContentTurns.{content_refused, early_answer}
 use Rattle.vault_store.proofs.Lookups.{looked_up, plain_read, reading_keeps}
 use Rattle.vault_store.proofs.Replies.{no_bytes, said_unplaced}
-use Rattle.vault_store.proofs.Turns.{HasDrawn, IsCome, come_undrawn, refused_reply, told_path, told_path_is}
+use Rattle.vault_store.proofs.Turns.{IsCome, come_undrawn, draws_made, refused_reply, told_path, told_path_is}
 use Rattle.vault_store.proofs.Waiting.{over, refused_outcome, same_over, told_shown}
 
 -- a store of a vault that runs
@@ -85,7 +85,7 @@ module _ (keys keys' : KeyPair) (live live' : HeldTree) (claims claims' : List (
       cause = cause;
       unstopped = unstopped;
       may_draw = come.may_draw;
-      drawn = changed_by source.drawn source'.drawn (HasDrawn None) (Draws (made reply failed)) (λ a b h. record { more = h.more; on = h.on; identifier = h.identifier }) come.drawn_is;
+      drawn = draws_made (made reply failed) source.drawn source'.drawn come.unspent come.drawn_is;
       taken = told_path_is (disk_in amid.log) path_on None;
     }
 
@@ -178,7 +178,7 @@ module _ (keys keys' : KeyPair) (live live' : HeldTree) (claims claims' : List (
       Puts x y = HasPut s request second (says (plain_reply reply)) live live' claims claims' waiting waiting' x y
 
       come_after : IsCome keys keys' after after source source' request None
-      come_after = record { keys_are = come.keys_are; folder = omega arith; entropy = come.entropy; may_draw = come.may_draw; drawn_is = come.drawn_is }
+      come_after = record { keys_are = come.keys_are; folder = omega arith; entropy = come.entropy; may_draw = come.may_draw; drawn_is = come.drawn_is; unspent = come.unspent }
 
       put_flushed : (x y : Log) → before.log ≡ Some x → after.log ≡ Some y → IsFlush waiting x y → IsFlushed old (waits_in keys live claims [] entries) before after
       put_flushed x y was is flush = record {
@@ -231,7 +231,7 @@ module _ (keys keys' : KeyPair) (live live' : HeldTree) (claims claims' : List (
   Comes result buffer = IsOutcome (waits_in keys live claims waiting entries) (waits_in keys' live' claims' waiting' entries) before after source source' request second result buffer buffer
 
   come_over : IsCome keys keys' (over waiting before) (over waiting' after) source source' request None
-  come_over = record { keys_are = come.keys_are; folder = come.folder; entropy = come.entropy; may_draw = come.may_draw; drawn_is = come.drawn_is }
+  come_over = record { keys_are = come.keys_are; folder = come.folder; entropy = come.entropy; may_draw = come.may_draw; drawn_is = come.drawn_is; unspent = come.unspent }
 
   unchanged_over : IsUnchanged live live' claims claims' before.log after.log → Told before.log (λ log. waiting' ≡ waiting) → IsUnchanged live live' claims claims' (over waiting before).log (over waiting' after).log
   unchanged_over same waits = record { live = same.live; claims = same.claims; log = same_over waiting waiting' before.log after.log same.log waits }

@@ -1,6 +1,7 @@
 -- The turns of a store that runs: what a request came to.
 use Rattle.std.proofs.Common.{◌≡◌, ℕ, suc, ◌≤◌, List, [], ◌++◌, Bool, true, false, Option, Some, None, IsSome, IsErr, Result, Ok, Err, refl, sym, ap, subst, ◌∙◌, inl, inr, arith}
 use Rattle.std.proofs.lemmas.List.{append-nil}
+use Rattle.std.proofs.lemmas.Option.{same_Some}
 use Rattle.outside.specs.Calls.{Changes, Rose, Told}
 use Rattle.outside.specs.Disk.{Disk, Path as HostPath}
 use Rattle.outside.specs.Images.{Log, disk_in, now}
@@ -80,6 +81,13 @@ draws is_dir drawn drew drew' is = go drew drew' is.first is.more
     go (Some x) None first more = absurd first
     go (Some x) (Some y) first more = record { more = more.0; on = more.1; identifier = first }
 
+-- where an identifier may be drawn and none is named, nothing was
+pub draws_made : (made : Made) (drew drew' : Option (List ℕ)) → (made.drawn ≡ None → MayDraw made.asked.request → drew' ≡ drew) → Changes drew drew' (HasDrawn made.drawn) → Changes drew drew' (Draws made)
+draws_made made None None unspent is = tt
+draws_made made None (Some y) unspent is = absurd is
+draws_made made (Some x) None unspent is = absurd is
+draws_made made (Some x) (Some y) unspent is = record { more = is.more; on = is.on; identifier = is.identifier; unspent = λ none may. same_Some y x (unspent none may) }
+
 -- ---- turns
 
 -- what each turn has
@@ -89,6 +97,7 @@ pub record IsCome (keys keys' : KeyPair) (before after : FolderView) (source sou
   pub entropy : source.faults ≤ source'.faults
   pub may_draw : IsSome drawn → MayDraw request
   pub drawn_is : Changes source.drawn source'.drawn (HasDrawn drawn)
+  pub unspent : drawn ≡ None → MayDraw request → source'.drawn ≡ source.drawn
 
 -- where nothing is drawn
 pub come_undrawn : (keys keys' : KeyPair) (before after : FolderView) (source : EntropyView) (request : PlainRequest) → keys' ≡ keys → before.faults ≤ after.faults
@@ -99,6 +108,7 @@ come_undrawn keys keys' before after source request same later = record {
   entropy = omega arith;
   may_draw = λ some. let no : false ≡ true = some in absurd cc;
   drawn_is = not_drawn source;
+  unspent = λ none may. refl;
 }
 
 module _ (keys keys' : KeyPair) (live live' : HeldTree) (claims claims' : List (List ℕ × ℕ)) (entries : ℕ) (before after : FolderView) (source source' : EntropyView) (request : PlainRequest) (second : ℕ) where
@@ -140,7 +150,7 @@ module _ (keys keys' : KeyPair) (live live' : HeldTree) (claims claims' : List (
     cause = cause;
     unstopped = unstopped;
     may_draw = come.may_draw;
-    drawn = changed_by source.drawn source'.drawn (HasDrawn drawn) (Draws (made reply bytes drawn taken failed)) (λ a b h. record { more = h.more; on = h.on; identifier = h.identifier }) come.drawn_is;
+    drawn = draws_made (made reply bytes drawn taken failed) source.drawn source'.drawn come.unspent come.drawn_is;
     taken = place;
   }
 

@@ -84,7 +84,7 @@ module _ (old new : StoreView) (before after : FolderView) (source source' : Ent
     unstopped = is.unstopped;
     may_draw = is.may_draw;
     drawn = changed_by source.drawn source'.drawn (Draws (made_of turn (over old.waiting before) (over new.waiting after) source source')) (Draws (made_of turn before after source source'))
-        (λ a b h. record { more = h.more; on = h.on; identifier = h.identifier }) is.drawn;
+        (λ a b h. record { more = h.more; on = h.on; identifier = h.identifier; unspent = h.unspent }) is.drawn;
     taken = taken_below before.log can is.taken;
   }
 

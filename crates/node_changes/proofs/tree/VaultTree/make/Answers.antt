@@ -12,7 +12,7 @@ use Rattle.name_places.specs.Asked.{IsTaken}
 use Rattle.name_places.specs.Asked.{identifier_in as drawn_in}
 use Rattle.node_changes.specs.Placed.{GoesOn, IsIdentifierOf}
 use Rattle.node_changes.specs.Creating.{DrawsHead, DrawsIf, IsPlaceRefusal, IsRefusal, IsUntaken, MakesOn, new_qid}
-use Rattle.node_changes.proofs.Draws.{stayed, no_draw, drew_directory, own_folder, header_drawn, head_changes, header_partly, cause_more, site_refused, random_refused, memory_refused, place_refused, untaken}
+use Rattle.node_changes.proofs.Draws.{no_draw, file_draw, drew_directory, own_folder, header_drawn, head_changes, header_partly, cause_more, site_refused, random_refused, memory_refused, place_refused, untaken}
 use Rattle.node_changes.proofs.tree.VaultTree.make.Goals as goal
 
 pub returns-in-Err-clause-refused : goal.returns-in-Err-clause-refused
@@ -23,7 +23,7 @@ returns-in-Err-clause-refused g c = λ mode.
     let drew = g.E.Entropy.drawn c.args.entropy.now in
     record {
       drawn = None;
-      draw = no_draw c.args.is_dir drew drew (stayed drew drew refl);
+      draw = no_draw c.args.is_dir drew drew refl;
       refused = told_always (disk_in (g.R.Reads.log c.args.folder.now)) (IsRefusal s asked c.args.now None c.in-Err.refusal old.live old.claims)
           (site_refused s old.live old.claims c.args.parent c.args.name.now c.args.is_dir mode c.args.now None c.in-Err.refusal c.in-Err.ensures.refusal (c.in-Err.ensures.cause c.args.is_dir mode));
     }
@@ -42,7 +42,7 @@ returns-in_default-clause-refused g c = λ mode.
     let drew' = g.E.Entropy.drawn c.draw_directory.new.entropy in
     record {
       drawn = None;
-      draw = no_draw c.args.is_dir drew drew' (stayed drew drew' c.in_default.ensures.unspent);
+      draw = no_draw c.args.is_dir drew drew' c.in_default.ensures.unspent;
       refused = told_always (disk_in (g.R.Reads.log c.args.folder.now)) (IsRefusal s asked c.args.now None refusals.RandomFault old.live old.claims)
           (random_refused old.keys c.entries_are_parts.ensures old.live old.claims c.args.parent c.in-Ok.site c.in-Ok.ensures.site c.len-count.ensures.tree c.args.name.now c.in-Ok.ensures.name c.args.is_dir mode c.args.now None);
     }
@@ -76,7 +76,7 @@ returns-in_default-draw_header-clause-refused g c = λ mode.
     let none = subst (λ (o : Option NewDirectory). DrawsIf c.args.self.now.keys c.args.is_dir o (g.E.Entropy.drawn c.args.entropy.now) (g.E.Entropy.drawn c.draw_directory.new.entropy)) c.in-None.is c.in-Ok-draw_directory.ensures.drawn in
     record {
       drawn = None;
-      draw = no_draw c.args.is_dir drew drew' (header_partly drew mid drew' none.1 c.in_default-draw_header.ensures.partly);
+      draw = file_draw c.args.is_dir drew drew' none.0 (header_partly drew mid drew' none.1 c.in_default-draw_header.ensures.partly);
       refused = told_always (disk_in (g.R.Reads.log c.args.folder.now)) (IsRefusal s asked c.args.now None refusals.RandomFault old.live old.claims)
           (random_refused old.keys c.entries_are_parts.ensures old.live old.claims c.args.parent c.in-Ok.site c.in-Ok.ensures.site c.len-count.ensures.tree c.args.name.now c.in-Ok.ensures.name c.args.is_dir mode c.args.now None);
     }
@@ -97,6 +97,7 @@ returns-in-Ok-make_directory-clause-ready g c = λ mode.
         directory = λ e. some.0;
         more = changed_by drew drew' (IsIdentifierOf c.in-Some.directory.identifier) GoesOn (λ before after it. (it.bytes ++ it.rest, it.drew ∙ append_assoc before it.bytes it.rest)) some.1.first;
         first = some.1.first;
+        unspent = λ e made. absurd cc;
       };
       makes = subst (λ (b : Bool). MakesOn (sealing_of c.args.self.now.keys) (create c.args.parent c.args.name.now b mode) c.args.now (says (qid (new_qid c.args.self.now.live b))) (Some c.in-Some.directory.identifier)
           c.args.self.now.live c.make_directory.new.self.live c.args.self.now.claims c.make_directory.new.self.claims (plains c.in-Ok-make_directory.deeds.items)) (sym some.0)
@@ -137,7 +138,7 @@ returns-in-Ok-make_file-clause-ready g c = λ mode.
     let made = c.in-Ok-make_file.ensures.deeds in
     record {
       drawn = None;
-      draw = no_draw c.args.is_dir drew drew' (head_changes old.keys drew drew' c.in-Ok-draw_header.header head);
+      draw = file_draw c.args.is_dir drew drew' none.0 (head_changes old.keys drew drew' c.in-Ok-draw_header.header head);
       makes = subst (λ (b : Bool). MakesOn (sealing_of c.args.self.now.keys) (create c.args.parent c.args.name.now b mode) c.args.now (says (qid (new_qid c.args.self.now.live b))) None
           c.args.self.now.live c.make_file.new.self.live c.args.self.now.claims c.make_file.new.self.claims (plains c.in-Ok-make_file.deeds.items)) (sym none.0)
           (c.in-Ok-make_file.ensures.makes c.args.name.now mode c.in-Ok.ensures.name);
@@ -159,7 +160,7 @@ returns-in-Err-make_file-clause-refused g c = λ mode.
     let none = subst (λ (o : Option NewDirectory). DrawsIf c.args.self.now.keys c.args.is_dir o (g.E.Entropy.drawn c.args.entropy.now) (g.E.Entropy.drawn c.draw_directory.new.entropy)) c.in-None.is c.in-Ok-draw_directory.ensures.drawn in
     record {
       drawn = None;
-      draw = no_draw c.args.is_dir drew drew' (header_partly drew mid drew' none.1 (head_changes old.keys mid drew' c.in-Ok-draw_header.header c.in-Ok-draw_header.ensures.drawn));
+      draw = file_draw c.args.is_dir drew drew' none.0 (header_partly drew mid drew' none.1 (head_changes old.keys mid drew' c.in-Ok-draw_header.header c.in-Ok-draw_header.ensures.drawn));
       refused = told_always (disk_in (g.R.Reads.log c.args.folder.now)) (IsRefusal s asked c.args.now None refusals.OutOfMemory old.live old.claims)
           (memory_refused old.keys c.entries_are_parts.ensures old.live old.claims c.args.parent c.in-Ok.site c.in-Ok.ensures.site c.len-count.ensures.tree c.args.name.now c.in-Ok.ensures.name c.args.is_dir mode c.args.now None);
     }

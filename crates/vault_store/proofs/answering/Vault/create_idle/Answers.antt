@@ -19,7 +19,7 @@ returns-in-Ok-clause-outcome g c = λ entries mode buffer.
     subst (λ (d : g.row.D.Denot). IsWork (view_of c.args.self.now.tree [] entries None) (view_of c.create.new.self [] entries None) (folder_view g.D.Reads.log g.D.Reads.faults g.D.Reads.changes d) after source source' request c.args.now (Ok (replies.Qid c.in-Ok.qid)) buffer buffer) c.journal.ensures.journal
     (changed_reply c.args.self.now.tree.keys c.create.new.self.keys c.args.self.now.tree.live c.create.new.self.live c.args.self.now.tree.claims c.create.new.self.claims entries before after source source' request c.args.now
     came.drawn (replies.Qid c.in-Ok.qid) buffer
-    (record { keys_are = c.in-Ok.ensures.keys; folder = c.in-Ok.ensures.later; entropy = c.in-Ok.ensures.entropy; may_draw = came.draw.directory; drawn_is = draws c.args.is_dir came.drawn source.drawn source'.drawn came.draw })
+    (record { keys_are = c.in-Ok.ensures.keys; folder = c.in-Ok.ensures.later; entropy = c.in-Ok.ensures.entropy; may_draw = came.draw.directory; drawn_is = draws c.args.is_dir came.drawn source.drawn source'.drawn came.draw; unspent = came.draw.unspent })
     refl refl tt (record { form = tt; count = tt; enters = refl; rest = refl }) refl
     (untaken_created c.args.self.now.tree.keys request c.args.now (says (qid c.in-Ok.qid)) came.drawn c.args.self.now.tree.live c.create.new.self.live c.args.self.now.tree.claims c.create.new.self.claims source.drawn source'.drawn before.log after.log came.changed)
     (changes_created c.args.self.now.tree.keys request c.args.now (says (qid c.in-Ok.qid)) came.drawn c.args.self.now.tree.live c.create.new.self.live c.args.self.now.tree.claims c.create.new.self.claims source.drawn source'.drawn before.log after.log came.changed))
@@ -35,7 +35,7 @@ returns-in-Err-clause-outcome g c = λ entries mode buffer.
     subst (λ (d : g.row.D.Denot). IsWork (view_of c.args.self.now.tree [] entries None) (view_of c.create.new.self [] entries None) (folder_view g.D.Reads.log g.D.Reads.faults g.D.Reads.changes d) after source source' request c.args.now c.refused.result buffer buffer) c.journal.ensures.journal
     (change_err c.args.self.now.tree.keys c.create.new.self.keys c.args.self.now.tree.live c.create.new.self.live c.args.self.now.tree.claims c.create.new.self.claims entries before after source source' request c.args.now
     came.drawn c.in-Err.error c.refused.result buffer c.refused.ensures.refused c.refused.ensures.broken
-    (record { keys_are = c.in-Err.ensures.keys; folder = c.in-Err.ensures.later; entropy = c.in-Err.ensures.entropy; may_draw = came.draw.directory; drawn_is = draws c.args.is_dir came.drawn source.drawn source'.drawn came.draw })
+    (record { keys_are = c.in-Err.ensures.keys; folder = c.in-Err.ensures.later; entropy = c.in-Err.ensures.entropy; may_draw = came.draw.directory; drawn_is = draws c.args.is_dir came.drawn source.drawn source'.drawn came.draw; unspent = came.draw.unspent })
     c.in-Err.ensures.unchanged (c.in-Err.ensures.cause mode)
     (always_placed c.args.self.now.tree.keys c.create.new.self.keys c.args.self.now.tree.live c.create.new.self.live c.args.self.now.tree.claims c.create.new.self.claims entries before after source source' request c.args.now
     came.drawn (λ rows. refl)) came.refused tt came.broken)

@@ -24,7 +24,7 @@ returns-in-Ok-clause-outcome g c = λ entries buffer asked same planned.
     (change_resizes (sealing_of tree.keys) tree.live tree.claims c.args.number c.args.len c.args.now asked sizes planned) in
     subst (λ (d : g.row.D.Denot). IsWork (view_of c.args.self.now.tree [] entries None) (view_of new [] entries None) (folder_view g.D.Reads.log g.D.Reads.faults g.D.Reads.changes d) after source source' request c.args.now (Ok (replies.Done)) buffer buffer) c.journal.ensures.journal
     (content_reply tree.keys new.keys tree.live new.live tree.claims new.claims entries before after source source' request c.args.now
-    (come_drawing tree.keys new.keys before after source source' request c.in-Ok.ensures.keys c.in-Ok.ensures.later c.in-Ok.ensures.entropy c.in-Ok.ensures.drawn)
+    (come_drawing tree.keys new.keys before after source source' request c.in-Ok.ensures.keys c.in-Ok.ensures.later c.in-Ok.ensures.entropy c.in-Ok.ensures.drawn (λ no. no))
     replies.Done buffer (record { form = tt; count = tt; enters = refl; rest = refl }) refl (resize_unplaced (sealing_of tree.keys) tree.live tree.claims c.args.number c.args.len asked sizes planned) refl tt refl
     (c.in-Ok.ensures.changed request (says done) resizing))
 
@@ -42,6 +42,6 @@ returns-in-Err-clause-outcome g c = λ entries buffer asked same planned.
     (change_resizes (sealing_of tree.keys) tree.live tree.claims c.args.number c.args.len c.args.now asked sizes planned) in
     subst (λ (d : g.row.D.Denot). IsWork (view_of c.args.self.now.tree [] entries None) (view_of new [] entries None) (folder_view g.D.Reads.log g.D.Reads.faults g.D.Reads.changes d) after source source' request c.args.now c.refused.result buffer buffer) c.journal.ensures.journal
     (content_err tree.keys new.keys tree.live new.live tree.claims new.claims entries before after source source' request c.args.now
-    (come_drawing tree.keys new.keys before after source source' request c.in-Err.ensures.keys c.in-Err.ensures.later c.in-Err.ensures.entropy c.in-Err.ensures.drawn)
+    (come_drawing tree.keys new.keys before after source source' request c.in-Err.ensures.keys c.in-Err.ensures.later c.in-Err.ensures.entropy c.in-Err.ensures.drawn (λ no. no))
     c.in-Err.error c.refused.result buffer c.refused.ensures.refused c.refused.ensures.broken c.in-Err.ensures.unchanged (c.in-Err.ensures.cause request) c.in-Err.ensures.own
     (c.in-Err.ensures.refused request (says done) resizing) tt (c.in-Err.ensures.broken request (says done) resizing))

@@ -43,7 +43,7 @@ returns-in-Ok-clause-outcome g c = λ entries buffer.
     c.have_sizes.ensures c.requires.cuts c.in_default.ensures.allowed c.in_default.ensures.refusal c.changed_qid-qid.ensures in
     written tree.keys new.keys tree.live new.live tree.claims new.claims back.waiting c.truncate.new.back.waiting entries before after source source' request c.args.now
     (replies.Qid result) buffer (record { form = tt; count = tt; enters = refl; rest = refl }) refl refl refl refl (λ made. tt) (λ rows. refl)
-    (come_drawing tree.keys new.keys before after source source' request c.in-Ok.ensures.keys c.in-Ok.ensures.later c.in-Ok.ensures.entropy c.in-Ok.ensures.drawn)
+    (come_drawing tree.keys new.keys before after source source' request c.in-Ok.ensures.keys c.in-Ok.ensures.later c.in-Ok.ensures.entropy c.in-Ok.ensures.drawn (λ no. no))
     (c.in-Ok.ensures.put request (says (qid result)) resizing)
 
 pub returns-in-Err-clause-outcome : goal.returns-in-Err-clause-outcome
@@ -61,7 +61,7 @@ returns-in-Err-clause-outcome g c = λ entries buffer.
     let resizing = truncation_here tree.keys c.keys.result.now tree.live c.live.result.now c.live-2.result.now tree.claims c.args.number c.args.mode c.args.now result c.keys.ensures c.live.ensures c.live-2.ensures
     c.have_sizes.ensures c.requires.cuts c.in_default.ensures.allowed c.in_default.ensures.refusal c.changed_qid-qid.ensures in
     put_err tree.keys new.keys tree.live new.live tree.claims new.claims back.waiting c.truncate.new.back.waiting entries before after source source' request c.args.now
-    (come_drawing tree.keys new.keys before after source source' request c.in-Err.ensures.keys c.in-Err.ensures.later c.in-Err.ensures.entropy c.in-Err.ensures.drawn)
+    (come_drawing tree.keys new.keys before after source source' request c.in-Err.ensures.keys c.in-Err.ensures.later c.in-Err.ensures.entropy c.in-Err.ensures.drawn (λ no. no))
     (rest_waits (sealing_of tree.keys) tree.live tree.claims back.waiting before.log c.requires.rest)
     c.in-Err.error c.refused.result buffer c.refused.ensures.refused c.refused.ensures.broken c.in-Err.ensures.unchanged c.in-Err.ensures.waiting (c.in-Err.ensures.cause request) c.in-Err.ensures.own
     (c.in-Err.ensures.refused request answer resizing) c.requires.cuts (c.in-Err.ensures.broken request answer resizing)

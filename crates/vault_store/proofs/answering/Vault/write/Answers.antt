@@ -54,7 +54,7 @@ returns-in-Ok-clause-outcome g c = λ entries buffer.
     let request = write c.args.number c.args.at c.args.bytes.now in
     written tree.keys new.keys tree.live new.live tree.claims new.claims back.waiting c.write.new.back.waiting entries before after source source' request c.args.now
     (replies.Count _) buffer (record { form = refl; count = tt; enters = refl; rest = refl }) refl refl refl refl (λ made. tt) (λ rows. refl)
-    (come_drawing tree.keys new.keys before after source source' request c.in-Ok.ensures.keys c.in-Ok.ensures.later c.in-Ok.ensures.entropy c.in-Ok.ensures.drawn)
+    (come_drawing tree.keys new.keys before after source source' request c.in-Ok.ensures.keys c.in-Ok.ensures.later c.in-Ok.ensures.entropy c.in-Ok.ensures.drawn (λ no. no))
     c.in-Ok.ensures.put
 
 pub returns-in-Err-clause-outcome : goal.returns-in-Err-clause-outcome
@@ -68,6 +68,6 @@ returns-in-Err-clause-outcome g c = λ entries buffer.
     let source' = entropy_view g.E.Entropy.drawn g.E.Entropy.faults c.write.new.entropy in
     let request = write c.args.number c.args.at c.args.bytes.now in
     put_err tree.keys new.keys tree.live new.live tree.claims new.claims back.waiting c.write.new.back.waiting entries before after source source' request c.args.now
-    (come_drawing tree.keys new.keys before after source source' request c.in-Err.ensures.keys c.in-Err.ensures.later c.in-Err.ensures.entropy c.in-Err.ensures.drawn)
+    (come_drawing tree.keys new.keys before after source source' request c.in-Err.ensures.keys c.in-Err.ensures.later c.in-Err.ensures.entropy c.in-Err.ensures.drawn (λ no. no))
     (rest_waits (sealing_of tree.keys) tree.live tree.claims back.waiting before.log c.requires.rest)
     c.in-Err.error c.refused.result buffer c.refused.ensures.refused c.refused.ensures.broken c.in-Err.ensures.unchanged c.in-Err.ensures.waiting c.in-Err.ensures.cause c.in-Err.ensures.own c.in-Err.ensures.refused tt c.in-Err.ensures.broken
