@@ -13,7 +13,7 @@ use outside::Folder;
 use vault_path::VaultPath;
 
 /// As many bytes are written at once.
-const PIECE_LEN: usize = 16384;
+const PIECE_LEN: usize = 65536;
 
 /// Writes the batch behind the closed gate, piece by piece.
 fn write_pieces<D: Folder>(

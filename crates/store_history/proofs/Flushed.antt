@@ -23,7 +23,8 @@ use Rattle.store_history.specs.Store.{StoreView, HasRows, IsStoredIn, IsStoreOf,
 use Rattle.store_history.specs.Turns.{AddsEntry, FlushedTurnsAdd, FlushesStand, IsFlushed}
 use Rattle.store_history.proofs.Alike.{for_alike, looks_beside, looks_through}
 use Rattle.store_history.proofs.Placed.{grows_on, goes_later, leaves_go_on, places_go_on, read_then}
-use Rattle.store_history.proofs.Shows.{shows_blind, stands_beside}
+use Rattle.node_changes.proofs.Beside.{stands_beside}
+use Rattle.store_history.proofs.Shows.{shows_blind}
 use Rattle.store_history.proofs.Turns.{moments_rise, none_back}
 
 -- a store none of whose commits failed runs
