@@ -1,11 +1,11 @@
 -- One write after another, and a write before what was written.
 use Rattle.std.proofs.Common.{◌≡◌, ℕ, ◌+◌, ◌<◌, ◌≤◌, List, [], ◌∷◌, ◌++◌, length, get_or, take, drop, sym, ap, subst, ◌∙◌, append_assoc, arith}
-use Rattle.std.specs.List.{flat_map}
+use Rattle.std.specs.List.{flat_map, AllByRecursion}
 use Rattle.std.proofs.lemmas.List.{take_at, drop_at, take-append-drop, length-append, length-take, length-drop, drop-drop, append-nil, take_more}
 use Rattle.std.proofs.lemmas.List.Concat.{flat_map-cons, flat_map-append}
 use Rattle.std.proofs.lemmas.Slice.{drop-append-drop}
 use Rattle.tree_model.specs.declared.stat.Qid.{Qid}
-use Rattle.tree_model.specs.Wire.{qid}
+use Rattle.tree_model.specs.Wire.{qid, IsQid}
 use Rattle.ninep_wire.specs.Writing.{Wrote}
 
 -- where a text ends
@@ -82,3 +82,10 @@ Wrote-more {a} {b} {c} {i} {j} {k} qids n d lt p q =
     let more : flat_map qid (take (n + 1) qids) ≡ flat_map qid (take n qids) ++ qid (get_or qids n d) = ap (flat_map qid) (take_more qids n d lt) ∙
     flat_map-append qid (take n qids) (get_or qids n d ∷ []) ∙ ap (λ (w : List ℕ). flat_map qid (take n qids) ++ w) one in
     subst (λ (w : List ℕ). Wrote a c i k w) (sym more) (Wrote-then p q)
+
+all_snoc : (qids : List Qid) (q : Qid) → AllByRecursion IsQid qids → IsQid q → AllByRecursion IsQid (qids ++ q ∷ [])
+all_snoc [] q all is = (is, tt)
+all_snoc (p ∷ qids) q all is = (all.0, all_snoc qids q all.1 is)
+
+pub all_more : (qids : List Qid) (n : ℕ) (d : Qid) → n < length qids → AllByRecursion IsQid (take n qids) → IsQid (get_or qids n d) → AllByRecursion IsQid (take (n + 1) qids)
+all_more qids n d lt all is = subst (AllByRecursion IsQid) (sym (take_more qids n d lt)) (all_snoc (take n qids) (get_or qids n d) all is)

@@ -1,9 +1,10 @@
 //! Writing R-messages and stats into a buffer.
 
 ghost use Rattle.std.specs.Prelude.{◌≡◌, ℕ, ◌+◌, ◌*◌, ◌<◌, ◌≤◌, ◌^◌, List, ◌++◌, length, take, drop};
-ghost use Rattle.std.specs.List.{flat_map};
-ghost use Rattle.tree_model.specs.Wire.{number, string, qid, plain_stat, stat_fields, spelled_stat};
-ghost use Rattle.ninep_wire.specs.RMessage.{r_kind, r_fields, spelled_r};
+ghost use Rattle.std.specs.List.{flat_map, AllByRecursion};
+ghost use Rattle.tree_model.specs.Wire.{number, string, IsString, qid, IsQid, plain_stat, stat_fields, spelled_stat};
+ghost use Rattle.ninep_wire.specs.RMessage.{r_kind, r_fields, spelled_r, HasRFields, IsRMessage};
+ghost use Rattle.ninep_wire.specs.Stat.{IsStat};
 ghost use Rattle.ninep_wire.specs.Plain.{plain_r};
 ghost use Rattle.ninep_wire.specs.Writing.{HasForm, r_size, stat_size, Wrote};
 
@@ -38,7 +39,8 @@ fn kind_of(reply: &RMessage<'_>) -> u8
 fn put_version(out: &mut [u8], msize: u32, version: &str) -> usize
     requires text { length version.now < 2 ^ 16 }
     requires room { 13 + length version.now ≤ length out.old }
-    ensures { Wrote out.old out.new HEADER result (number 4 msize ++ string version.now) }
+    ensures bytes { Wrote out.old out.new HEADER result (number 4 msize ++ string version.now) }
+    ensures formed { (msize < 2 ^ 32) × IsString version.now }
 {
     let at = put_u32(out, HEADER, msize);
     put_string(out, at, version)
@@ -49,6 +51,7 @@ fn put_walk(out: &mut [u8], qids: &[Qid]) -> usize
     requires room { 9 + 13 * length qids.now ≤ length out.old }
     ensures bytes { Wrote out.old out.new HEADER result (number 2 (length qids.now) ++ flat_map qid qids.now) }
     ensures count { result ≡ 9 + 13 * length qids.now }
+    ensures formed { AllByRecursion IsQid qids.now }
 {
     let at = put_u16(out, HEADER, qids.len() as u16);
     put_qids(out, at, qids)
@@ -56,7 +59,8 @@ fn put_walk(out: &mut [u8], qids: &[Qid]) -> usize
 
 fn put_open(out: &mut [u8], opened: &Qid, iounit: u32) -> usize
     requires { 24 ≤ length out.old }
-    ensures { Wrote out.old out.new HEADER result (qid opened.now ++ number 4 iounit) }
+    ensures bytes { Wrote out.old out.new HEADER result (qid opened.now ++ number 4 iounit) }
+    ensures formed { IsQid opened.now × (iounit < 2 ^ 32) }
 {
     let at = put_qid(out, HEADER, opened);
     put_u32(out, at, iounit)
@@ -67,6 +71,7 @@ fn put_read(out: &mut [u8], count: u32) -> usize
     requires { 11 + count ≤ length out.old }
     ensures bytes { Wrote out.old out.new HEADER result (number 4 count ++ take count (drop 11 out.old)) }
     ensures count { result ≡ 11 + count }
+    ensures formed { count < 2 ^ 32 }
 {
     let at = put_u32(out, HEADER, count);
     at + count as usize
@@ -77,6 +82,7 @@ fn put_stat(out: &mut [u8], count: u16) -> usize
     requires { 9 + count ≤ length out.old }
     ensures bytes { Wrote out.old out.new HEADER result (number 2 count ++ take count (drop 9 out.old)) }
     ensures count { result ≡ 9 + count }
+    ensures formed { count < 2 ^ 16 }
 {
     let at = put_u16(out, HEADER, count);
     at + usize::from(count)
@@ -88,6 +94,7 @@ fn put_fields(reply: &RMessage<'_>, out: &mut [u8]) -> usize
     requires room { r_size reply.now ≤ length out.old }
     ensures bytes { Wrote out.old out.new HEADER result (r_fields (plain_r reply.now out.old)) }
     ensures count { result ≡ r_size reply.now }
+    ensures formed { HasRFields (plain_r reply.now out.old) }
     ensures small { result < 2 ^ 32 }
 {
     match reply {
@@ -122,6 +129,7 @@ pub fn write_reply(reply: &RMessage<'_>, tag: u16, out: &mut [u8]) -> usize
     requires room { r_size reply.now ≤ length out.old }
     ensures size { result ≡ r_size reply.now }
     ensures bytes { out.new ≡ spelled_r tag (plain_r reply.now out.old) ++ drop result out.old }
+    ensures formed { IsRMessage tag (plain_r reply.now out.old) }
 {
     let size = put_fields(reply, out);
     put_header(out, size as u32, kind_of(reply), tag);
@@ -131,7 +139,9 @@ pub fn write_reply(reply: &RMessage<'_>, tag: u16, out: &mut [u8]) -> usize
 /// The fields of a stat before its names.
 fn put_numbers(stat: &Stat<'_>, out: &mut [u8], at: usize) -> usize
     requires { at + 39 ≤ length out.old }
-    ensures { Wrote out.old out.new at result (number 2 stat.now.kind ++ number 4 stat.now.device ++ qid stat.now.qid ++ number 4 stat.now.mode ++ number 4 stat.now.accessed ++ number 4 stat.now.modified ++ number 8 stat.now.length) }
+    ensures formed { (stat.now.kind < 2 ^ 16) × (stat.now.device < 2 ^ 32) × IsQid stat.now.qid × (stat.now.mode < 2 ^ 32) × (stat.now.accessed < 2 ^ 32)
+        × (stat.now.modified < 2 ^ 32) × (stat.now.length < 2 ^ 64) }
+    ensures bytes { Wrote out.old out.new at result (number 2 stat.now.kind ++ number 4 stat.now.device ++ qid stat.now.qid ++ number 4 stat.now.mode ++ number 4 stat.now.accessed ++ number 4 stat.now.modified ++ number 8 stat.now.length) }
 {
     let at = put_u16(out, at, stat.kind);
     let at = put_u32(out, at, stat.device);
@@ -148,6 +158,7 @@ fn put_stat_fields(stat: &Stat<'_>, out: &mut [u8]) -> usize
     requires room { stat_size stat.now + 2 ≤ length out.old }
     ensures bytes { Wrote out.old out.new 2 result (stat_fields (plain_stat stat.now)) }
     ensures count { result ≡ stat_size stat.now + 2 }
+    ensures formed { IsStat (plain_stat stat.now) }
 {
     let at = put_numbers(stat, out, 2);
     let at = put_string(out, at, stat.name);
@@ -162,6 +173,7 @@ pub fn write_stat(stat: &Stat<'_>, out: &mut [u8]) -> usize
     requires room { stat_size stat.now + 2 ≤ length out.old }
     ensures size { result ≡ stat_size stat.now + 2 }
     ensures bytes { out.new ≡ spelled_stat (plain_stat stat.now) ++ drop result out.old }
+    ensures formed { IsStat (plain_stat stat.now) }
 {
     let end = put_stat_fields(stat, out);
     put_u16(out, 0, (end - 2) as u16);

@@ -5,17 +5,20 @@ use borrow.Rule.Slice.PartMut.{put_mid, post_of}
 use Rattle.tree_model.specs.Asked.{PlainRequest, Asked}
 use Rattle.ninep_wire.specs.declared.fault.WireErr.{WireErr}
 use Rattle.ninep_wire.specs.TMessage.{PlainMessage}
-use Rattle.ninep_wire.specs.RMessage.{PlainRMessage, spelled_r}
+use Rattle.ninep_wire.specs.RMessage.{PlainRMessage, spelled_r, IsRMessage}
 use Rattle.ninep_wire.specs.Reading.{message_in}
-use Rattle.session_core.specs.State.{State}
+use Rattle.session_core.specs.State.{State, limit}
 use Rattle.session_core.specs.Action.{Action, says, asks, action_of}
 use Rattle.session_core.specs.Outcome.{outcome, outcome_of}
 use Rattle.session_core.specs.Session.{action_on, IsDone, tag_at, Exchanged}
 
 pub said : (s next : State) (frame : List ℕ) (given : Result PlainMessage WireErr) (second : ℕ) (out : List ℕ) (tag : ℕ) (answer : PlainRMessage)
-    → message_in frame ≡ given → action_on s given ≡ says answer next → tag ≡ tag_at frame → out ≡ spelled_r tag answer → Exchanged s frame second None out next
-said s next frame given second out tag answer read acts same h = record {
+    → message_in frame ≡ given → action_on s given ≡ says answer next → tag ≡ tag_at frame → IsRMessage tag answer → out ≡ spelled_r tag answer → length out ≤ limit next
+    → Exchanged s frame second None out next
+said s next frame given second out tag answer read acts same formed h fits = record {
   answer = answer;
+  formed = subst (λ (k : ℕ). IsRMessage k answer) same formed;
+  fits = fits;
   spelled = h ∙ ap (λ (k : ℕ). spelled_r k answer) same;
   is_done = subst (λ (g : Result PlainMessage WireErr). IsDone (action_on s g) s g second None answer next) (sym read)
       (subst (λ (a : Action). IsDone a s given second None answer next) (sym acts) (refl, refl, refl));
@@ -23,14 +26,20 @@ said s next frame given second out tag answer read acts same h = record {
 
 pub asked_for : (s next : State) (frame : List ℕ) (m : PlainMessage) (second : ℕ) (out : List ℕ) (tag : ℕ) (answer : PlainRMessage) (request : PlainRequest) (entry : Asked)
     → message_in frame ≡ Ok m → action_of s m.body ≡ asks request → entry.request ≡ request → entry.second ≡ second → outcome_of s m.body entry.reply entry.bytes ≡ outcome answer next
-    → tag ≡ tag_at frame → out ≡ spelled_r tag answer → Exchanged s frame second (Some entry) out next
-asked_for s next frame m second out tag answer request entry read acts asked at follows same h =
+    → tag ≡ tag_at frame → IsRMessage tag answer → out ≡ spelled_r tag answer → length out ≤ limit next → Exchanged s frame second (Some entry) out next
+asked_for s next frame m second out tag answer request entry read acts asked at follows same formed h fits =
     let given : Result PlainMessage WireErr = Ok m in record {
       answer = answer;
+      formed = subst (λ (k : ℕ). IsRMessage k answer) same formed;
+      fits = fits;
       spelled = h ∙ ap (λ (k : ℕ). spelled_r k answer) same;
       is_done = subst (λ (g : Result PlainMessage WireErr). IsDone (action_on s g) s g second (Some entry) answer next) (sym read)
           (subst (λ (a : Action). IsDone a s given second (Some entry) answer next) (sym acts) (entry, refl, asked, at, follows));
     }
+
+-- the first so many bytes are no more than that
+pub within : (n most : ℕ) (out : List ℕ) → n ≤ most → length (take n out) ≤ most
+within n most out le = omega (arith, length-take n out)
 
 -- the end of a list from an offset on, after it was written
 pub put_end : (a : ℕ) (xs ys : List ℕ) → a ≤ length xs → drop a (put_mid a (length xs - a) xs ys) ≡ ys

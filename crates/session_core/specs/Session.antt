@@ -1,14 +1,14 @@
 -- One message of a session and its answer (section 5 of the Plan 9 manual).
-use Rattle.std.specs.Prelude.{◌≡◌, ℕ, List, drop, Option, Some, None, Result, Ok, Err}
+use Rattle.std.specs.Prelude.{◌≡◌, ℕ, ◌≤◌, List, length, drop, Option, Some, None, Result, Ok, Err}
 use Rattle.std.specs.Option.{option_to_list}
 use Rattle.byteorder.specs.Endian.{little_number}
 use Rattle.tree_model.specs.Asked.{Asked, Extends}
 use Rattle.ninep_wire.specs.declared.fault.WireErr.{WireErr}
 use Rattle.ninep_wire.specs.declared.fault.WireErr.TheVariants.{Kind}
 use Rattle.ninep_wire.specs.TMessage.{PlainMessage}
-use Rattle.ninep_wire.specs.RMessage.{PlainRMessage, spelled_r}
+use Rattle.ninep_wire.specs.RMessage.{PlainRMessage, spelled_r, IsRMessage}
 use Rattle.ninep_wire.specs.Reading.{message_in}
-use Rattle.session_core.specs.State.{State}
+use Rattle.session_core.specs.State.{State, limit}
 use Rattle.session_core.specs.Action.{Action, says, asks, refuses, action_of}
 use Rattle.session_core.specs.Outcome.{Outcome, outcome, outcome_of}
 use Rattle.session_core.specs.Texts as texts
@@ -35,11 +35,13 @@ IsDone (asks request) s given second asked answer next =
 abbrev pub tag_at : List ℕ → ℕ
 tag_at frame = little_number 2 (drop 5 frame)
 
--- A frame is answered at a second by these bytes, which are one R-message with the frame's own tag, after at most one request, and the
--- session is the next.
+-- A frame is answered at a second by these bytes, which are one R-message of at most the agreed size with the frame's own tag, after at
+-- most one request, and the session is the next.
 pub record Exchanged (s : State) (frame : List ℕ) (second : ℕ) (asked : Option Asked) (out : List ℕ) (next : State) : Type 0 where
   pub answer : PlainRMessage
+  pub formed : IsRMessage (tag_at frame) answer
   pub spelled : out ≡ spelled_r (tag_at frame) answer
+  pub fits : length out ≤ limit next
   pub is_done : IsDone (action_on s (message_in frame)) s (message_in frame) second asked answer next
 
 -- what a session has done on a frame, and what it asked an object for it

@@ -40,7 +40,7 @@ least_message = 2048
 abbrev pub most_message : ℕ
 most_message = 65560
 
--- how many bytes of a message a read or a write leaves to its header (IOHDRSZ, iounit of open(5))
+-- how many bytes of the agreed size a read leaves to its header (IOHDRSZ, and iounit of open(5))
 abbrev pub header_room : ℕ
 header_room = 24
 

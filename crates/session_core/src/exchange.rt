@@ -2,7 +2,7 @@
 
 ghost use Rattle.std.specs.Prelude.{◌≡◌, ℕ, ◌≤◌, [], ◌∷◌, List, length, take, drop};
 ghost use Rattle.tree_model.specs.Asked.{Extends, count_limit, CanAsk, IsReplyTo, HasCount, plain_request, plain_reply, asked_of, bytes_put};
-ghost use Rattle.ninep_wire.specs.RMessage.{PlainRMessage, error, spelled_r};
+ghost use Rattle.ninep_wire.specs.RMessage.{PlainRMessage, error, spelled_r, IsRMessage};
 ghost use Rattle.ninep_wire.specs.Plain.{plain_t, plain_r, HasNames};
 ghost use Rattle.ninep_wire.specs.Reading.{IsFrame};
 ghost use Rattle.ninep_wire.specs.Writing.{HasForm, r_size};
@@ -53,6 +53,7 @@ fn write_message(message: &RMessage<'_>, tag: u16, out: &mut [u8]) -> usize
     requires form { HasForm message.now }
     requires room { r_size message.now ≤ length out.old }
     ensures bytes { take result out.new ≡ spelled_r tag (plain_r message.now out.old) }
+    ensures formed { IsRMessage tag (plain_r message.now out.old) }
     ensures size { result ≡ r_size message.now }
 {
     write_reply(message, tag, out)
@@ -61,6 +62,7 @@ fn write_message(message: &RMessage<'_>, tag: u16, out: &mut [u8]) -> usize
 fn write_error(denial: Denial, tag: u16, out: &mut [u8]) -> usize
     requires { most_message ≤ length out.old }
     ensures bytes { take result out.new ≡ spelled_r tag (error (denial_text denial)) }
+    ensures formed { IsRMessage tag (error (denial_text denial)) }
     ensures size { (7 ≤ result) × (result ≤ least_message) }
 {
     let message = RMessage::Error {
@@ -107,7 +109,7 @@ fn finish(
     requires room { most_message ≤ length out.old }
     requires answerable { (bytes : List ℕ) × IsAnswerable session.old (plain_t message.now) (plain_reply reply.now) out.old bytes }
     ensures answered { (bytes : List ℕ) → IsAnswerable session.old (plain_t message.now) (plain_reply reply.now) out.old bytes
-        → (answer : PlainRMessage) × (take result out.new ≡ spelled_r tag answer)
+        → (answer : PlainRMessage) × IsRMessage tag answer × (take result out.new ≡ spelled_r tag answer)
         × (outcome_of session.old (plain_t message.now) (plain_reply reply.now) bytes ≡ outcome answer session.new) }
     ensures size { (7 ≤ result) × (result ≤ limit session.new) }
     ensures good { HasGoodSize session.new }

@@ -58,7 +58,7 @@ fn answer_messages<L: Link, B: TreeObject, K: Clock>(
 }
 
 /// Serves one link until its session ends. Each answer is written whole before a byte of the next message is read, so a client
-/// that waits for an answer always gets it. The session's fids and two buffers of 65,560 bytes are taken at the start, and no
+/// may wait for each answer. The session's fids and two buffers of 65,560 bytes are taken at the start, and no
 /// memory after them; where it is refused, nothing was read. `clock` gives the seconds of the requests, since 1970-01-01.
 pub fn serve_session<L: Link, B: TreeObject, K: Clock>(
     alloc: Global,

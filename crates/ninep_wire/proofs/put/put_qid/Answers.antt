@@ -1,5 +1,5 @@
 use Rattle.ninep_wire.proofs.WroteLaws.{Wrote-then}
 use Rattle.ninep_wire.proofs.put.put_qid.Goals as goal
 
-pub returns : goal.returns
-returns c = Wrote-then (Wrote-then c.put_u8-at.ensures c.put_u32-at.ensures) c.put_u64.ensures
+pub returns-clause-bytes : goal.returns-clause-bytes
+returns-clause-bytes c = Wrote-then (Wrote-then c.put_u8-at.ensures.bytes c.put_u32-at.ensures.bytes) c.put_u64.ensures.bytes

@@ -4,4 +4,4 @@ use Rattle.ninep_wire.proofs.write.put_read.Goals as goal
 
 pub returns-clause-bytes : goal.returns-clause-bytes
 returns-clause-bytes c =
-    Wrote-and_stays c.put_u32-at.ensures (c.put_u32-at.result + c.args.count) 11 c.args.count (omega arith) (omega arith) (omega arith)
+    Wrote-and_stays c.put_u32-at.ensures.bytes (c.put_u32-at.result + c.args.count) 11 c.args.count (omega arith) (omega arith) (omega arith)
