@@ -21,7 +21,7 @@ use Rattle.siv_mode.specs.Keys.{KeyPair}
 use Rattle.json_members.specs.Members.{object_of, only_object}
 use Rattle.json_members.proofs.Objects.{object_of-read}
 use Rattle.json_members.specs.Steps.{result_and_then}
-use Rattle.masterkey_file.specs.KeyFile.{Fields, fields_in, is_good_cost, key_file, keys_in, keys_of, not_json, version_mac}
+use Rattle.masterkey_file.specs.KeyFile.{Fields, fields_in, is_good_cost, key_file, keys_in, keys_of, new_block_size, new_cost, new_parallelization, not_json, version_mac}
 use Rattle.masterkey_file.specs.Written.{value_of_texts}
 use Rattle.masterkey_file.proofs.Costs.{is_good_cost-unrefused}
 use Rattle.masterkey_file.proofs.Members.{fields_of-short, keys_of-fields}

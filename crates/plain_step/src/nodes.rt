@@ -52,7 +52,10 @@ pub(crate) fn change_dir(alloc: Global, rows: &Rows, number: u64, now: u32) -> R
     for row in &rows.nodes {
         let copy = copied_row(alloc, row)?;
         if row.number == number {
-            nodes.push(changed_at(now, copy)?)?;
+            match changed_at(now, copy) {
+                Ok(changed) => nodes.push(changed)?,
+                Err(error) => return Err(error),
+            }
         } else {
             nodes.push(copy)?;
         }
