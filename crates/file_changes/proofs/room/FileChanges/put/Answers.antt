@@ -1,4 +1,4 @@
-use Rattle.std.proofs.Common.{◌≡◌, ℕ, None, sym, ap, ◌∙◌, subst, arith, length}
+use Rattle.std.proofs.Common.{◌≡◌, ℕ, None, sym, ap, subst, arith, length}
 use Rattle.outside.specs.Calls.{Told}
 use Rattle.outside.proofs.Told.{told_then}
 use Rattle.chunk_journal.specs.Journal.{IsQuiet}
@@ -43,8 +43,8 @@ put-requires-clause-file g c =
     told_file_behind back.waiting c.make_room.new.back.waiting file.path file.size c.requires.inside log (g.D.Reads.log c.make_room.new.back.folder)
     (ready tree.keys tree.live tree.claims c.args.number file.size c.requires.file.0 c.requires.file.1 file.path c.requires.path c.requires.inside back.waiting log c.requires.rest) c.in_ok-make_room.ensures.flushed
 
-pub put_size-requires-clause-file : goal.put_size-requires-clause-file
-put_size-requires-clause-file g c = is_held_file c.args.tree.now.live c.args.number c.args.file.now.size c.requires.file.0 c.requires.file.1
+pub put_size-requires : goal.put_size-requires
+put_size-requires g c = record { file = is_held_file c.args.tree.now.live c.args.number c.args.file.now.size c.requires.file.0 c.requires.file.1 }
 
 pub returns-clause-written : goal.returns-clause-written
 returns-clause-written g c = λ change request answer drew drew' sealed its drawn.
@@ -56,7 +56,7 @@ returns-clause-written g c = λ change request answer drew drew' sealed its draw
     let same = same_rewriting r c.first.result c.size.result (chunks_of SEALED_LENGTH c.sealed.result.now) c.first.ensures c.sealed.ensures c.size.ensures in
     let behind = put_behind file.path file.size r _ back.waiting c.make_room.new.back.waiting c.put.new.self.waiting log (g.D.Reads.log c.make_room.new.back.folder) (g.D.Reads.log c.put.new.self.folder) same
     (ap (λ folder. g.D.Reads.log folder) c.put.ensures.folder) c.in_ok-make_room.ensures.flushed c.put.ensures.waiting c.put.ensures.waits c.put.ensures.rewritten in
-    let live_is = c.put_size.ensures.live ∙ ap (λ (size : ℕ). rewritten_tree tree.live c.args.number size None c.args.now) c.size.ensures in
+    let live_is = subst (λ (size : ℕ). c.put_size.new.tree.live ≡ rewritten_tree tree.live c.args.number size None c.args.now) c.size.ensures c.put_size.ensures.live in
     writes_put tree.keys tree.live tree.claims c.args.number file.size c.requires.file.0 c.requires.file.1 file.path c.requires.path c.requires.inside back.waiting log c.requires.rest r change sealed c.args.now
     c.put_size.new.tree.live c.put_size.new.tree.claims live_is c.put_size.ensures.claims c.put.new.self.waiting (g.D.Reads.log c.put.new.self.folder) behind request answer drew drew' its c.put_size.ensures.rows drawn
 
@@ -71,7 +71,7 @@ returns-clause-rest g c = λ change sealed.
     let same = same_rewriting r c.first.result c.size.result (chunks_of SEALED_LENGTH c.sealed.result.now) c.first.ensures c.sealed.ensures c.size.ensures in
     let behind = put_behind file.path file.size r _ back.waiting c.make_room.new.back.waiting c.put.new.self.waiting log (g.D.Reads.log c.make_room.new.back.folder) (g.D.Reads.log c.put.new.self.folder) same
     (ap (λ folder. g.D.Reads.log folder) c.put.ensures.folder) c.in_ok-make_room.ensures.flushed c.put.ensures.waiting c.put.ensures.waits c.put.ensures.rewritten in
-    let live_is = c.put_size.ensures.live ∙ ap (λ (size : ℕ). rewritten_tree tree.live c.args.number size None c.args.now) c.size.ensures in
+    let live_is = subst (λ (size : ℕ). c.put_size.new.tree.live ≡ rewritten_tree tree.live c.args.number size None c.args.now) c.size.ensures c.put_size.ensures.live in
     subst (λ (k : KeyPair). Told (g.D.Reads.log c.put.new.self.folder) (IsAtRestOver (sealing_of k) new.live new.claims c.put.new.self.waiting)) (sym c.put_size.ensures.keys)
     (rests_after tree.keys tree.live tree.claims c.args.number file.size c.requires.file.0 c.requires.file.1 file.path c.requires.path c.requires.inside back.waiting log c.requires.rest r change sealed c.args.now
     new.live new.claims live_is c.put_size.ensures.claims c.put.new.self.waiting (g.D.Reads.log c.put.new.self.folder) behind)
