@@ -4,3 +4,4 @@ pub mod Laying
 pub mod Stops
 pub mod First
 pub mod Made
+pub mod Drawing
