@@ -1,0 +1,4 @@
+pub mod Slices
+pub mod Places
+pub mod Lines
+pub mod Ordered

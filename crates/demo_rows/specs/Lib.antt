@@ -1,0 +1,4 @@
+pub mod Errors
+pub mod Left
+pub mod Reading
+pub mod Nodes
