@@ -39,9 +39,9 @@ pub served_all : {T D N C E : Type 0} (stands : T → Rows → Origin → List E
     → (rows : Rows) × (origin : Origin) × start rows origin × IsJoined stands draws_for views.listener views.entropy views.link second service.sessions at_once rows origin tree workers workers' counts
     → ((rows : Rows) (origin : Origin) (history : List Entry) → stands tree rows origin history → IsSharedStore views.folder since store rows origin history)
     → back.folder ≡ Some folder → (closing : Result (Unit {0}) Failed) → IsClosing views.folder store folder closing
-    → HasOutcome counts closing back.outcome
+    → HasOutcome counts closing back.outcome → back.entries ≡ store.store.entries
     → (ends : List SessionEnd) × HasServed start since views second service workers workers' ends back
-served_all stands start since views second service workers workers' tree store counts back folder at_once few (rows, origin, begins, j) right is closing closed outcome = (
+served_all stands start since views second service workers workers' tree store counts back folder at_once few (rows, origin, begins, j) right is closing closed outcome asked = (
   all_ends j.shares,
   inl (record {
     rows = rows;
@@ -67,6 +67,7 @@ served_all stands start since views second service workers workers' tree store c
     closing = closing;
     closed = closed;
     outcome = outcome;
+    asked = asked;
   }),
 )
 

@@ -13,3 +13,5 @@ pub mod Numbers
 pub mod Faults
 pub mod Soundness
 pub mod SoundMaking
+pub mod Demonstrations
+pub mod SoundDemo

@@ -22,13 +22,13 @@ use Rattle.vault_store.specs.Open.{OpenVault}
 use Rattle.vault_words.specs.Jobs.{Serving, serve, make}
 use Rattle.vault_causes.specs.declared.cause.Cause.{Cause}
 use Rattle.vault_causes.specs.declared.cause.Cause.TheVariants.{Words, Memory}
-use Rattle.vault_top.specs.Words.{Ask, AreRefused, kind_of, sharers}
+use Rattle.vault_top.specs.Words.{Ask, AreRefused, kind_of}
 use Rattle.vault_top.specs.Tasks.{IsServiceOf}
-use Rattle.vault_top.specs.Span.{Course, SourceView, SinkView, Views, WorkerSpan, worker_spans, given_of, span_of}
-use Rattle.vault_top.specs.Served.{AreShares}
+use Rattle.vault_top.specs.Span.{Course, SourceView, SinkView, Views, WorkerSpan, Span, worker_spans, given_of, span_of}
+use Rattle.vault_top.specs.Served.{AreShares, IsOnDisk}
 use Rattle.vault_top.specs.Sharing.{IsSharedStore, AreBeginnings, IsBegun, IsAlone}
 use Rattle.vault_top.specs.Opening.{IsUnlocked, IsUnopened, IsUnlockedStore}
-use Rattle.vault_top.specs.Ending.{Ending, refused, no_memory_to_serve, AreIdle, IsUntouched, IsMaking, DrawsAlone, IsServed, IsUnshared, Never, HasReason, IsReported, HasRun}
+use Rattle.vault_top.specs.Ending.{Ending, refused, no_memory_to_serve, AreIdle, IsUntouched, IsMaking, DrawsAlone, IsServed, IsServedTo, IsUnshared, Never, stopped_in, HasReason, IsReported, HasRun}
 use Rattle.vault_top.specs.Serving.{HasOutcome, HasServedAll, HasServed, HasServedVault, IsClosing, IsUnasked, MayEnd}
 use Rattle.vault_top.specs.declared.program.Ended.{Ended}
 use Rattle.vault_top.specs.declared.serving.HandedBack.{HandedBack}
@@ -91,13 +91,21 @@ clear_by : (kind : SecretKind) (folder : FolderView) (secret : SourceView) (seco
 clear_by kind folder secret second keys was rows begun =
     subst (λ (k : KeyPair). Told folder.log (λ log. IsFoundClear k (now log) begun.unlocked rows)) (sym begun.keys_are) begun.clear
 
-module _ {D N C E : Type 0} (start : Rows → Origin → Type 0) (since : FolderView → KeyPair → Rows → Type 0) (views : Views D N C E) (words : List (List ℕ)) (secret : Course SourceView) (second : Option ℕ) (folder : D) (serving : Serving) (service : Service)
-    (workers workers' : List (Worker N E)) (ends : List SessionEnd) (back : HandedBack D) (asked : Ask words (serve serving)) (same : IsServiceOf serving service)
+-- every worker served its share of a vault that was closed well
+pub record HasServedWell {D N C E : Type 0} (views : Views D N C E) (span : Span C) (kind : SecretKind) (sessions sharing : ℕ) (ends : List SessionEnd) (entries : ℕ) : Type 0 where
+  pub served : IsServedTo views span kind sessions sharing Never ends
+  pub running : IsNone (stopped_in served.history)
+  pub on_disk : IsOnDisk served.history
+  pub count : length served.history.entries ≡ entries
+
+-- a service that has ended, of whatever words
+module _ {D N C E : Type 0} (start : Rows → Origin → Type 0) (since : FolderView → KeyPair → Rows → Type 0) (views : Views D N C E) (words : List (List ℕ)) (secret : Course SourceView) (second : Option ℕ) (folder : D) (service : Service)
+    (workers workers' : List (Worker N E)) (ends : List SessionEnd) (back : HandedBack D)
     (starts : AreBeginnings start views folder workers) (alone : IsAlone since service.kind (views.folder folder) secret.before second)
     (line : Changes secret.before.left secret.after.left IsAfterLine) where
-  served_of : (P : WorkerSpan C → Type 0) (h : HasServedAll start since views second service workers workers' ends back) → ((worker : WorkerSpan C) → MayStop h.counts worker → P worker)
-      → IsServed views (span_of views words secret second folder h.folder workers workers') P ends
-  served_of P h only =
+  served_to : (P : WorkerSpan C → Type 0) (h : HasServedAll start since views second service workers workers' ends back) → ((worker : WorkerSpan C) → MayStop h.counts worker → P worker)
+      → IsServedTo views (span_of views words secret second folder h.folder workers workers') service.kind service.sessions (min service.at_once (length workers)) P ends
+  served_to P h only =
       let joined = h.joined in
       let begins = starts.only h.rows h.origin h.begins in
       let begun = alone.only joined.right.start h.store.store.keys h.rows joined.right.begins in
@@ -105,17 +113,11 @@ module _ {D N C E : Type 0} (start : Rows → Origin → Type 0) (since : Folder
       let spans = worker_spans views workers workers' in
       let many : length spans ≡ length workers = spans_count views workers workers' joined.count in
       let many' : length (worker_spans views workers workers) ≡ length workers = spans_count views workers workers refl in
-      let shares : AreShares views.link second (MayStop h.counts) service.sessions (min service.at_once (length workers)) 0 spans joined.shares = joined.are in
-      let shares' : AreShares views.link second (MayStop h.counts) serving.sessions (sharers serving (length spans)) 0 spans joined.shares =
-      subst (λ (p : ℕ × ℕ). AreShares views.link second (MayStop h.counts) p.0 p.1 0 spans joined.shares) (λ i. (same.sessions i, min (same.at_once i) (sym many i))) shares
-      in
       record {
-        serving = serving;
-        words = asked;
         vault = begun.vault;
-        unlocked = unlocked_by views.folder secret second folder h.folder serving service h.store.store.keys joined.right.start h.rows same line begun;
+        unlocked = record { gave = begun.gave; line = line };
         shares = joined.shares;
-        are = shares_as views.link second (MayStop h.counts) P serving.sessions (sharers serving (length spans)) 0 spans joined.shares only shares';
+        are = shares_as views.link second (MayStop h.counts) P service.sessions (min service.at_once (length workers)) 0 spans joined.shares only joined.are;
         history = record {
           rows = h.rows;
           origin = h.origin;
@@ -158,32 +160,66 @@ module _ {D N C E : Type 0} (start : Rows → Origin → Type 0) (since : Folder
       → Told (views.folder h.folder).log (λ log. IsWhole (shows_under (begun_as h).vault.keys) h.rows h.joined.entries log)
   whole_in h ok = whole_under since views.folder service.kind secret.before second folder h.store h.rows h.origin h.joined.entries h.joined.right (begun_as h) h.folder h.closing h.closed ok
 
+  -- where it was closed well, no commit failed, and all entries are on the disk
+  pub served_well : (h : HasServedAll start since views second service workers workers' ends back) → ((worker : WorkerSpan C) → MayStop h.counts worker → Never worker) → IsOk h.closing
+      → HasServedWell views (span_of views words secret second folder h.folder workers workers') service.kind service.sessions (min service.at_once (length workers)) ends (length h.joined.entries)
+  unfolding served_to begun_as
+  served_well h only ok = record { served = served_to Never h only; running = none_in h ok; on_disk = whole_in h ok; count = refl }
+
+  failed_in : (h : HasServedAll start since views second service workers workers' ends back) → IsErr h.closing
+      → IsSome (tally_of h.origin h.joined.entries).stopped ⊎ Rose (tally_of h.origin h.joined.entries).folder_faults (views.folder h.folder).faults
+  failed_in h bad = failed_under since views.folder service.kind secret.before second folder h.store h.rows h.origin h.joined.entries h.joined.right (begun_as h) h.folder h.closing h.closed bad
+
+module _ {D N C E : Type 0} (start : Rows → Origin → Type 0) (since : FolderView → KeyPair → Rows → Type 0) (views : Views D N C E) (words : List (List ℕ)) (secret : Course SourceView) (second : Option ℕ) (folder : D) (serving : Serving) (service : Service)
+    (workers workers' : List (Worker N E)) (ends : List SessionEnd) (back : HandedBack D) (asked : Ask words (serve serving)) (same : IsServiceOf serving service)
+    (starts : AreBeginnings start views folder workers) (alone : IsAlone since service.kind (views.folder folder) secret.before second)
+    (line : Changes secret.before.left secret.after.left IsAfterLine) where
+  -- as these words say
+  served_of : (P : WorkerSpan C → Type 0) (h : HasServedAll start since views second service workers workers' ends back) → ((worker : WorkerSpan C) → MayStop h.counts worker → P worker)
+      → IsServed views (span_of views words secret second folder h.folder workers workers') P ends
+  served_of P h only =
+      let spans = worker_spans views workers workers' in
+      let many : length spans ≡ length workers = spans_count views workers workers' h.joined.count in
+      let to = served_to start since views words secret second folder service workers workers' ends back starts alone line P h only in
+      record {
+        serving = serving;
+        words = asked;
+        sessions = record {
+          vault = to.vault;
+          unlocked = subst (λ (k : SecretKind). IsUnlocked (given_of views.folder secret second folder h.folder) k to.vault) same.kind to.unlocked;
+          shares = to.shares;
+          are = subst (λ (p : ℕ × ℕ). AreShares views.link second P p.0 p.1 0 spans to.shares) (λ i. (same.sessions i, min (same.at_once i) (sym many i))) to.are;
+          history = to.history;
+          ended = to.ended;
+        };
+      }
+
   reason_of : (outcome : Outcome) (ending : Ending) (h : HasServedAll start since views second service workers workers' ends back) → HasOutcome h.counts h.closing outcome → MayEnd ends outcome ending
       → HasReason views (span_of views words secret second folder h.folder workers workers') ending
-  unfolding served_of begun_as
+  unfolding served_of served_to begun_as
   reason_of (Served c) ending h is (inl e) =
       subst (λ (x : Ending). HasReason views (span_of views words secret second folder h.folder workers workers') x) (sym e) (
         served_of Never h (λ worker stop. subst (λ (r : Result SessionCounts Failed). MayStop r worker) is.0 stop),
-        none_in h is.1,
-        whole_in h is.1,
+        none_in start since views words secret second folder service workers workers' ends back starts alone line h is.1,
+        whole_in start since views words secret second folder service workers workers' ends back starts alone line h is.1,
       )
   reason_of (Served c) ending h is (inr e) =
       subst (λ (x : Ending). HasReason views (span_of views words secret second folder h.folder workers workers') x) (sym e) (
         served_of ListenerFailed h (may_stop h.counts),
-        none_in h is.1,
-        whole_in h is.1,
+        none_in start since views words secret second folder service workers workers' ends back starts alone line h is.1,
+        whole_in start since views words secret second folder service workers workers' ends back starts alone line h is.1,
       )
   reason_of ListenerFault ending h is e =
       subst (λ (x : Ending). HasReason views (span_of views words secret second folder h.folder workers workers') x) (sym e) (
         served_of ListenerFailed h (may_stop h.counts),
         on_error h.counts (SomeFailed (worker_spans views workers workers')) is.0 h.joined.failed,
-        none_in h is.1,
-        whole_in h is.1,
+        none_in start since views words secret second folder service workers workers' ends back starts alone line h is.1,
+        whole_in start since views words secret second folder service workers workers' ends back starts alone line h is.1,
       )
   reason_of FolderFault ending h is e =
       subst (λ (x : Ending). HasReason views (span_of views words secret second folder h.folder workers workers') x) (sym e) (
         served_of ListenerFailed h (may_stop h.counts),
-        failed_under since views.folder service.kind secret.before second folder h.store h.rows h.origin h.joined.entries h.joined.right (begun_as h) h.folder h.closing h.closed is,
+        failed_in start since views words secret second folder service workers workers' ends back starts alone line h is,
       )
   reason_of NoMemory ending h is e = absurd is
 

@@ -13,14 +13,14 @@ use Rattle.vault_make.specs.Entries.{IsFirstEntry}
 use Rattle.vault_make.specs.Errors.{IsUnmade}
 use Rattle.vault_make.specs.declared.error.MakeErr.{MakeErr}
 use Rattle.vault_make.specs.declared.error.MakeErr.TheVariants as make_errs
-use Rattle.vault_words.specs.Jobs.{serve, make, help, version}
+use Rattle.vault_words.specs.Jobs.{serve, make, demo, help, version}
 use Rattle.vault_causes.specs.Causes.{of_secret, of_make}
 use Rattle.vault_causes.specs.declared.cause.Cause.{Cause}
 use Rattle.vault_causes.specs.declared.cause.Cause.TheVariants.{Memory}
 use Rattle.vault_top.specs.Words.{Ask}
 use Rattle.vault_top.specs.Span.{Course, Views, WorkerSpan, Span, Given}
 use Rattle.vault_top.specs.Making.{HasNoPassword, HasRisen, IsNotMade}
-use Rattle.vault_top.specs.Ending.{Ending, refused, usage_said, version_said, made, no_memory_to_serve, served, listener_fault, closing_fault, no_memory_to_report, DrawsAlone, IsRefused, HasReason}
+use Rattle.vault_top.specs.Ending.{Ending, refused, usage_said, version_said, made, no_memory_to_serve, served, listener_fault, closing_fault, no_memory_to_report, demonstrated, DrawsAlone, IsRefused, HasReason}
 use Rattle.vault_top.specs.Sound.{IsSoundToMake, IsFaultless, IsMadeOrFull, SomeRandomFailed}
 use Rattle.vault_top.proofs.Asked.{AskPlainly, one_job, not_refused}
 
@@ -90,3 +90,5 @@ sound_to_make views span (closing_fault ends) is faultless random h =
     let e : serve h.0.serving ≡ make is.dir = one_job span.words (make is.dir) (serve h.0.serving) (plainly span.words is.dir is.words) h.0.words.asks in absurd cc
 sound_to_make views span (no_memory_to_report ends) is faultless random h =
     let e : serve h.0.serving ≡ make is.dir = one_job span.words (make is.dir) (serve h.0.serving) (plainly span.words is.dir is.words) h.0.words.asks in absurd cc
+sound_to_make views span (demonstrated text) is faultless random h =
+    let e : demo h.demonstration ≡ make is.dir = one_job span.words (make is.dir) (demo h.demonstration) (plainly span.words is.dir is.words) h.words.asks in absurd cc

@@ -17,7 +17,7 @@ use Rattle.vault_unlock.specs.Unlock.{FoundFiles, files_at, IsUnlocking, unlock_
 use Rattle.vault_unlock.specs.declared.unlocking.SecretKind.{SecretKind}
 use Rattle.vault_unlock.specs.declared.refusal.Refusal.{Refusal}
 use Rattle.vault_unlock.specs.declared.refusal.Refusal.TheVariants as refusals
-use Rattle.vault_words.specs.Jobs.{Serving, serve, make, help, version}
+use Rattle.vault_words.specs.Jobs.{Serving, serve, make, demo, help, version}
 use Rattle.clap.specs.Words.{Text}
 use Rattle.tree_loading.specs.Clear.{HasTooMany, root_folder}
 use Rattle.vault_store.specs.declared.opening.OpenErr.{OpenErr}
@@ -29,7 +29,7 @@ use Rattle.vault_top.specs.Words.{Ask, kind_of}
 use Rattle.vault_top.specs.Span.{Course, SourceView, SinkView, Views, Span, span_of, Given, IsOnlyRead}
 use Rattle.vault_top.specs.Served.{Share, HasHistory}
 use Rattle.vault_top.specs.Opening.{IsLocked, IsClosedBy, FailsToUnlock, FailsToOpen, of_opening}
-use Rattle.vault_top.specs.Ending.{Ending, refused, usage_said, version_said, made, no_memory_to_serve, served, listener_fault, closing_fault, no_memory_to_report, FailsAtTheEnd, IsRefused, HasReason, status_of, stopped_in}
+use Rattle.vault_top.specs.Ending.{Ending, refused, usage_said, version_said, made, no_memory_to_serve, served, listener_fault, closing_fault, no_memory_to_report, demonstrated, FailsAtTheEnd, IsRefused, HasReason, status_of, stopped_in}
 use Rattle.vault_top.specs.Sound.{IsVaultFor, IsSound, IsSoundRun, IsFaultless, IsServedOrFull}
 use Rattle.shared_sessions.specs.declared.workers.Worker.{Worker}
 use Rattle.vault_top.specs.declared.program.Ended.{Ended}
@@ -167,8 +167,10 @@ sound views span no_memory_to_serve is faultless h = tt
 sound views span (served ends) is faultless h = tt
 sound views span (listener_fault ends) is faultless h = absurd (faultless.listeners h.1)
 sound views span (closing_fault ends) is faultless h =
-    absurd (faultless.folder (closing_rose span h.0.vault.keys h.0.shares h.0.history h.1))
+    absurd (faultless.folder (closing_rose span h.0.sessions.vault.keys h.0.sessions.shares h.0.sessions.history h.1))
 sound views span (no_memory_to_report ends) is faultless h = tt
+sound views span (demonstrated text) is faultless h =
+    let e : demo h.demonstration ≡ serve is.serving = one_job span.words (serve is.serving) (demo h.demonstration) (plainly span.words is.serving is.words) h.words.asks in absurd cc
 
 -- ---- the status
 
@@ -183,6 +185,7 @@ status_in (served ends) h = inl refl
 status_in (listener_fault ends) h = absurd h
 status_in (closing_fault ends) h = absurd h
 status_in (no_memory_to_report ends) h = inr refl
+status_in (demonstrated text) h = absurd h
 
 pub sound_status : {D N C E : Type 0} (views : Views D N C E) (words : List Text) (secret : Course SourceView) (second : Option ℕ) (folder : D) (workers workers' : List (Worker N E)) (sink : Course SinkView) (ended : Ended D)
     → IsSoundRun views words secret second folder workers workers' sink ended → (ended.status ≡ 0) ⊎ (ended.status ≡ 5)

@@ -7,7 +7,7 @@ use Rattle.outside.specs.Views.{EntropyView}
 use Rattle.session_server.specs.declared.ending.SessionEnd.{SessionEnd}
 use Rattle.clap.specs.Words.{Text}
 use Rattle.vault_keys.specs.Unlock.{UnlockedVault}
-use Rattle.vault_words.specs.Jobs.{Serving, serve, make, help, version}
+use Rattle.vault_words.specs.Jobs.{Serving, Demonstration, serve, make, demo, help, version}
 use Rattle.vault_words.specs.declared.job.TheConstants.{USAGE, VERSION}
 use Rattle.siv_mode.specs.Keys.{KeyPair}
 use Rattle.store_history.specs.Ends.{IsFoundClear}
@@ -21,14 +21,17 @@ use Rattle.vault_causes.specs.declared.cause.Cause.TheVariants.{Words, Memory}
 use Rattle.vault_top.specs.Words.{Ask, AreRefused, kind_of, sharers}
 use Rattle.vault_top.specs.Report.{line, sessions_line, TakesPart}
 use Rattle.vault_top.specs.Span.{Course, SourceView, SinkView, Views, WorkerSpan, Span, span_of}
-use Rattle.vault_top.specs.Served.{Share, AreShares, all_ends, HasHistory, HasStops, IsOnDisk}
+use Rattle.vault_top.specs.Served.{Share, HasHistory, HasStops, IsOnDisk}
+pub use Rattle.vault_top.specs.Sessions.{IsServedTo, Never, stopped_in}
+use Rattle.vault_top.specs.Demonstrated.{HasHeld}
 use Rattle.vault_top.specs.Opening.{IsUnlocked, IsUnopened}
 use Rattle.vault_top.specs.Making.{IsMade, IsNotMade}
 use Rattle.shared_sessions.specs.declared.workers.Worker.{Worker}
 use Rattle.vault_top.specs.declared.program.Ended.{Ended}
 
 -- the endings: the job wasn't done, for a cause; how the program is called, or its version, was said; a vault was made; there was no memory to
--- serve one that was open; or one was served, and its sessions ended so
+-- serve one that was open; one was served, and its sessions ended so; or a demonstration was
+-- held, which this line sums up
 pub data Ending : Type 0 where
   refused : Cause → Ending
   usage_said : Ending
@@ -39,6 +42,7 @@ pub data Ending : Type 0 where
   listener_fault : List SessionEnd → Ending
   closing_fault : List SessionEnd → Ending
   no_memory_to_report : List SessionEnd → Ending
+  demonstrated : List ℕ → Ending
 
 -- ---- why an ending comes
 
@@ -91,24 +95,18 @@ pub record IsUnshared {C : Type 0} (span : Span C) : Type 0 where
   pub later : span.given.folder.before.faults ≤ span.given.folder.after.faults
   pub idle : AreIdle span.workers
 
--- The vault was served under the keys that were unlocked: each worker its share of the sessions, which ended so, and what was asked in them is
--- one legal history, whatever the interleaving, of which a stop leaves a prefix. `MayStop` is what may have kept a worker from its share.
+-- it was served as the words say
 pub record IsServed {D N C E : Type 0} (views : Views D N C E) (span : Span C) (MayStop : WorkerSpan C → Type 0) (ends : List SessionEnd) : Type 0 where
   pub serving : Serving
   pub words : Ask span.words (serve serving)
-  pub vault : UnlockedVault
-  pub unlocked : IsUnlocked span.given (kind_of serving) vault
-  pub shares : List (Share C)
-  pub are : AreShares views.link span.given.second MayStop serving.sessions (sharers serving (length span.workers)) 0 span.workers shares
-  pub history : HasHistory span vault.keys shares
-  pub ended : all_ends shares ≡ ends
+  pub sessions : IsServedTo views span (kind_of serving) serving.sessions (sharers serving (length span.workers)) MayStop ends
 
--- the entry of a history whose commit failed
-abbrev pub stopped_in : {C : Type 0} {span : Span C} {keys : KeyPair} {shares : List (Share C)} → HasHistory span keys shares → Option ℕ
-stopped_in history = (tally_of history.origin history.entries).stopped
-
-abbrev pub Never : {C : Type 0} → WorkerSpan C → Type 0
-Never worker = ⊥
+-- the words ask for a demonstration, which was held over objects of its own, and this line sums it up
+pub record IsDemonstration {C : Type 0} (span : Span C) (text : List ℕ) : Type 0 where
+  pub demonstration : Demonstration
+  pub words : Ask span.words (demo demonstration)
+  pub untouched : IsUntouched span
+  pub held : HasHeld demonstration text
 
 -- why a job isn't done
 abbrev pub IsRefused : {C : Type 0} → Span C → Cause → Type 0
@@ -127,10 +125,11 @@ HasReason views span usage_said = Ask span.words help × IsUntouched span
 HasReason views span version_said = Ask span.words version × IsUntouched span
 HasReason views span made = IsMaking span (λ entropy. IsMade span.given entropy)
 HasReason views span no_memory_to_serve = IsUnshared span
-HasReason views span (served ends) = (is : IsServed views span Never ends) × IsNone (stopped_in is.history) × IsOnDisk is.history
-HasReason views span (listener_fault ends) = (is : IsServed views span ListenerFailed ends) × SomeFailed span.workers × IsNone (stopped_in is.history) × IsOnDisk is.history
-HasReason views span (closing_fault ends) = (is : IsServed views span ListenerFailed ends) × (IsSome (stopped_in is.history) ⊎ FailsAtTheEnd is.history)
-HasReason views span (no_memory_to_report ends) = (is : IsServed views span ListenerFailed ends) × IsNone (stopped_in is.history) × IsOnDisk is.history
+HasReason views span (served ends) = (is : IsServed views span Never ends) × IsNone (stopped_in is.sessions.history) × IsOnDisk is.sessions.history
+HasReason views span (listener_fault ends) = (is : IsServed views span ListenerFailed ends) × SomeFailed span.workers × IsNone (stopped_in is.sessions.history) × IsOnDisk is.sessions.history
+HasReason views span (closing_fault ends) = (is : IsServed views span ListenerFailed ends) × (IsSome (stopped_in is.sessions.history) ⊎ FailsAtTheEnd is.sessions.history)
+HasReason views span (no_memory_to_report ends) = (is : IsServed views span ListenerFailed ends) × IsNone (stopped_in is.sessions.history) × IsOnDisk is.sessions.history
+HasReason views span (demonstrated line) = IsDemonstration span line
 
 -- ---- reports and statuses
 
@@ -147,6 +146,7 @@ report_of (served ends) = serving ++ sessions_line ends
 report_of (listener_fault ends) = serving ++ line (codes "listener fault")
 report_of (closing_fault ends) = serving ++ line (codes "device fault: folder")
 report_of (no_memory_to_report ends) = serving ++ line (codes "out of memory")
+report_of (demonstrated text) = line text
 
 abbrev pub status_of : Ending → ℕ
 status_of (refused cause) = causes.status_of cause
@@ -158,6 +158,7 @@ status_of (served ends) = 0
 status_of (listener_fault ends) = 7
 status_of (closing_fault ends) = 4
 status_of (no_memory_to_report ends) = 5
+status_of (demonstrated text) = 0
 
 -- the status where the report wasn't taken whole: 4 in place of 0 and 7
 abbrev pub cut_status_of : Ending → ℕ
@@ -170,6 +171,7 @@ cut_status_of (served ends) = 4
 cut_status_of (listener_fault ends) = 4
 cut_status_of (closing_fault ends) = 4
 cut_status_of (no_memory_to_report ends) = 5
+cut_status_of (demonstrated text) = 4
 
 -- the report was taken whole; or the sink failed, and took a part from its front
 abbrev pub IsReported : Course SinkView → Ending → ℕ → Type 0

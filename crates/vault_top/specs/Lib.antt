@@ -6,6 +6,8 @@ pub mod Served
 pub mod Sharing
 pub mod Opening
 pub mod Making
+pub mod Sessions
+pub mod Demonstrated
 pub mod Ending
 pub mod Writing
 pub mod Serving

@@ -1,5 +1,5 @@
 -- What serving a vault does, step by step.
-use Rattle.std.specs.Prelude.{◌≡◌, ◌⊎◌, ℕ, ◌≤◌, min, List, [], ◌++◌, length, Option, Some, Result, Ok, IsErr, IsOk, OnErr, OnOk, IfSome, IsSome, IsNone, ⊤}
+use Rattle.std.specs.Prelude.{◌≡◌, ◌⊎◌, ℕ, ◌<◌, ◌≤◌, ◌-◌, ◌^◌, min, List, [], ◌++◌, length, Option, Some, Result, Ok, IsErr, IsOk, OnErr, OnOk, IfSome, IsSome, IsNone, ⊤}
 use Rattle.outside.specs.declared.stream.Failed.{Failed}
 use Rattle.outside.specs.Calls.{Changes, Rose}
 use Rattle.outside.specs.Views.{FolderView}
@@ -16,15 +16,23 @@ use Rattle.siv_mode.specs.Keys.{KeyPair}
 use Rattle.store_history.specs.Store.{StoreView}
 use Rattle.store_history.specs.Turns.{IsFlushed, draws_for}
 use Rattle.vault_store.specs.Open.{OpenVault, idle_of}
+use Rattle.demo_work.specs.Summary.{PlainRow, summary_line}
+use Rattle.demo_rows.specs.Left.{AreLeft}
+use Rattle.vault_top.specs.Report.{line}
 use Rattle.vault_top.specs.Span.{Course, SinkView, Views}
 use Rattle.vault_top.specs.Sharing.{IsSharedStore}
-use Rattle.vault_top.specs.Ending.{Ending, no_memory_to_serve, served, listener_fault, closing_fault, no_memory_to_report, serving, report_of, status_of, cut_status_of, IsReported}
+use Rattle.vault_words.specs.Jobs.{Demonstration}
+use Rattle.vault_causes.specs.declared.cause.Cause.TheVariants.{Memory}
+use Rattle.vault_top.specs.Demonstrated.{HasHeld}
+use Rattle.vault_top.specs.Ending.{Ending, refused, demonstrated, no_memory_to_serve, served, listener_fault, closing_fault, no_memory_to_report, serving, report_of, status_of, cut_status_of, IsReported}
 use Rattle.vault_top.specs.Writing.{IsWritten}
 use Rattle.vault_top.specs.declared.program.Ended.{Ended}
 use Rattle.vault_top.specs.declared.serving.HandedBack.{HandedBack}
 use Rattle.vault_top.specs.declared.serving.Outcome.{Outcome}
 use Rattle.vault_top.specs.declared.serving.Outcome.TheVariants as outcomes
+use Rattle.vault_top.specs.declared.demonstrating.Kept.{Kept}
 use Rattle.vault_top.specs.declared.task.Service.{Service}
+use Rattle.vault_top.specs.declared.task.Scripts.{Scripts}
 
 -- an outcome's cause: what failed, or the sessions that were counted; and how the vault was closed
 abbrev pub HasOutcome : {X : Type 0} → Result SessionCounts Failed → Result X Failed → Outcome → Type 0
@@ -60,6 +68,7 @@ pub record HasServedAll {D N C E : Type 0} (start : Rows → Origin → Type 0) 
   pub closing : Result (Unit {0}) Failed
   pub closed : IsClosing views.folder store folder closing
   pub outcome : HasOutcome counts closing back.outcome
+  pub asked : back.entries ≡ store.store.entries
 
 -- the folder of a store that stood for no entries
 pub record IsUnasked {D : Type 0} (view : D → FolderView) (start : Rows → Origin → Type 0) (since : FolderView → KeyPair → Rows → Type 0) (folder : D) : Type 0 where
@@ -118,3 +127,26 @@ pub record HasServedVault {D N C E : Type 0} (start : Rows → Origin → Type 0
   pub may : MayEnd ends back.outcome ending
   pub folder_is : ended.folder ≡ back.folder
   pub reported : IsReported sink ending ended.status
+
+-- ---- a demonstration
+
+-- what is kept of what was handed back: so many sessions were counted, each as one that ended between two messages
+pub record IsKeptOf {D : Type 0} (back : HandedBack D) (sessions : ℕ) (kept : Kept D) : Type 0 where
+  pub counts : SessionCounts
+  pub outcome : back.outcome ≡ outcomes.Served counts
+  pub sessions_are : counts.sessions ≡ sessions
+  pub done : counts.done ≡ sessions
+  pub folder : back.folder ≡ Some kept.folder
+  pub entries : back.entries ≡ kept.entries
+  pub few : kept.entries < 2 ^ 64 - 1
+
+-- a text is the line of what these rows leave after so many entries
+pub record SumsUp (scripts : Scripts) (entries : ℕ) (shown : Rows) (written : List ℕ) : Type 0 where
+  pub rows : List PlainRow
+  pub left : AreLeft shown rows
+  pub is : written ≡ line (summary_line scripts.clients scripts.requests entries rows)
+
+-- a demonstration was held and reported; or there was no memory for it, which was reported
+abbrev pub HasDemonstrated : Demonstration → Course SinkView → ℕ → Type 0
+HasDemonstrated d sink status =
+    ((text : List ℕ) × HasHeld d text × IsReported sink (demonstrated text) status) ⊎ IsReported sink (refused Memory) status

@@ -17,7 +17,7 @@ use Rattle.tree_loading.specs.Clear.{HasTooMany, root_folder}
 use Rattle.vault_causes.specs.declared.cause.Cause.TheVariants.{Memory}
 use Rattle.vault_top.specs.Words.{Ask, kind_of}
 use Rattle.vault_top.specs.Span.{Course, SourceView, SinkView, Views, WorkerSpan, Span, span_of}
-use Rattle.vault_top.specs.Ending.{Ending, refused, usage_said, version_said, made, no_memory_to_serve, served, listener_fault, closing_fault, no_memory_to_report, SomeFailed, HasRun}
+use Rattle.vault_top.specs.Ending.{Ending, refused, usage_said, version_said, made, no_memory_to_serve, served, listener_fault, closing_fault, no_memory_to_report, demonstrated, SomeFailed, HasRun}
 use Rattle.shared_sessions.specs.declared.workers.Worker.{Worker}
 use Rattle.vault_top.specs.declared.program.Ended.{Ended}
 
@@ -53,6 +53,7 @@ IsServedOrFull (served ends) = ⊤
 IsServedOrFull (listener_fault ends) = ⊥
 IsServedOrFull (closing_fault ends) = ⊥
 IsServedOrFull (no_memory_to_report ends) = ⊤
+IsServedOrFull (demonstrated text) = ⊥
 
 -- a run over a sound vault, in which nothing failed, the sink neither
 pub record IsSoundRun {D N C E : Type 0} (views : Views D N C E) (words : List (List ℕ)) (secret : Course SourceView) (second : Option ℕ) (folder : D) (workers workers' : List (Worker N E)) (sink : Course SinkView) (ended : Ended D) : Type 0 where
@@ -85,3 +86,19 @@ IsMadeOrFull (served ends) = ⊥
 IsMadeOrFull (listener_fault ends) = ⊥
 IsMadeOrFull (closing_fault ends) = ⊥
 IsMadeOrFull (no_memory_to_report ends) = ⊥
+IsMadeOrFull (demonstrated text) = ⊥
+
+-- ---- demonstrating
+
+-- a demonstration was held, or memory ran out
+abbrev pub IsHeldOrFull : Ending → Type 0
+IsHeldOrFull (refused cause) = cause ≡ Memory
+IsHeldOrFull usage_said = ⊥
+IsHeldOrFull version_said = ⊥
+IsHeldOrFull made = ⊥
+IsHeldOrFull no_memory_to_serve = ⊥
+IsHeldOrFull (served ends) = ⊥
+IsHeldOrFull (listener_fault ends) = ⊥
+IsHeldOrFull (closing_fault ends) = ⊥
+IsHeldOrFull (no_memory_to_report ends) = ⊥
+IsHeldOrFull (demonstrated text) = ⊤

@@ -1,13 +1,14 @@
 -- Jobs as the code does them.
 use Rattle.std.specs.Prelude.{◌≡◌, ◌≤◌, List, ⊤}
 use Rattle.clap.specs.Words.{Text}
-use Rattle.vault_words.specs.Jobs.{Job, Serving, serve, make, demo, help, version}
+use Rattle.vault_words.specs.Jobs.{Job, Serving, Demonstration, serve, make, demo, help, version}
 use Rattle.vault_words.specs.declared.job.WordsErr.{WordsErr}
 use Rattle.vault_words.specs.declared.job.WordsErr.TheVariants.{Refused, Memory}
 use Rattle.vault_top.specs.Words.{Ask, AreRefused, kind_of}
 use Rattle.vault_top.specs.declared.task.Service.{Service}
+use Rattle.vault_top.specs.declared.task.Scripts.{Scripts}
 use Rattle.vault_top.specs.declared.task.Task.{Task}
-use Rattle.vault_top.specs.declared.task.Task.TheVariants.{Serve, Make, Usage, Version}
+use Rattle.vault_top.specs.declared.task.Task.TheVariants.{Serve, Make, Demo, Usage, Version}
 
 -- what is served is what the words say
 pub record IsServiceOf (s : Serving) (service : Service) : Type 0 where
@@ -15,11 +16,17 @@ pub record IsServiceOf (s : Serving) (service : Service) : Type 0 where
   pub sessions : service.sessions ≡ s.sessions
   pub at_once : service.at_once ≡ s.at_once
 
+-- the scripts that are served are those that the words say
+pub record AreScriptsOf (d : Demonstration) (scripts : Scripts) : Type 0 where
+  pub seed : scripts.seed ≡ d.seed
+  pub clients : scripts.clients ≡ d.clients
+  pub requests : scripts.requests ≡ d.requests
+
 -- the numbers of a job are within their bounds
 abbrev pub IsWithin : Job → Type 0
 IsWithin (serve s) = (s.sessions ≤ 1000000) × (s.at_once ≤ 64)
 IsWithin (make dir) = ⊤
-IsWithin (demo d) = ⊤
+IsWithin (demo d) = (1 ≤ d.clients) × (d.clients ≤ 64) × (d.requests ≤ 100000)
 IsWithin help = ⊤
 IsWithin version = ⊤
 
@@ -27,7 +34,7 @@ IsWithin version = ⊤
 abbrev pub IsTaskOf : Job → Task → Type 0
 IsTaskOf (serve s) task = (service : Service) × (task ≡ Serve service) × IsServiceOf s service
 IsTaskOf (make dir) task = task ≡ Make
-IsTaskOf (demo d) task = ⊥
+IsTaskOf (demo d) task = (scripts : Scripts) × (task ≡ Demo scripts) × AreScriptsOf d scripts × (1 ≤ scripts.clients) × (scripts.clients ≤ 64)
 IsTaskOf help task = task ≡ Usage
 IsTaskOf version task = task ≡ Version
 
@@ -35,6 +42,7 @@ IsTaskOf version task = task ≡ Version
 abbrev pub AskTask : List Text → Task → Type 0
 AskTask words (Serve service) = (s : Serving) × Ask words (serve s) × IsServiceOf s service
 AskTask words Make = (dir : Text) × Ask words (make dir)
+AskTask words (Demo scripts) = (d : Demonstration) × Ask words (demo d) × AreScriptsOf d scripts × (1 ≤ scripts.clients) × (scripts.clients ≤ 64)
 AskTask words Usage = Ask words help
 AskTask words Version = Ask words version
 

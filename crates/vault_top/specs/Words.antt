@@ -9,11 +9,11 @@ use Rattle.vault_words.specs.Jobs.{Job, Serving, serve, make, demo, help, versio
 abbrev pub words_of : {A : Type 0} → List (String A) → List Text
 words_of words = map string_bytes words
 
--- the jobs that the program does so far: `serve` at any address but an empty one, and no `demo`
+-- the jobs that the program does: `serve` at any address but an empty one, and all others
 abbrev pub IsOffered : Job → Type 0
 IsOffered (serve s) = s.address ≡ [] → ⊥
 IsOffered (make dir) = ⊤
-IsOffered (demo d) = ⊥
+IsOffered (demo d) = ⊤
 IsOffered help = ⊤
 IsOffered version = ⊤
 

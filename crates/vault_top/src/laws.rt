@@ -3,7 +3,9 @@ ghost use Rattle.shared_sessions.specs.declared.workers.Worker.{Worker};
 ghost use Rattle.vault_top.specs.declared.program.Ended.{Ended};
 ghost use Rattle.vault_top.specs.Span.{Course, SourceView, SinkView, Views, Span};
 ghost use Rattle.vault_top.specs.Ending.{Ending, HasReason};
-ghost use Rattle.vault_top.specs.Sound.{IsSound, IsSoundRun, IsSoundToMake, IsFaultless, IsServedOrFull, IsMadeOrFull, SomeRandomFailed};
+ghost use Rattle.vault_words.specs.Jobs.{Demonstration, demo};
+ghost use Rattle.vault_top.specs.Words.{Ask};
+ghost use Rattle.vault_top.specs.Sound.{IsSound, IsSoundRun, IsSoundToMake, IsFaultless, IsServedOrFull, IsMadeOrFull, IsHeldOrFull, SomeRandomFailed};
 
 use outside::{Entropy, Folder, Listener};
 
@@ -26,4 +28,10 @@ pub fn a_sound_run_ends_with_0_or_5<D: Folder, N: Listener, E: Entropy>()
 pub fn an_empty_folder_becomes_a_vault<D: Folder, N: Listener, E: Entropy>()
     ensures { (views : Views D N N.Conn E) (span : Span N.Conn) (ending : Ending) → IsSoundToMake span → IsFaultless span
         → (SomeRandomFailed span.workers → ⊥) → HasReason views span ending → IsMadeOrFull ending }
+{}
+
+/// Where the words ask for a demonstration, the program's ending is that it was held, or that memory ran out.
+pub fn a_demonstration_is_held<D: Folder, N: Listener, E: Entropy>()
+    ensures { (views : Views D N N.Conn E) (span : Span N.Conn) (d : Demonstration) (ending : Ending) → Ask span.words (demo d)
+        → HasReason views span ending → IsHeldOrFull ending }
 {}

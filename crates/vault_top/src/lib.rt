@@ -1,4 +1,4 @@
-//! Does the job that the command line names: serves a vault, makes one, or says how the program is called.
+//! Does the job that the command line names: serves a vault, makes one, holds a demonstration, or says how the program is called.
 //!
 //! ```
 //! let ended = run(&rt, rt.alloc(), &words, folder, &mut workers, &mut secret, &mut out, &clock, &gate);
@@ -6,6 +6,7 @@
 //! ```
 #![tactic(auto)]
 
+mod demonstrating;
 mod laws;
 mod making;
 mod opening;
@@ -16,7 +17,8 @@ mod task;
 mod vault;
 
 pub use laws::{
-    a_sound_run_ends_with_0_or_5, a_sound_vault_is_served, an_empty_folder_becomes_a_vault,
+    a_demonstration_is_held, a_sound_run_ends_with_0_or_5, a_sound_vault_is_served,
+    an_empty_folder_becomes_a_vault,
 };
 pub use program::{Ended, run};
 pub use shared_sessions::Worker;

@@ -1,25 +1,26 @@
 ghost use Rattle.std.specs.Prelude.{◌≡◌, ℕ, ◌<◌, ◌≤◌, ◌∷◌, ◌++◌, [], List, Option, OnOk, OnErr, IsErr, vec_len, vec_capacity};
 ghost use Rattle.outside.specs.Calls.{HasCause, Changes};
 ghost use Rattle.session_server.specs.declared.ending.SessionEnd.{SessionEnd};
-ghost use Rattle.vault_words.specs.Jobs.{Serving, serve, make};
+ghost use Rattle.vault_words.specs.Jobs.{Serving, Demonstration, serve, make};
 ghost use Rattle.vault_top.specs.Words.{Ask, words_of};
-ghost use Rattle.vault_top.specs.Tasks.{IsServiceOf};
+ghost use Rattle.vault_top.specs.Tasks.{AreScriptsOf, IsServiceOf};
 ghost use Rattle.vault_top.specs.Span.{course, source_view, sink_view, views_of};
 ghost use Rattle.vault_top.specs.Report.{TakesPart};
 ghost use Rattle.vault_top.specs.Ending.{HasRun, serving};
 ghost use Rattle.vault_top.specs.Sharing.{AreBeginnings, IsAlone, IsSharedStore};
-ghost use Rattle.vault_top.specs.Serving.{HasServedVault, AreCounted, HasLastLine};
+ghost use Rattle.vault_top.specs.Serving.{HasServedVault, HasDemonstrated, AreCounted, HasLastLine};
 ghost use Rattle.outside.specs.Views.{folder_view};
 ghost use Rattle.tree_model.specs.Rows.{Rows};
 ghost use Rattle.tree_history.specs.History.{Origin};
 ghost use Rattle.shared_vault.specs.Turns.{StandsFor};
 ghost use Rattle.shared_sessions.specs.Joined.{AreSince};
 
+use crate::demonstrating::demonstrate;
 use crate::making::make_vault;
 use crate::opening::open_vault;
 use crate::report::{counts_line, refuse, report, write_all};
 use crate::serving::{Outcome, serve_workers};
-use crate::task::{Service, Task, read_task};
+use crate::task::{Scripts, Service, Task, read_task};
 use crate::vault::Since;
 use outside::{Clock, Entropy, Failed, Folder, Gate, Listener, Refused, Sink, Source};
 use shared_sessions::Worker;
@@ -50,6 +51,9 @@ pub struct Ended<D> {
 /// done, and each request is answered with the entry in which it failed. As many workers as the words say, or all where there are fewer,
 /// share the sessions, each in a thread of its own where one can be made; a worker whose listener has no more links, or fails, ends before.
 ///
+/// `demo` serves an empty vault in memory, whose keys are drawn from the seed, to so many clients, each of whom sends its script, and sums up the rows
+/// after the last entry of the history of all their sessions. It touches neither `folder` nor the secret nor the workers.
+///
 /// `make` reads the secret and makes a vault in `folder`, of what it draws from the first worker; from its first sync on a stop leaves no
 /// vault, or the whole of it, even where it fails later. `--help` and `--version` touch nothing. Of a good secret its line alone is taken.
 ///
@@ -57,8 +61,9 @@ pub struct Ended<D> {
 /// |---|---|---|
 /// | 0 | `serving`, then `sessions N done a cut b bad c read d write e memory f limit g` | the vault was served, and no commit failed |
 /// | 0 | `made` | the folder was empty and holds a new vault |
+/// | 0 | `clients M requests R entries E bytes B rows H` | each session of the demonstration ended between two messages |
 /// | 0 | `USAGE`; `VERSION` | the words are `--help`; `--version` |
-/// | 1 | `bad words` | the words ask for no job, or for one that isn't done yet |
+/// | 1 | `bad words` | the words ask for no job, or for serving at an empty address |
 /// | 2 | `bad secret` | the secret's line is no password, or isn't two keys where keys are wanted |
 /// | 2, 3 | `wrong password`; `vault refused: ..` | the key files, with the cause; too many nodes; no root |
 /// | 4 | `device fault: secret`, `folder`, `random` | that count of faults rose |
@@ -109,6 +114,10 @@ where
             rt, alloc, service, folder, workers, secret, out, clock,
         ),
         Ok(Task::Make) => make(alloc, folder, workers, secret, out),
+        Ok(Task::Demo(scripts)) => Ended {
+            status: report_demonstration(rt, alloc, scripts, out),
+            folder: Some(folder),
+        },
         Ok(Task::Usage) => Ended {
             status: report(out, USAGE.as_bytes(), 0, CUT_STATUS),
             folder: Some(folder),
@@ -254,6 +263,22 @@ fn announce<O: Sink>(out: &mut O) -> Result<(), Failed>
     ensures cause { HasCause (O.faults out.old) (O.faults out.new) (IsErr result) }
 {
     write_all(out, b"serving\n")
+}
+
+// Holds a demonstration, and reports it.
+fn report_demonstration<R: Threads + Wait + Sync, O: Sink>(
+    rt: &R,
+    alloc: Global,
+    scripts: Scripts,
+    out: &mut O,
+) -> u8
+    requires { (1 ≤ scripts.clients) × (scripts.clients ≤ 64) }
+    ensures { (d : Demonstration) → AreScriptsOf d scripts → HasDemonstrated d (course (sink_view O.taken O.faults) out.old out.new) result }
+{
+    match demonstrate(rt, alloc, scripts) {
+        Ok(line) => report(out, &line, 0, CUT_STATUS),
+        Err(_) => refuse(out, &Cause::Memory),
+    }
 }
 
 // Puts a worker back to the front of the others, from where it was taken.

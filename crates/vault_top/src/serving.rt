@@ -46,11 +46,13 @@ impl Outcome {
     }
 }
 
-/// What is handed back after serving; the folder may be lost where memory ran out.
+/// What is handed back after serving: the folder, which may be lost where memory ran out, what serving came to, and how many requests the
+/// vault answered, as far as 64 bits go.
 #[derive(Drop)]
 pub(crate) struct HandedBack<D> {
     pub folder: Option<D>,
     pub outcome: Outcome,
+    pub entries: u64,
 }
 
 /// Serves all workers' sessions over an open vault, and closes the vault.
@@ -91,15 +93,19 @@ where
         clock,
     ) {
         Ok(Served { tree, counts }) => {
-            let (folder, closed) = tree.into_store().close();
+            let store = tree.into_store();
+            let entries = store.entries();
+            let (folder, closed) = store.close();
             HandedBack {
                 folder: Some(folder),
                 outcome: outcome_of(counts, closed),
+                entries,
             }
         }
         Err(left) => HandedBack {
             folder: folder_of(left),
             outcome: Outcome::NoMemory,
+            entries: 0,
         },
     }
 }

@@ -18,6 +18,14 @@ pub(crate) struct Service {
     pub at_once: u32,
 }
 
+/// What is demonstrated: the scripts of so many clients, 1 to 64, each of so many requests, drawn from this seed.
+#[derive(Clone, Copy, Debug, PartialEq, Eq)]
+pub(crate) struct Scripts {
+    pub seed: u64,
+    pub clients: u32,
+    pub requests: u32,
+}
+
 /// What is to be done.
 #[derive(Clone, Copy, Debug, PartialEq, Eq)]
 pub(crate) enum Task {
@@ -25,6 +33,8 @@ pub(crate) enum Task {
     Serve(Service),
     /// Makes a vault under the secret's password.
     Make,
+    /// Serves clients' scripts on a vault in memory.
+    Demo(Scripts),
     /// Says how the program is called.
     Usage,
     /// Says its version.
@@ -66,7 +76,15 @@ fn task_of(job: Job<'_>) -> Option<Task>
             }))
         }
         Job::Make { .. } => Some(Task::Make),
-        Job::Demo { .. } => None,
+        Job::Demo {
+            seed,
+            clients,
+            requests,
+        } => Some(Task::Demo(Scripts {
+            seed,
+            clients: clients as u32,
+            requests: requests as u32,
+        })),
         Job::Help => Some(Task::Usage),
         Job::Version => Some(Task::Version),
     }

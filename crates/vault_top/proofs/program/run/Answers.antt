@@ -2,7 +2,7 @@ use Rattle.std.proofs.Common.{refl, inl, inr}
 use Rattle.vault_causes.specs.declared.cause.Cause.TheVariants.{Words, Memory}
 use Rattle.vault_top.specs.Words.{words_of}
 use Rattle.vault_top.specs.Span.{course, source_view, sink_view, views_of}
-use Rattle.vault_top.specs.Ending.{usage_said, version_said}
+use Rattle.vault_top.specs.Ending.{usage_said, version_said, demonstrated}
 use Rattle.vault_top.proofs.Written.{written_as}
 use Rattle.vault_top.proofs.Reasons.{run_untouched, run_badly_asked}
 use Rattle.vault_top.proofs.program.run.Goals as goal
@@ -61,4 +61,25 @@ returns-in-Err-Memory g c =
     record {
       run = run_badly_asked views (words_of c.args.words.now) (source_view g.S.Source.left g.S.Source.faults c.args.secret.now) (g.K.Clock.second c.args.clock.now)
           c.args.folder c.args.workers.now.items (course (sink_view g.O.Sink.taken g.O.Sink.faults) c.args.out.now c.refuse-in-Err-Memory.new.out) _ Memory refl (inr refl) c.refuse-in-Err-Memory.ensures;
+    }
+
+pub report_demonstration-requires : goal.report_demonstration-requires
+report_demonstration-requires g c =
+    let asked = rw c.in-Ok-Demo.field-0-is at c.in-Ok-Demo.ensures.task in
+    (c.type_bounds.sync-R, (asked.3, asked.4))
+
+pub returns-in-Ok-Demo : goal.returns-in-Ok-Demo
+returns-in-Ok-Demo g c =
+    let views = views_of g.D.Reads.log g.D.Reads.faults g.D.Reads.changes g.N.Listener.to_come g.N.Listener.given_back g.N.Listener.faults
+    g.N.Conn.Link.left g.N.Conn.Link.taken g.N.Conn.Link.read_faults g.N.Conn.Link.write_faults g.E.Entropy.drawn g.E.Entropy.faults in
+    let asked = rw c.in-Ok-Demo.field-0-is at c.in-Ok-Demo.ensures.task in
+    let words = words_of c.args.words.now in
+    let secret = source_view g.S.Source.left g.S.Source.faults c.args.secret.now in
+    let sink = course (sink_view g.O.Sink.taken g.O.Sink.faults) c.args.out.now c.report_demonstration.new.out in
+    record {
+      run = elim (c.report_demonstration.ensures asked.0 asked.2) [
+        | inl h ↦ run_untouched views words secret (g.K.Clock.second c.args.clock.now) c.args.folder c.args.workers.now.items sink _ (demonstrated h.0) refl
+            (λ untouched. record { demonstration = asked.0; words = asked.1; untouched = untouched; held = h.1 }) h.2
+        | inr reported ↦ run_badly_asked views words secret (g.K.Clock.second c.args.clock.now) c.args.folder c.args.workers.now.items sink _ Memory refl (inr refl) reported
+      ];
     }

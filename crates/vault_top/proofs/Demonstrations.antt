@@ -1,0 +1,210 @@
+-- A demonstration that was held.
+use Rattle.std.proofs.Common.{◌≡◌, ℕ, ◌-◌, ◌^◌, ◌<◌, List, [], ◌∷◌, length, min, Option, Some, Result, Ok, IsOk, refl, sym, ap, subst, ◌∙◌, inl, inr, arith}
+use Rattle.std.specs.Prelude.{IfOk, option_map}
+use Rattle.std.specs.Option.{ok_or}
+use Rattle.std.specs.List.{AllByRecursion}
+use Rattle.std.proofs.lemmas.List.FromFn.{length-map-range_with_len}
+use Rattle.std.proofs.lemmas.List.Sums.{count_by-le-length, length-filter}
+use Rattle.outside.specs.Disk.{Disk}
+use Rattle.outside_mem.specs.Held.{Holding}
+use Rattle.outside_mem.specs.Links.{Links}
+use Rattle.outside_mem.specs.Words.{Drawing}
+use Rattle.directory_scan.specs.Format.{sealing_of}
+use Rattle.tree_changes.specs.Shapes.{HasTree}
+use Rattle.masterkey_file.specs.Password.{line_of}
+use Rattle.vault_keys.specs.Unlock.{UnlockedVault, bad_secret}
+use Rattle.vault_words.specs.Jobs.{Demonstration}
+use Rattle.demo_work.specs.Summary.{summary_line}
+use Rattle.demo_objects.specs.Objects.{IsEmptyVault, key_line}
+use Rattle.outside.specs.declared.stream.Failed.{Failed}
+use Rattle.outside.specs.Calls.{Changes, Told}
+use Rattle.outside.specs.Images.{disk_in, now}
+use Rattle.outside.specs.Views.{FolderView}
+use Rattle.siv_mode.specs.Keys.{KeyPair}
+use Rattle.tree_model.specs.Rows.{Rows}
+use Rattle.tree_history.specs.History.{Entry, Origin, rows_after, rows_at, rows_then}
+use Rattle.session_server.specs.declared.ending.SessionEnd.{SessionEnd}
+use Rattle.session_server.specs.declared.ending.SessionEnd.TheVariants.{Done, Cut, BadFrame, ReadFault, WriteFault, Limit, Memory}
+use Rattle.session_workers.specs.declared.counts.SessionCounts.{SessionCounts}
+use Rattle.session_workers.specs.Ends.{AreCounts, count_of, is_done}
+use Rattle.session_workers.specs.Shares.{all_ends}
+use Rattle.session_workers.specs.Workers.{MayStop}
+use Rattle.shared_sessions.specs.declared.workers.Worker.{Worker}
+use Rattle.store_history.specs.Store.{bounded}
+use Rattle.vault_unlock.specs.Secret.{IsAfterLine, raw_keys}
+use Rattle.vault_unlock.specs.Unlock.{IsUnlocking, unlock, with_raw_threshold}
+use Rattle.vault_unlock.specs.declared.unlocking.SecretKind.TheVariants.{RawKeys}
+use Rattle.vault_top.specs.Span.{Course, SourceView, Views, span_of}
+use Rattle.vault_top.specs.Sharing.{AreBeginnings, IsAlone}
+use Rattle.vault_top.specs.Sessions.{IsServedWhole}
+use Rattle.vault_top.specs.Report.{line}
+use Rattle.vault_top.specs.Tasks.{AreScriptsOf}
+use Rattle.vault_top.specs.Demonstrated.{HasHeld, own_span, own_views, worker_of, workers_of}
+use Rattle.vault_top.specs.Serving.{HasOutcome, HasServed, HasServedAll, IsKeptOf, SumsUp}
+use Rattle.vault_top.specs.declared.task.Scripts.{Scripts}
+use Rattle.vault_top.specs.declared.demonstrating.Kept.{Kept}
+use Rattle.vault_top.specs.declared.serving.HandedBack.{HandedBack}
+use Rattle.vault_top.specs.declared.serving.Outcome.{Outcome}
+use Rattle.vault_top.specs.declared.serving.Outcome.TheVariants.{Served, NoMemory}
+use Rattle.vault_top.specs.declared.task.Service.{Service}
+use Rattle.vault_top.proofs.Reasons.{served_well}
+
+-- ---- ends
+
+-- where as many ended between two messages as there were, each did
+pub all_done : (ends : List SessionEnd) → count_of is_done ends ≡ length ends → AllByRecursion (λ end. end ≡ Done) ends
+all_done [] all = tt
+all_done (Done ∷ ends) all = (refl, all_done ends (omega arith))
+all_done (Cut had wanted ∷ ends) all = absurd (omega (arith, length-filter is_done ends, count_by-le-length is_done ends))
+all_done (BadFrame size ∷ ends) all = absurd (omega (arith, length-filter is_done ends, count_by-le-length is_done ends))
+all_done (ReadFault ∷ ends) all = absurd (omega (arith, length-filter is_done ends, count_by-le-length is_done ends))
+all_done (WriteFault ∷ ends) all = absurd (omega (arith, length-filter is_done ends, count_by-le-length is_done ends))
+all_done (Limit ∷ ends) all = absurd (omega (arith, length-filter is_done ends, count_by-le-length is_done ends))
+all_done (Memory ∷ ends) all = absurd (omega (arith, length-filter is_done ends, count_by-le-length is_done ends))
+
+-- the rows after as many entries as there are
+pub rows_at-all : (rows : Rows) (entries : List Entry) → rows_at rows entries (length entries) ≡ rows_after rows entries
+rows_at-all rows [] = refl
+rows_at-all rows (entry ∷ entries) = rows_at-all (rows_then rows entry.made) entries
+
+-- ---- an outcome that was counted
+
+record IsCounted {X : Type 0} (counts : Result SessionCounts Failed) (closing : Result X Failed) (c : SessionCounts) : Type 0 where
+  counted : counts ≡ Ok c
+  closed : IsOk closing
+
+counted_so : {X : Type 0} (counts : Result SessionCounts Failed) (closing : Result X Failed) (outcome : Outcome) (c : SessionCounts) → HasOutcome counts closing outcome → outcome ≡ Served c
+    → IsCounted counts closing c
+counted_so counts closing outcome c h is = let served = subst (λ (o : Outcome). HasOutcome counts closing o) is h in record { counted = served.0; closed = served.1 }
+
+not_counted : (outcome : Outcome) (c : SessionCounts) → outcome ≡ NoMemory → outcome ≡ Served c → ⊥
+not_counted outcome c none some = let e : NoMemory ≡ Served c = sym none ∙ some in absurd cc
+
+same_folder : {D : Type 0} (a b : D) (o : Option D) → o ≡ Some a → o ≡ Some b → a ≡ b
+same_folder a b o e f = cc
+
+few_entries : (n m : ℕ) → n ≡ bounded m → n < 2 ^ 64 - 1 → n ≡ m
+few_entries n m is few = omega arith
+
+-- ---- a vault all of whose sessions were held
+
+module _ {D N C E : Type 0} (start : Rows → Origin → Type 0) (since : FolderView → KeyPair → Rows → Type 0) (views : Views D N C E) (words : List (List ℕ)) (secret : Course SourceView) (second : Option ℕ) (folder : D) (service : Service)
+    (workers workers' : List (Worker N E)) (ends : List SessionEnd) (back : HandedBack D) (kept : Kept D)
+    (starts : AreBeginnings start views folder workers) (alone : IsAlone since service.kind (views.folder folder) secret.before second)
+    (line : Changes secret.before.left secret.after.left IsAfterLine) (is : IsKeptOf back service.sessions kept) where
+  all_counted : (h : HasServedAll start since views second service workers workers' ends back) → AreCounts is.counts ends
+  all_counted h =
+      let counted = counted_so h.counts h.closing back.outcome is.counts h.outcome is.outcome in
+      subst (λ (es : List SessionEnd). AreCounts is.counts es) h.ended (subst (λ (r : Result SessionCounts Failed). IfOk r (λ c. AreCounts c (all_ends h.joined.shares))) counted.counted h.joined.counted)
+
+  whole_of : (h : HasServedAll start since views second service workers workers' ends back)
+      → IsServedWhole views (span_of views words secret second folder h.folder workers workers') service.kind service.sessions (min service.at_once (length workers)) kept.entries
+  whole_of h =
+      let counted = counted_so h.counts h.closing back.outcome is.counts h.outcome is.outcome in
+      let counts = all_counted h in
+      let well = served_well start since views words secret second folder service workers workers' ends back starts alone line h
+      (λ worker stop. subst (λ (r : Result SessionCounts Failed). MayStop r worker) counted.counted stop) counted.closed
+      in
+      record {
+        ends = ends;
+        served = well.served;
+        many = sym counts.sessions ∙ is.sessions_are;
+        done = all_done ends (sym counts.done ∙ is.done ∙ sym is.sessions_are ∙ counts.sessions);
+        running = well.running;
+        on_disk = well.on_disk;
+        count = few_entries kept.entries (length h.joined.entries) (sym is.entries ∙ h.asked ∙ h.joined.right.stands.count) is.few ∙ sym well.count;
+      }
+
+  pub served_whole : HasServed start since views second service workers workers' ends back
+      → IsServedWhole views (span_of views words secret second folder kept.folder workers workers') service.kind service.sessions (min service.at_once (length workers)) kept.entries
+  served_whole (inl h) =
+      subst (λ (f : D). IsServedWhole views (span_of views words secret second folder f workers workers') service.kind service.sessions (min service.at_once (length workers)) kept.entries)
+      (same_folder h.folder kept.folder back.folder h.folder_is is.folder) (whole_of h)
+  served_whole (inr h) = absurd (not_counted back.outcome is.counts h.outcome is.outcome)
+
+-- ---- a demonstration
+
+-- the keys that a line of digits unlocks
+unlocked_keys : (secret : Option (List ℕ)) (bytes : List ℕ) (disk : Option Disk) (vault : UnlockedVault) (keys : KeyPair) → secret ≡ Some bytes → raw_keys (line_of bytes) ≡ Some keys
+    → IsUnlocking RawKeys secret disk (λ found. found ≡ Ok vault) → vault.keys ≡ keys
+unfolding unlock
+unlocked_keys secret bytes disk vault keys same is h =
+    let told = subst (λ (s : Option (List ℕ)). Told s (λ b. unlock RawKeys b h.0 ≡ Ok vault)) same h.2 in
+    let found : ok_or (option_map with_raw_threshold (Some keys)) bad_secret ≡ Ok vault = subst (λ (o : Option KeyPair). ok_or (option_map with_raw_threshold o) bad_secret ≡ Ok vault) is told in
+    let one : with_raw_threshold keys ≡ vault = cc in
+    sym (ap (λ (v : UnlockedVault). v.keys) one)
+
+-- the text of a demonstration that was held
+pub record IsHeldAs (d : Demonstration) (written : List ℕ) : Type 0 where
+  pub text : List ℕ
+  pub is : written ≡ line text
+  pub held : HasHeld d text
+
+module _ (d : Demonstration) (secret : Course SourceView) (folder : Holding) (kept : Kept Holding) (workers' : List (Worker Links Drawing)) (keys : KeyPair) (written : List ℕ)
+    (secret_is : secret.before ≡ record { left = Some (key_line d.seed); faults = 0 }) (keys_are : raw_keys (line_of (key_line d.seed)) ≡ Some keys) (empty : IsEmptyVault keys folder) where
+  held_by : (whole : IsServedWhole own_views (own_span d secret folder kept.folder workers') RawKeys d.clients d.clients kept.entries)
+      → ((shown : Rows) → HasTree (sealing_of keys) (now kept.folder.log) shown → SumsUp (record { seed = d.seed; clients = d.clients; requests = d.requests }) kept.entries shown written)
+      → IsHeldAs d written
+  held_by whole sums =
+      let history = whole.served.history in
+      let same : whole.served.vault.keys ≡ keys =
+      unlocked_keys secret.before.left (key_line d.seed) (disk_in (Some folder.log)) whole.served.vault keys (ap (λ (s : SourceView). s.left) secret_is) keys_are whole.served.unlocked.gave
+      in
+      let shows : HasTree (sealing_of keys) (now kept.folder.log) (rows_at history.rows history.entries (length history.entries)) =
+      subst (λ (k : KeyPair). HasTree (sealing_of k) (now kept.folder.log) (rows_at history.rows history.entries (length history.entries))) same whole.on_disk.shows
+      in
+      let summed = sums (rows_after history.rows history.entries) (subst (λ (r : Rows). HasTree (sealing_of keys) (now kept.folder.log) r) (rows_at-all history.rows history.entries) shows) in
+      record {
+        text = summary_line d.clients d.requests (length history.entries) summed.rows;
+        is = summed.is ∙ ap (λ (n : ℕ). line (summary_line d.clients d.requests n summed.rows)) whole.count;
+        held = record {
+          secret = secret;
+          secret_is = secret_is;
+          folder = folder;
+          kept = kept.folder;
+          workers_left = workers';
+          entries = kept.entries;
+          sessions = whole;
+          empty = subst (λ (k : KeyPair). IsEmptyVault k folder) (sym same) empty;
+          rows = summed.rows;
+          left = summed.left;
+          text_is = refl;
+        };
+      }
+
+  workers_many : min d.clients (length (workers_of d.seed d.clients d.requests)) ≡ d.clients
+  workers_many =
+      let many : length (workers_of d.seed d.clients d.requests) ≡ d.clients = length-map-range_with_len (worker_of d.seed d.requests) 0 d.clients in
+      omega arith
+
+  held_where : IsServedWhole own_views (own_span d secret folder kept.folder workers') RawKeys d.clients (min d.clients (length (workers_of d.seed d.clients d.requests))) kept.entries
+      → ((shown : Rows) → HasTree (sealing_of keys) (now kept.folder.log) shown → SumsUp (record { seed = d.seed; clients = d.clients; requests = d.requests }) kept.entries shown written)
+      → IsHeldAs d written
+  held_where whole sums =
+      held_by (subst (λ (m : ℕ). IsServedWhole own_views (own_span d secret folder kept.folder workers') RawKeys d.clients m kept.entries) workers_many whole) sums
+
+-- what was done with these scripts
+pub record HasDone (scripts : Scripts) (written : List ℕ) : Type 0 where
+  pub secret : Course SourceView
+  pub folder : Holding
+  pub kept : Kept Holding
+  pub workers : List (Worker Links Drawing)
+  pub workers' : List (Worker Links Drawing)
+  pub keys : KeyPair
+  pub secret_is : secret.before ≡ record { left = Some (key_line scripts.seed); faults = 0 }
+  pub keys_are : raw_keys (line_of (key_line scripts.seed)) ≡ Some keys
+  pub empty : IsEmptyVault keys folder
+  pub workers_are : workers ≡ workers_of scripts.seed scripts.clients scripts.requests
+  pub whole : IsServedWhole own_views (span_of own_views [] secret (Some 0) folder kept.folder workers workers') RawKeys scripts.clients (min scripts.clients (length workers)) kept.entries
+  pub sums : (shown : Rows) → HasTree (sealing_of keys) (now kept.folder.log) shown → SumsUp scripts kept.entries shown written
+
+done_with : (d : Demonstration) (written : List ℕ) → HasDone (record { seed = d.seed; clients = d.clients; requests = d.requests }) written → IsHeldAs d written
+done_with d written h =
+    held_where d h.secret h.folder h.kept h.workers' h.keys written h.secret_is h.keys_are h.empty
+    (subst (λ (w : List (Worker Links Drawing)). IsServedWhole own_views (span_of own_views [] h.secret (Some 0) h.folder h.kept.folder w h.workers') RawKeys d.clients (min d.clients (length w)) h.kept.entries)
+    h.workers_are h.whole) h.sums
+
+pub done_as : (d : Demonstration) (scripts : Scripts) (written : List ℕ) → AreScriptsOf d scripts → HasDone scripts written → IsHeldAs d written
+done_as d scripts written are h =
+    let same : scripts ≡ record { seed = d.seed; clients = d.clients; requests = d.requests } = λ i. record { seed = are.seed i; clients = are.clients i; requests = are.requests i } in
+    done_with d written (subst (λ (s : Scripts). HasDone s written) same h)

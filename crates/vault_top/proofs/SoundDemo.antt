@@ -1,0 +1,38 @@
+-- A demonstration is held.
+use Rattle.std.proofs.Common.{◌≡◌, inl, inr}
+use Rattle.vault_causes.specs.declared.cause.Cause.{Cause}
+use Rattle.vault_causes.specs.declared.cause.Cause.TheVariants.{Memory}
+use Rattle.vault_words.specs.Jobs.{Demonstration, Job, serve, make, demo, help, version, AsksFor}
+use Rattle.vault_top.specs.Words.{Ask}
+use Rattle.vault_top.specs.Span.{Views, Span}
+use Rattle.vault_top.specs.Ending.{Ending, refused, usage_said, version_said, made, no_memory_to_serve, served, listener_fault, closing_fault, no_memory_to_report, demonstrated, IsRefused, HasReason}
+use Rattle.vault_top.specs.Sound.{IsHeldOrFull}
+use Rattle.vault_top.proofs.Asked.{AskPlainly, one_job, not_refused}
+
+module _ {C : Type 0} (span : Span C) (d : Demonstration) (asked : Ask span.words (demo d)) where
+  plainly : AskPlainly span.words (demo d)
+  plainly = record { taken = asked.asks.0; named = asked.asks.1 }
+
+  -- the words ask for nothing else
+  one : (job : Job) → AsksFor job span.words → job ≡ demo d
+  one job asks = one_job span.words (demo d) job plainly asks
+
+  refused_held : (cause : Cause) → IsRefused span cause → cause ≡ Memory
+  refused_held cause (inl h) = elim h.why [
+    | inl bad ↦ absurd (not_refused span.words (demo d) plainly asked.offered bad.1)
+    | inr memory ↦ memory
+  ]
+  refused_held cause (inr (inl h)) = let e : serve h.serving ≡ demo d = one (serve h.serving) h.words.asks in absurd cc
+  refused_held cause (inr (inr h)) = let e : make h.dir ≡ demo d = one (make h.dir) h.words.asks in absurd cc
+
+  pub held : {D N E : Type 0} (views : Views D N C E) (ending : Ending) → HasReason views span ending → IsHeldOrFull ending
+  held views (refused cause) h = refused_held cause h
+  held views usage_said h = let e : help ≡ demo d = one help h.0.asks in absurd cc
+  held views version_said h = let e : version ≡ demo d = one version h.0.asks in absurd cc
+  held views made h = let e : make h.dir ≡ demo d = one (make h.dir) h.words.asks in absurd cc
+  held views no_memory_to_serve h = let e : serve h.serving ≡ demo d = one (serve h.serving) h.words.asks in absurd cc
+  held views (served ends) h = let e : serve h.0.serving ≡ demo d = one (serve h.0.serving) h.0.words.asks in absurd cc
+  held views (listener_fault ends) h = let e : serve h.0.serving ≡ demo d = one (serve h.0.serving) h.0.words.asks in absurd cc
+  held views (closing_fault ends) h = let e : serve h.0.serving ≡ demo d = one (serve h.0.serving) h.0.words.asks in absurd cc
+  held views (no_memory_to_report ends) h = let e : serve h.0.serving ≡ demo d = one (serve h.0.serving) h.0.words.asks in absurd cc
+  held views (demonstrated text) h = tt

@@ -1,0 +1,14 @@
+use Rattle.std.specs.Prelude.{Some}
+use Rattle.vault_unlock.specs.declared.unlocking.SecretKind.TheVariants.{RawKeys}
+use Rattle.demo_objects.specs.Objects.{folder_seen}
+use Rattle.vault_top.specs.Sharing.{Begins, IsBegun}
+use Rattle.vault_top.specs.Demonstrated.{own_views}
+use Rattle.vault_top.proofs.demonstrating.demonstrate.Given as goal
+
+abbrev pub ghosts-hold_sessions-B-Start : goal.ghosts-hold_sessions-B-Start
+ghosts-hold_sessions-B-Start g a = record { is = λ rows origin. Begins own_views a.folder a.workers.now.items rows origin }
+
+abbrev pub ghosts-hold_sessions-B-Since : goal.ghosts-hold_sessions-B-Since
+ghosts-hold_sessions-B-Since g a = record {
+  since = λ start keys rows. IsBegun RawKeys (folder_seen a.folder) (record { left = Some a.secret.now.left; faults = a.secret.now.plan.faults }) (Some a.clock.now) start keys rows;
+}

@@ -1,0 +1,45 @@
+-- What a demonstration does: it serves a vault of its own, in memory, to clients that send their scripts, and sums up what they leave.
+use Rattle.std.specs.Prelude.{◌≡◌, ℕ, List, [], length, map, Some}
+use Rattle.std.specs.List.{range_with_len}
+use Rattle.outside_mem.specs.Held.{Holding}
+use Rattle.outside_mem.specs.Links.{Ends, Links}
+use Rattle.outside_mem.specs.Words.{Drawing}
+use Rattle.tree_history.specs.History.{rows_after}
+use Rattle.vault_unlock.specs.declared.unlocking.SecretKind.TheVariants.{RawKeys}
+use Rattle.vault_words.specs.Jobs.{Demonstration}
+use Rattle.demo_work.specs.Summary.{PlainRow, summary_line}
+use Rattle.demo_objects.specs.Objects.{IsEmptyVault, entropy_of, entropy_seen, folder_seen, key_line, link_seen, listener_of, listener_seen}
+use Rattle.demo_rows.specs.Left.{AreLeft}
+use Rattle.shared_sessions.specs.declared.workers.Worker.{Worker}
+use Rattle.vault_top.specs.Span.{Course, SourceView, Views, Span, span_of}
+use Rattle.vault_top.specs.Sessions.{IsServedWhole}
+
+-- how its objects are seen
+abbrev pub own_views : Views Holding Links Ends Drawing
+own_views = record { folder = folder_seen; listener = listener_seen; link = link_seen; entropy = entropy_seen }
+
+-- a client's worker, and those of so many clients
+abbrev pub worker_of : ℕ → ℕ → ℕ → Worker Links Drawing
+worker_of seed requests client = record { listener = listener_of seed client requests; entropy = entropy_of seed client }
+
+abbrev pub workers_of : ℕ → ℕ → ℕ → List (Worker Links Drawing)
+workers_of seed clients requests = map (worker_of seed requests) (range_with_len 0 clients)
+
+-- what it is given and leaves: the clock stands at 0, and each client has a worker
+abbrev pub own_span : Demonstration → Course SourceView → Holding → Holding → List (Worker Links Drawing) → Span Ends
+own_span d secret folder kept workers' = span_of own_views [] secret (Some 0) folder kept (workers_of d.seed d.clients d.requests) workers'
+
+-- It was held: an empty vault, whose keys are the first bytes of stream 0, was served to the clients, each of whom was one session that sent its script. The line
+-- sums up the rows after the last entry of the one history of all sessions, with the number of its entries.
+pub record HasHeld (d : Demonstration) (text : List ℕ) : Type 0 where
+  pub secret : Course SourceView
+  pub secret_is : secret.before ≡ record { left = Some (key_line d.seed); faults = 0 }
+  pub folder : Holding
+  pub kept : Holding
+  pub workers_left : List (Worker Links Drawing)
+  pub entries : ℕ
+  pub sessions : IsServedWhole own_views (own_span d secret folder kept workers_left) RawKeys d.clients d.clients entries
+  pub empty : IsEmptyVault sessions.served.vault.keys folder
+  pub rows : List PlainRow
+  pub left : AreLeft (rows_after sessions.served.history.rows sessions.served.history.entries) rows
+  pub text_is : text ≡ summary_line d.clients d.requests (length sessions.served.history.entries) rows

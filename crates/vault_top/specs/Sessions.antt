@@ -1,0 +1,39 @@
+-- Sessions over an open vault that have ended.
+use Rattle.std.specs.Prelude.{◌≡◌, ℕ, List, length, Option, IsNone}
+use Rattle.std.specs.List.{AllByRecursion}
+use Rattle.siv_mode.specs.Keys.{KeyPair}
+use Rattle.tree_history.specs.History.{tally_of}
+use Rattle.session_server.specs.declared.ending.SessionEnd.{SessionEnd}
+use Rattle.session_server.specs.declared.ending.SessionEnd.TheVariants.{Done}
+use Rattle.vault_keys.specs.Unlock.{UnlockedVault}
+use Rattle.vault_unlock.specs.declared.unlocking.SecretKind.{SecretKind}
+use Rattle.vault_top.specs.Span.{Views, WorkerSpan, Span}
+use Rattle.vault_top.specs.Served.{Share, AreShares, all_ends, HasHistory, IsOnDisk}
+use Rattle.vault_top.specs.Opening.{IsUnlocked}
+
+-- The vault was served under the keys that were unlocked by a secret of this kind: of so many sessions, which so many workers share, each worker its share, which ended so, and
+-- what was asked in them is one legal history, whatever the interleaving, of which a stop leaves a prefix. `MayStop` is what may have kept a worker from its share.
+pub record IsServedTo {D N C E : Type 0} (views : Views D N C E) (span : Span C) (kind : SecretKind) (sessions sharing : ℕ) (MayStop : WorkerSpan C → Type 0) (ends : List SessionEnd) : Type 0 where
+  pub vault : UnlockedVault
+  pub unlocked : IsUnlocked span.given kind vault
+  pub shares : List (Share C)
+  pub are : AreShares views.link span.given.second MayStop sessions sharing 0 span.workers shares
+  pub history : HasHistory span vault.keys shares
+  pub ended : all_ends shares ≡ ends
+
+-- the entry of a history whose commit failed
+abbrev pub stopped_in : {C : Type 0} {span : Span C} {keys : KeyPair} {shares : List (Share C)} → HasHistory span keys shares → Option ℕ
+stopped_in history = (tally_of history.origin history.entries).stopped
+
+abbrev pub Never : {C : Type 0} → WorkerSpan C → Type 0
+Never worker = ⊥
+
+-- All sessions were held, and each one's input ended between two messages; no commit failed, and all entries, which are so many, are on the disk.
+pub record IsServedWhole {D N C E : Type 0} (views : Views D N C E) (span : Span C) (kind : SecretKind) (sessions sharing entries : ℕ) : Type 0 where
+  pub ends : List SessionEnd
+  pub served : IsServedTo views span kind sessions sharing Never ends
+  pub many : length ends ≡ sessions
+  pub done : AllByRecursion (λ end. end ≡ Done) ends
+  pub running : IsNone (stopped_in served.history)
+  pub on_disk : IsOnDisk served.history
+  pub count : entries ≡ length served.history.entries

@@ -1,0 +1,207 @@
+//! A demonstration: a vault in memory is served to clients that send their scripts.
+
+ghost use Rattle.std.specs.Prelude.{◌≡◌, ◌≤◌, ℕ, List, min, length, Some, IfOk, IfSome, vec_len};
+ghost use Rattle.outside.specs.Images.{now};
+ghost use Rattle.outside.specs.Views.{folder_view};
+ghost use Rattle.tree_model.specs.Rows.{Rows};
+ghost use Rattle.directory_scan.specs.Format.{sealing_of};
+ghost use Rattle.tree_changes.specs.Shapes.{HasTree};
+ghost use Rattle.masterkey_file.specs.Password.{line_of};
+ghost use Rattle.vault_unlock.specs.Secret.{raw_keys};
+ghost use Rattle.vault_words.specs.Jobs.{Demonstration};
+ghost use Rattle.vault_top.specs.Report.{line};
+ghost use Rattle.vault_top.specs.Span.{course, source_view, span_of, views_of};
+ghost use Rattle.vault_top.specs.Sharing.{AreBeginnings, IsAlone};
+ghost use Rattle.vault_top.specs.Sessions.{IsServedWhole};
+ghost use Rattle.vault_top.specs.Demonstrated.{HasHeld, workers_of};
+ghost use Rattle.vault_top.specs.Tasks.{AreScriptsOf};
+ghost use Rattle.vault_top.specs.Serving.{IsKeptOf, SumsUp};
+
+use crate::opening::open_vault;
+use crate::serving::{HandedBack, Outcome, serve_workers};
+use crate::task::{Scripts, Service};
+use crate::vault::Since;
+use demo_objects::{client_listener, empty_vault, key_line, worker_entropy};
+use demo_rows::rows_left;
+use demo_work::summary;
+use outside::{Clock, Entropy, Folder, Listener, Source};
+use outside_mem::{MemFolder, MemListener, MemSource, SeedEntropy, SetClock};
+use shared_sessions::Worker;
+use shared_vault::Start;
+use siv_mode::VaultKeys;
+use std::alloc::{AllocError, Global};
+use std::marker::Brand;
+use std::sync::Wait;
+use std::thread::Threads;
+use tree_loading::load;
+use vault_unlock::{SecretKind, read_keys};
+
+// The threshold of the vault. It decides nothing where a tree is loaded.
+const THRESHOLD: u32 = 220;
+
+/// The folder of a vault all of whose sessions were held, and how many requests it answered.
+#[derive(Drop)]
+pub(crate) struct Kept<D> {
+    pub folder: D,
+    pub entries: u64,
+}
+
+/// The line that sums up a demonstration, with its LF.
+///
+/// # Errors
+///
+/// Out of memory, also where that kept a session from its end.
+pub(crate) fn demonstrate<R: Threads + Wait + Sync>(
+    rt: &R,
+    alloc: Global,
+    scripts: Scripts,
+) -> Result<Vec<u8>, AllocError>
+    requires { (1 ≤ scripts.clients) × (scripts.clients ≤ 64) }
+    ensures { IfOk result (λ written. (d : Demonstration) → AreScriptsOf d scripts → (text : List ℕ) × (written.items ≡ line text) × HasHeld d text) }
+{
+    let line = key_line(alloc, scripts.seed)?;
+    let keys = keys_in(alloc, &line)?;
+    let folder = empty_vault(alloc, &keys)?;
+    let mut secret = MemSource::new(alloc, line);
+    let mut workers = workers_of(alloc, scripts)?;
+    let service = Service {
+        kind: SecretKind::RawKeys,
+        sessions: scripts.clients,
+        at_once: scripts.clients,
+    };
+    let kept = hold_sessions::<R, MemFolder, Brand, MemListener, SeedEntropy, MemSource, SetClock>(
+        rt,
+        alloc,
+        service,
+        folder,
+        &mut workers,
+        &mut secret,
+        &SetClock::new(0),
+    );
+    match kept {
+        Some(kept) => sum_up(alloc, scripts, &keys, kept),
+        None => Err(AllocError),
+    }
+}
+
+// The keys that a secret's line spells.
+fn keys_in(alloc: Global, line: &[u8]) -> Result<VaultKeys, AllocError>
+    ensures { IfOk result (λ keys. raw_keys (line_of line.now) ≡ Some keys) }
+{
+    let mut secret = MemSource::new(alloc, line.to_vec(alloc)?);
+    match read_keys(&mut secret) {
+        Ok(keys) => Ok(keys),
+        Err(_) => Err(AllocError),
+    }
+}
+
+// A worker for each client.
+fn workers_of(
+    alloc: Global,
+    scripts: Scripts,
+) -> Result<Vec<Worker<MemListener, SeedEntropy>>, AllocError>
+    requires { scripts.clients ≤ 64 }
+    ensures { IfOk result (λ workers. workers.items ≡ workers_of scripts.seed scripts.clients scripts.requests) }
+{
+    let mut workers = Vec::new(alloc);
+    for client in 0..scripts.clients {
+        let listener = client_listener(alloc, scripts.seed, client, scripts.requests)?;
+        let entropy = worker_entropy(alloc, scripts.seed, client);
+        workers.push(Worker { listener, entropy })?;
+    }
+    Ok(workers)
+}
+
+// Serves the vault that the secret unlocks. None comes where a session didn't end between two messages, or memory ran out before.
+fn hold_sessions<
+    R: Threads + Wait + Sync,
+    D: Folder + Send + Drop,
+    B: Start + Since + Send + Sync,
+    N: Listener + Send,
+    E: Entropy + Send,
+    S: Source,
+    K: Clock + Sync,
+>(
+    rt: &R,
+    alloc: Global,
+    service: Service,
+    folder: D,
+    workers: &mut Vec<Worker<N, E>>,
+    secret: &mut S,
+    clock: &K,
+) -> Option<Kept<D>>
+where
+    N::Conn: Send,
+    requires some { 1 ≤ vec_len workers.old }
+    requires start { AreBeginnings B.is
+        (views_of D.log D.faults D.changes N.to_come N.given_back N.faults
+        N.Conn.left N.Conn.taken N.Conn.read_faults N.Conn.write_faults E.drawn E.faults)
+        folder workers.old.items }
+    requires since { IsAlone B.since service.kind (folder_view D.log D.faults D.changes folder)
+        (source_view S.left S.faults secret.old) (K.second clock.now) }
+    ensures whole { IfSome result (λ kept. (words : List (List ℕ)) → IsServedWhole
+        (views_of D.log D.faults D.changes N.to_come N.given_back N.faults
+        N.Conn.left N.Conn.taken N.Conn.read_faults N.Conn.write_faults E.drawn E.faults)
+        (span_of (views_of D.log D.faults D.changes N.to_come N.given_back N.faults
+        N.Conn.left N.Conn.taken N.Conn.read_faults N.Conn.write_faults E.drawn E.faults)
+        words (course (source_view S.left S.faults) secret.old secret.new) (K.second clock.now)
+        folder kept.folder workers.old.items workers.new.items)
+        service.kind service.sessions (min service.at_once (length workers.old.items)) kept.entries) }
+{
+    match open_vault(alloc, service.kind, folder, secret, clock) {
+        Ok(store) => kept_of(
+            serve_workers::<R, D, B, N, E, K>(rt, alloc, store, service, workers, clock),
+            service.sessions,
+        ),
+        Err(_) => None,
+    }
+}
+
+// What is kept, where so many sessions ended between two messages.
+fn kept_of<D: Drop>(back: HandedBack<D>, sessions: u32) -> Option<Kept<D>>
+    ensures { IfSome result (IsKeptOf back sessions) }
+{
+    let HandedBack {
+        folder,
+        outcome,
+        entries,
+    } = back;
+    let Outcome::Served(counts) = outcome else {
+        return None;
+    };
+    // A count at its end says nothing of how many there are.
+    if counts.sessions != sessions || counts.done != sessions || entries == u64::MAX {
+        return None;
+    }
+    Some(Kept {
+        folder: folder?,
+        entries,
+    })
+}
+
+// Sums up what is left in the folder.
+fn sum_up(
+    alloc: Global,
+    scripts: Scripts,
+    keys: &VaultKeys,
+    mut kept: Kept<MemFolder>,
+) -> Result<Vec<u8>, AllocError>
+    ensures { IfOk result (λ written. (shown : Rows) → HasTree (sealing_of keys.now) (now kept.folder.log) shown
+        → SumsUp scripts kept.entries shown written.items) }
+{
+    let Ok(tree) = load(alloc, &mut kept.folder, keys, THRESHOLD) else {
+        return Err(AllocError);
+    };
+    let Ok(rows) = rows_left(alloc, &mut kept.folder, keys, &tree) else {
+        return Err(AllocError);
+    };
+    let mut line = summary(
+        alloc,
+        scripts.clients,
+        scripts.requests,
+        kept.entries,
+        &rows,
+    )?;
+    line.push(b'\n')?;
+    Ok(line)
+}
