@@ -52,13 +52,7 @@ fn line(alloc: Global, seed: u64, clients: u32, requests: u32) -> Option<Vec<u8>
 }
 
 /// Prints the line of a demonstration, and gives whether there is one.
-fn show<R: Print>(
-    rt: &R,
-    alloc: Global,
-    seed: u64,
-    clients: u32,
-    requests: u32,
-) -> io::Result<bool>
+fn show<R: Print>(rt: &R, alloc: Global, seed: u64, clients: u32, requests: u32) -> io::Result<bool>
     requires { clients ≤ 64 }
 {
     let Some(line) = line(alloc, seed, clients, requests) else {
