@@ -141,7 +141,8 @@ fn is_fault(words: &str) -> bool {
 impl Run<'_, '_> {
     // Asks for all that the script does, and closes the vault.
     fn finish(mut self) -> Result<Ended, RunErr> {
-        let stopped = self.go(self.script.steps.len())?;
+        let count = self.script.steps.len();
+        let stopped = self.go(count)?;
         let Run {
             script,
             vault,
