@@ -44,8 +44,8 @@ fn check_folder<R: Files + Alloc>(
     }
 }
 
-/// Compares what a run came to with its row, and gives its folder.
-pub(crate) fn check_run<R: Files + Alloc>(
+// Compares what a run came to with its row, and gives its folder.
+fn check_run<R: Files + Alloc>(
     rt: &R,
     alloc: Global,
     parts: &str,

@@ -13,19 +13,11 @@
 //! walked to, stat'ed and opened, each directory listed and each file read, at its ends and about its chunks' borders. The wanted replies are
 //! those of an independent model of the protocol to the rows of the vault and to contents that another implementation opened.
 //!
-//! `data/link-runs.txt` is such a table for a link that fails. Its first block has the messages of a client that makes, writes, reads, renames,
-//! cuts, syncs and removes nodes of an empty vault; the others are what a client sees when the vault is served again, after none of these
-//! messages, after one, and so on to all. The replies, and the trees behind them, are those of the same model. The messages are sent with each
-//! read of the link failing once, of which each gives 8,192 bytes at most, and with each write, which takes 4 at most: so a call fails before
-//! and within a message. The client is then to be sent a beginning of its replies, as far as the messages were read, the report is to count
-//! the fault, and the vault has the tree after the messages that were read whole, also what no sync was asked for.
-//!
 //! It is printed how many runs there were, and each that differs. The status is 1 if something differs or can't be read.
 #![tactic(auto)]
 
 mod checking;
 mod folders;
-mod links;
 mod plan;
 mod replies;
 mod row;
@@ -33,7 +25,6 @@ mod running;
 mod waiting;
 
 use checking::{Counts, check_row};
-use links::check_links;
 use plan::read_rows;
 use std::alloc::Global;
 use std::process::ExitCode;
@@ -83,8 +74,6 @@ fn main(rt: HostRuntime) -> io::Result<ExitCode> {
     let tree_runs = fs::read_to_string(&rt, "tree-runs.txt")?;
     let mut passed = check_all(&rt, alloc, parts.as_str(), runs.as_str())?;
     passed &= check_all(&rt, alloc, tree_parts.as_str(), tree_runs.as_str())?;
-    let link_runs = fs::read_to_string(&rt, "link-runs.txt")?;
-    passed &= check_links(&rt, alloc, parts.as_str(), link_runs.as_str())?;
     match check_waiting(&rt, alloc, parts.as_str()) {
         Ok(()) => println!(rt; "clients that wait for one another 2")?,
         Err(error) => {

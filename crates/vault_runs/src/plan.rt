@@ -132,8 +132,8 @@ impl<'a> Row<'a> {
         self.crews.last_mut().ok_or(RowErr::Line)
     }
 
-    /// The last client, whose lines are read.
-    pub(crate) fn client(&mut self) -> Result<&mut Client, RowErr> {
+    // The client whose lines are read.
+    fn client(&mut self) -> Result<&mut Client, RowErr> {
         self.crew()?.clients.last_mut().ok_or(RowErr::Line)
     }
 

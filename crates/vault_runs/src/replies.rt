@@ -33,8 +33,8 @@ impl Likeness {
     }
 }
 
-/// The first message, and what is behind it. None where there is no whole one.
-pub(crate) fn first_message(bytes: &[u8]) -> Option<(&[u8], &[u8])> {
+// The first message, and what is behind it. None where there is no whole one.
+fn first_message(bytes: &[u8]) -> Option<(&[u8], &[u8])> {
     let size = bytes.first_chunk::<4>()?;
     let size = u32::from_le_bytes(*size) as usize;
     if size < 7 || size > bytes.len() {

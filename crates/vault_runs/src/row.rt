@@ -6,9 +6,6 @@ use std::alloc::{AllocError, AllocFailed, Global};
 use thiserror::Error;
 use vault_path::VaultPath;
 
-// Most times that digits are repeated.
-const MOST_TIMES: u64 = 1 << 16;
-
 /// Why a row doesn't pass.
 #[derive(Debug, Drop, Error)]
 pub(crate) enum RowErr {
@@ -36,14 +33,10 @@ impl<T: Drop> From<AllocFailed<T>> for RowErr {
     }
 }
 
-/// Puts the bytes of a field behind others. It has spaces between some of its digits; DIGITS*N stands for N times the digits.
+/// Puts the bytes of a field, which has spaces between some of its digits, behind others.
 pub(crate) fn push_bytes(alloc: Global, bytes: &mut Vec<u8>, field: &str) -> Result<(), RowErr> {
-    for part in field.split(' ') {
-        let (digits, times) = part.split_once('*').unwrap_or((part, "1"));
-        let piece = hex::decode(alloc, digits)?;
-        for _ in 0..number(times)?.min(MOST_TIMES) {
-            bytes.extend_from_slice(&piece)?;
-        }
+    for digits in field.split(' ') {
+        bytes.extend_from_slice(&hex::decode(alloc, digits)?)?;
     }
     Ok(())
 }
