@@ -1,5 +1,5 @@
 -- How a tree in memory is built: its root alone, then one node after another in the walk's order.
-use Rattle.std.specs.Prelude.{◌≡◌, ◌≢◌, ◌-◌, ◌<◌, ◌≤◌, ℕ, zero, suc, List, [], ◌∷◌, ◌++◌, length, Bool, false, Option, Some, None, IsSome, IfSome, IsTrue, slice_get, nat_le}
+use Rattle.std.specs.Prelude.{◌≡◌, ◌≢◌, ◌-◌, ◌<◌, ◌≤◌, ℕ, zero, suc, List, [], ◌∷◌, ◌++◌, length, Bool, false, Option, Some, None, IsSome, IfSome, IsTrue, slice_get, nat_le, ⊤}
 use Rattle.std.specs.Option.{option_and_then}
 use Rattle.std.specs.Str.{IsUtf8}
 use Rattle.std.specs.declared.cmp.Ordering.{Ordering}
@@ -81,6 +81,19 @@ pub record FitsBehind (tree : KeptTree) (node : KeptNode) : Type 0 where
 
 abbrev pub marked_node : Bool → KeptNode → KeptNode
 marked_node foreign node = record node { foreign = foreign }
+
+abbrev pub IsFile : KeptWhat → Type 0
+IsFile (KeptFile size) = ⊤
+IsFile (KeptDir identifier folder) = ⊥
+IsFile (KeptLink size) = ⊥
+IsFile (KeptBad text) = ⊥
+
+abbrev pub renamed_node : List ℕ → List ℕ → Bool → KeptNode → KeptNode
+renamed_node name entry long node = record node { name = name; entry = entry; long = long }
+
+-- a file whose host file has another size
+abbrev pub sized_node : ℕ → KeptNode → KeptNode
+sized_node size node = record node { what = KeptFile size }
 
 -- the nodes with this mark at a number
 abbrev pub marked_at : ℕ → Bool → List KeptNode → List KeptNode

@@ -19,7 +19,7 @@ ghost use Rattle.clear_tree.specs.Loading.{LoadingEnds};
 ghost use Rattle.clear_tree.specs.Laws.{EmptyVaultIsClear, OneDirectoryIsMade, OneDirectoryIsRemoved, OnePlaceChanges, OneTree, RowsAreDetermined, WalkEnds, WalkGoesOn};
 
 pub use node::{Node, What};
-pub use tree::Tree;
+pub use tree::{Tree, TreeNodes};
 
 /// The folders determine the nodes, whoever their owners are said to be.
 pub fn tree_is_determined()

@@ -6,7 +6,7 @@ ghost use Rattle.tree_model.specs.Names.{IsClearName};
 ghost use Rattle.tree_model.specs.Rows.{root};
 ghost use Rattle.clear_tree.specs.Places.{host_folder};
 ghost use Rattle.clear_tree.specs.Kept.{folder_in};
-ghost use Rattle.clear_tree.specs.Built.{kept_what, HasHostFolder, place_cmp, place_of, is_past, marked_node, root_node};
+ghost use Rattle.clear_tree.specs.Built.{kept_what, HasHostFolder, IsFile, place_cmp, place_of, is_past, marked_node, renamed_node, sized_node, root_node};
 
 use std::alloc::{AllocError, Global};
 use std::cmp::Ordering;
@@ -30,8 +30,9 @@ pub struct Node {
     parent: u64,
     name: Text,
     entry: Text,
-    long: bool,
     what: What,
+    // beside each other, as fields lie in order
+    long: bool,
     foreign: bool,
     shadowed: bool,
 }
@@ -117,6 +118,15 @@ impl Node {
         self.name.as_bytes()
     }
 
+    /// The same as a text, which a map of names takes as a key.
+    pub fn name_text(&self) -> &Text
+        ensures bytes { result.now ≡ self.now.name }
+        ensures text { IsUtf8 self.now.name }
+        ensures short { length self.now.name ≤ 1024 }
+    {
+        &self.name
+    }
+
     /// The entry in the folder of the parent.
     pub fn entry(&self) -> &[u8]
         ensures { result.now ≡ self.now.entry }
@@ -161,6 +171,24 @@ impl Node {
             What::Dir { folder, .. } => Some(folder),
             _ => None,
         }
+    }
+
+    /// Gives it another name, and the entry of that name.
+    pub fn rename(&mut self, name: Text, entry: Text, long: bool)
+        requires { IsClearName name }
+        ensures { self.new ≡ renamed_node name entry long self.old }
+    {
+        self.name = name;
+        self.entry = entry;
+        self.long = long;
+    }
+
+    /// Says of a file how many bytes its host file has.
+    pub fn resize(&mut self, size: u64)
+        requires { IsFile self.old.what }
+        ensures { self.new ≡ sized_node size self.old }
+    {
+        self.what = What::File { size };
     }
 
     /// How its place stands to that of a name in a directory.

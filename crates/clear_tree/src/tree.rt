@@ -1,4 +1,4 @@
-ghost use Rattle.std.specs.Prelude.{◌≡◌, ◌≢◌, ◌<◌, ◌≤◌, ℕ, [], ◌∷◌, ◌++◌, length, true, false, IsTrue, None, IfSome, IfNone, IsSomeAnd, IfOk, OnOk, OnErr, slice_get};
+ghost use Rattle.std.specs.Prelude.{◌≡◌, ◌≢◌, ◌<◌, ◌≤◌, ℕ, [], ◌∷◌, ◌++◌, length, true, false, IsTrue, Some, None, IfSome, IfNone, IsSomeAnd, IfOk, OnOk, OnErr, slice_get};
 ghost use Rattle.std.specs.Option.{option_copied};
 ghost use Rattle.vault_path.specs.Parts.{is_part, is_path};
 ghost use Rattle.clear_tree.specs.Places.{host_folder, host_entry, host_inner};
@@ -14,6 +14,13 @@ use vault_path::VaultPath;
 const CONTENTS: &[u8] = b"contents.c9r";
 
 const SYMLINK: &[u8] = b"symlink.c9r";
+
+/// The nodes of a tree that was taken apart: the root, and the others in the order of their numbers.
+#[derive(Drop)]
+pub struct TreeNodes {
+    pub root: Node,
+    pub others: Vec<Node>,
+}
 
 /// The tree of a vault in memory: its nodes by number in the walk's order, breadth first and in each directory by the names'
 /// bytes, so that a name is found by one binary search. Clauses see what is kept of the vault's disk.
@@ -91,6 +98,19 @@ impl Tree {
         ensures { result ≡ self.now.twice }
     {
         self.twice
+    }
+
+    /// Takes the tree apart. Each node below the root has an entry that can be a part of a host path.
+    pub fn into_nodes(self) -> TreeNodes
+        ensures nodes { result.root ∷ result.others.items ≡ self.nodes }
+        ensures entries { (index : ℕ) (node : KeptNode) → slice_get result.others.items index ≡ Some node → IsTrue (is_part node.entry) }
+    {
+        let Tree {
+            root,
+            others,
+            twice: _,
+        } = self;
+        TreeNodes { root, others }
     }
 
     /// The node of a number, the root's being 0.

@@ -6,7 +6,7 @@ use Rattle.clear_tree.specs.Kept.{What, folder_in, path_in, file_path, size_in}
 use Rattle.live_tree.specs.Held.{HeldNode, HeldTree, node_of, parent_folder, path_of, size_of, IsTree}
 use Rattle.held_changes.proofs.Paths.{one_held}
 use Rattle.node_changes.proofs.Nodes.{above_there}
-use Rattle.live_tree.specs.Changes.{IsFile}
+use Rattle.clear_tree.specs.Built.{IsFile}
 use Rattle.change_plans.specs.Files.{IsFileOf}
 use Rattle.file_changes.specs.Held.{IsHeldFile}
 

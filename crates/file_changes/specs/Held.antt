@@ -3,7 +3,8 @@ use Rattle.std.specs.Prelude.{◌≡◌, ℕ, Option, Some, None}
 use Rattle.tree_model.specs.Rows.{Content, Row, row_of}
 use Rattle.tree_model.specs.Step.{set_row, with_content}
 use Rattle.live_tree.specs.Held.{HeldNode, HeldTree, node_of, live_rows}
-use Rattle.live_tree.specs.Changes.{touched, wrapped, AgreeBut, IsFile}
+use Rattle.clear_tree.specs.Built.{IsFile}
+use Rattle.live_tree.specs.Changes.{touched, wrapped, AgreeBut}
 use Rattle.live_tree.specs.Changes.{dated as dated_at}
 use Rattle.file_changes.specs.Steps.{dated}
 

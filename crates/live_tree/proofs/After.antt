@@ -10,7 +10,8 @@ use Rattle.tree_model.specs.Rows.{root}
 use Rattle.clear_tree.specs.Kept.{What, KeptFile, KeptLink, KeptDir, KeptBad, folder_in}
 use Rattle.live_tree.specs.Held.{HeldNode, HeldTree, node_of, IsNamed, IsFree, HasParent}
 use Rattle.live_tree.specs.Index.{Names, number_at, has_names, is_place, IsSet, IsHeld}
-use Rattle.live_tree.specs.Changes.{edited_nodes, edited, changed_node, renamed_node, sized_node, dated_node, IsFile}
+use Rattle.clear_tree.specs.Built.{IsFile}
+use Rattle.live_tree.specs.Changes.{edited_nodes, edited, changed_node, renamed_node, sized_node, dated_node}
 use Rattle.live_tree.proofs.Entries.{edit}
 use Rattle.live_tree.proofs.Held.{place_is, place_true, folder_there, folder_some, number_from}
 

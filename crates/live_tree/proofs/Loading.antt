@@ -1,5 +1,5 @@
 -- A tree as it was loaded, node by node.
-use Rattle.std.proofs.Common.{◌≡◌, ◌≢◌, ℕ, zero, suc, ◌+◌, ◌<◌, ◌≤◌, ◌^◌, Bool, true, false, cond, List, [], ◌∷◌, ◌++◌, length, take, slice_get, Option, Some, None, Result, Ok, Err, OnOk, IsSome, refl, sym, ap, ap₂, ◌∙◌, subst, true≢false, arith}
+use Rattle.std.proofs.Common.{◌≡◌, ◌≢◌, ℕ, zero, suc, ◌+◌, ◌<◌, ◌≤◌, ◌^◌, Bool, true, false, cond, List, [], ◌∷◌, ◌++◌, length, take, drop, slice_get, Option, Some, None, IsSome, refl, sym, ap, ap₂, ◌∙◌, subst, true≢false, arith}
 use Rattle.std.proofs.lemmas.Option.{slice_get_within}
 use Rattle.live_tree.proofs.Rows.{rows_loaded}
 use Rattle.std.specs.Ordering.{nat_cmp}
@@ -121,10 +121,6 @@ pub empty_names : (names : Names) → names.entries ≡ [] → (parent : ℕ) (n
 empty_names names e parent name =
     ap (λ (es : List (ℕ × BTreeMap (List ℕ) ℕ)). option_and_then (λ (i : BTreeMap (List ℕ) ℕ). get (slice_cmp nat_cmp) i name) (lookup (is_at (nat_cmp parent)) es)) e
 
-pub take_one : (ns : List KeptNode) (x : KeptNode) → slice_get ns 0 ≡ Some x → take 1 ns ≡ x ∷ []
-take_one [] x h = absurd cc
-take_one (y ∷ ns) x h = let same : y ≡ x = cc in ap (λ (z : KeptNode). z ∷ []) same
-
 alone : ℕ → KeptNode → Bool → HeldTree
 alone unlocked x twice = record { nodes = (0, unchanged_node unlocked x) ∷ []; next = 1; twice = twice }
 
@@ -146,32 +142,22 @@ only_entry es nodes v w empty put same = put ∙ ap (λ (xs : List (ℕ × HeldN
 abbrev pub with_one : List (ℕ × HeldNode) → Bool → HeldTree
 with_one nodes twice = record { nodes = nodes; next = 1; twice = twice }
 
-pub root_is : (unlocked : ℕ) (tree : KeptTree) (x : KeptNode) (twice : Bool) → kept_node_of tree root ≡ Some x → twice ≡ tree.twice → (nodes : List (ℕ × HeldNode)) → nodes ≡ (0, unchanged_node unlocked x) ∷ []
-    → with_one nodes twice ≡ loaded unlocked (take 1 tree.nodes) 1 tree.twice
-root_is unlocked tree x twice there same nodes e =
-    ap₂ (λ (ns : List (ℕ × HeldNode)) (b : Bool). with_one ns b) (e ∙ ap (numbered unlocked 0) (sym (take_one tree.nodes x there))) same
+pub root_is : (unlocked : ℕ) (x : KeptNode) (twice : Bool) (nodes : List (ℕ × HeldNode)) → nodes ≡ (0, unchanged_node unlocked x) ∷ []
+    → with_one nodes twice ≡ loaded unlocked (x ∷ []) 1 twice
+root_is unlocked x twice nodes e = ap (λ (ns : List (ℕ × HeldNode)). with_one ns twice) e
 
-pub on_ok : {T E : Type 0} {A B : Type 0} (r : Result T E) → (A → B) → OnOk r A → OnOk r B
-on_ok (Ok x) f a = f a
-on_ok (Err e) f a = tt
-
-pub load_is : (unlocked : ℕ) (tree : KeptTree) (number : ℕ) (x : KeptNode) (self new : HeldTree) (node : HeldNode) → IsTree tree → kept_node_of tree number ≡ Some x
+load_is : (unlocked : ℕ) (tree : KeptTree) (number : ℕ) (x : KeptNode) (self new : HeldTree) (node : HeldNode) → IsTree tree → kept_node_of tree number ≡ Some x
     → self ≡ loaded unlocked (take number tree.nodes) number tree.twice → node ≡ unchanged_node unlocked x → new ≡ appended self node
     → new ≡ loaded unlocked (take (suc number) tree.nodes) (suc number) tree.twice
 load_is unlocked tree number x self new node is there was made app =
     app ∙ ap₂ (λ (t : HeldTree) (n : HeldNode). appended t n) was made ∙ loaded_more unlocked tree is number x there
 
-pub root_held : (empty names : Names) (unlocked : ℕ) (tree : KeptTree) (x : KeptNode) (twice : Bool) → IsTree tree → kept_node_of tree root ≡ Some x → empty.entries ≡ [] → IsGrown empty names → has_names names 0 ≡ true
+pub root_held : (empty names : Names) (unlocked : ℕ) (x : KeptNode) (twice : Bool) → x.parent ≡ root → IsSome (folder_in x.what) → empty.entries ≡ [] → IsGrown empty names → has_names names 0 ≡ true
     → (nodes : List (ℕ × HeldNode)) → nodes ≡ (0, unchanged_node unlocked x) ∷ [] → IsHeld names (record { nodes = nodes; next = 1; twice = twice })
-root_held empty names unlocked tree x twice is there none grown opened nodes e =
-    let same : is.first.0 ≡ x = (let own = is.first.1.there in cc (own, there)) in
-    let up : x.parent ≡ root = ap (λ (n : KeptNode). n.parent) (sym same) ∙ is.first.1.own in
+root_held empty names unlocked x twice own folder none grown opened nodes e =
     rw e (record {
       ordered = sorted_one 0;
-      first = (
-        unchanged_node unlocked x,
-        record { there = refl; own = up; folder = subst (λ (n : KeptNode). IsSome (folder_in n.what)) same is.first.1.folder },
-      );
+      first = (unchanged_node unlocked x, record { there = refl; own = own; folder = folder });
       parents = λ q n at below. absurd (below (alone_at unlocked x q n (is_at (nat_cmp q) 0) refl at).number);
       numbers = λ q n at. let zero_is = (alone_at unlocked x q n (is_at (nat_cmp q) 0) refl at).number in omega (arith, zero_is);
       versions = λ q n at. subst (λ (m : HeldNode). m.version < 2 ^ 32) (sym (alone_at unlocked x q n (is_at (nat_cmp q) 0) refl at).node_is) (omega arith);
@@ -180,13 +166,78 @@ root_held empty names unlocked tree x twice is there none grown opened nodes e =
       found = λ p n k named. absurd (named.child.below (alone_at unlocked x k named.node (is_at (nat_cmp k) 0) refl named.child.there).number);
     })
 
-pub loaded_whole : (live : HeldTree) (unlocked : ℕ) (tree : KeptTree) (number count : ℕ) → IsTree tree → live ≡ loaded unlocked (take number tree.nodes) number tree.twice → count ≡ length tree.nodes
-    → count ≤ number → (1 ≤ count → number ≤ count) → live ≡ loaded unlocked tree.nodes (length tree.nodes) tree.twice
-loaded_whole live unlocked tree number count is e len low high =
-    let some : 0 < length tree.nodes = slice_get_within tree.nodes 0 is.first.0 is.first.1.there in
-    let up = high (omega (arith, len, some)) in
-    let all : number ≡ length tree.nodes = omega (arith, len, low, up) in
-    e ∙ ap (λ (k : ℕ). loaded unlocked (take k tree.nodes) k tree.twice) all
+-- ---- all nodes, one after another
+
+-- the nodes below the next number are loaded, and these are left
+pub record IsUnderWay (unlocked : ℕ) (tree : KeptTree) (live : HeldTree) (rest : List KeptNode) : Type 0 where
+  pub held : live ≡ loaded unlocked (take live.next tree.nodes) live.next tree.twice
+  pub left : rest ≡ drop live.next tree.nodes
+  pub begun : live.next ≢ root
+  pub within : live.next ≤ length tree.nodes
+
+dropped_at : (ns : List KeptNode) (n : ℕ) (x : KeptNode) (rest : List KeptNode) → x ∷ rest ≡ drop n ns → slice_get ns n ≡ Some x
+dropped_at [] zero x rest e = absurd cc
+dropped_at [] (suc n) x rest e = absurd cc
+dropped_at (y ∷ ns) zero x rest e = cc
+dropped_at (y ∷ ns) (suc n) x rest e = dropped_at ns n x rest e
+
+dropped_next : (ns : List KeptNode) (n : ℕ) (x : KeptNode) (rest : List KeptNode) → x ∷ rest ≡ drop n ns → rest ≡ drop (suc n) ns
+dropped_next [] zero x rest e = absurd cc
+dropped_next [] (suc n) x rest e = absurd cc
+dropped_next (y ∷ ns) zero x rest e = cc
+dropped_next (y ∷ ns) (suc n) x rest e = dropped_next ns n x rest e
+
+dropped_none : (ns : List KeptNode) (n : ℕ) → length (drop n ns) ≡ 0 → length ns ≤ n
+dropped_none [] n e = omega arith
+dropped_none (y ∷ ns) zero e = absurd cc
+dropped_none (y ∷ ns) (suc n) e = let low = dropped_none ns n e in omega (arith, low)
+
+pub begins : (unlocked : ℕ) (tree : KeptTree) (live : HeldTree) (x : KeptNode) (others rest : List KeptNode) (twice : Bool) → x ∷ others ≡ tree.nodes → live ≡ loaded unlocked (x ∷ []) 1 twice → twice ≡ tree.twice
+    → rest ≡ others → IsUnderWay unlocked tree live rest
+begins unlocked tree live x others rest twice nodes is same all =
+    let one : live.next ≡ 1 = ap (λ (t : HeldTree). t.next) is in
+    let first : take 1 tree.nodes ≡ x ∷ [] = ap (take 1) (sym nodes) in
+    record {
+      held = is ∙ ap (λ (b : Bool). loaded unlocked (x ∷ []) 1 b) same ∙ ap (λ (ns : List KeptNode). loaded unlocked ns 1 tree.twice) (sym first)
+          ∙ ap (λ (k : ℕ). loaded unlocked (take k tree.nodes) k tree.twice) (sym one);
+      left = all ∙ ap (drop 1) nodes ∙ ap (λ (k : ℕ). drop k tree.nodes) (sym one);
+      begun = λ none. omega (arith, none, one);
+      within = (let some : length (x ∷ others) ≡ length tree.nodes = ap length nodes in omega (arith, some, one));
+    }
+
+module _ (unlocked : ℕ) (tree : KeptTree) (is : IsTree tree) (live : HeldTree) (x : KeptNode) (old rest : List KeptNode) (way : IsUnderWay unlocked tree live old) (step : old ≡ x ∷ rest) (node : HeldNode)
+    (made : node ≡ unchanged_node unlocked x) where
+  next_there : kept_node_of tree live.next ≡ Some x
+  next_there = dropped_at tree.nodes live.next x rest (sym step ∙ way.left)
+
+  pub next_parent : IsDirectory live node.kept.parent
+  next_parent =
+      let at = directory_for unlocked tree is live.next x next_there way.begun in
+      subst (λ (n : HeldNode). IsDirectory live n.kept.parent) (sym made) (subst (λ (t : HeldTree). IsDirectory t x.parent) (sym way.held) at)
+
+  pub next_free : IsFree live node.kept.parent node.kept.name
+  next_free =
+      let at = free_for unlocked tree is live.next x next_there way.begun in
+      subst (λ (n : HeldNode). IsFree live n.kept.parent n.kept.name) (sym made) (subst (λ (t : HeldTree). IsFree t x.parent x.name) (sym way.held) at)
+
+  pub next_number : live.next < length tree.nodes
+  next_number = slice_get_within tree.nodes live.next x next_there
+
+  pub goes_on : (new : HeldTree) → new ≡ appended live node → IsUnderWay unlocked tree new rest
+  goes_on new app =
+      let one : new.next ≡ suc live.next = ap (λ (t : HeldTree). t.next) app in
+      record {
+        held = load_is unlocked tree live.next x live new node is next_there way.held made app ∙ ap (λ (k : ℕ). loaded unlocked (take k tree.nodes) k tree.twice) (sym one);
+        left = dropped_next tree.nodes live.next x rest (sym step ∙ way.left) ∙ ap (λ (k : ℕ). drop k tree.nodes) (sym one);
+        begun = λ none. omega (arith, none, one);
+        within = omega (arith, one, next_number);
+      }
+
+pub loaded_whole : (unlocked : ℕ) (tree : KeptTree) (live : HeldTree) (rest : List KeptNode) → IsUnderWay unlocked tree live rest → length rest ≡ 0 → live ≡ loaded unlocked tree.nodes (length tree.nodes) tree.twice
+loaded_whole unlocked tree live rest way none =
+    let low = dropped_none tree.nodes live.next (sym (ap length way.left) ∙ none) in
+    let all : live.next ≡ length tree.nodes = omega (arith, low, way.within) in
+    way.held ∙ ap (λ (k : ℕ). loaded unlocked (take k tree.nodes) k tree.twice) all
     ∙ ap (λ (ns : List KeptNode). loaded unlocked ns (length tree.nodes) tree.twice) (take_whole tree.nodes)
 
 pub rows_whole : (live : HeldTree) (unlocked : ℕ) (tree : KeptTree) → live ≡ loaded unlocked tree.nodes (length tree.nodes) tree.twice → (contents : ℕ → Content) → live_rows contents live ≡ tree_rows contents unlocked tree

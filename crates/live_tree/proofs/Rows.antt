@@ -11,7 +11,8 @@ use Rattle.tree_model.specs.Rows.{Content, chunks, Row, Rows, is_dir, row_of}
 use Rattle.tree_model.specs.Step.{changed_at, new_row, with_content}
 use Rattle.clear_tree.specs.Kept.{What, KeptFile, KeptLink, KeptDir, KeptBad, KeptNode, kind_of, content_of, rows_from}
 use Rattle.live_tree.specs.Held.{HeldNode, HeldTree, node_of, live_row, live_rows, numbered, unchanged_node}
-use Rattle.live_tree.specs.Changes.{changed_node, added, new_node, removed, renamed, renamed_node, touched, sized_node, dated, dated_node, CanBeMade, IsFile, AgreeBut, wrapped_row, wrapped, RowsAreAdded, RowsAreRemoved, RowsAreRenamed, RowsAreTouched, RowsAreDated}
+use Rattle.clear_tree.specs.Built.{IsFile}
+use Rattle.live_tree.specs.Changes.{changed_node, added, new_node, removed, renamed, renamed_node, touched, sized_node, dated, dated_node, CanBeMade, AgreeBut, wrapped_row, wrapped, RowsAreAdded, RowsAreRemoved, RowsAreRenamed, RowsAreTouched, RowsAreDated}
 use Rattle.live_tree.proofs.Entries.{test_is, map_congr, map_map, map_append, all_any, edit, AreBelow, AreThis, this_from}
 
 Nodes : Type 0

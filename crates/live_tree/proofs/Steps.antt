@@ -9,7 +9,8 @@ use Rattle.tree_model.specs.Rows.{root}
 use Rattle.clear_tree.specs.Kept.{folder_in}
 use Rattle.live_tree.specs.Held.{HeldNode, HeldTree, node_of, IsFree, IsDirectory, IsChildless}
 use Rattle.live_tree.specs.Index.{Names, has_names, IsSet, IsGrown, IsClosed, IsHeld}
-use Rattle.live_tree.specs.Changes.{edited_nodes, edited, changed, changed_node, dated, dated_node, touched, sized_node, renamed_node, dropped, appended, IsFile, RowsAreDated, RowsAreTouched}
+use Rattle.clear_tree.specs.Built.{IsFile}
+use Rattle.live_tree.specs.Changes.{edited_nodes, edited, changed, changed_node, dated, dated_node, touched, sized_node, renamed_node, dropped, appended, RowsAreDated, RowsAreTouched}
 use Rattle.live_tree.proofs.Entries.{insert_is_append, remove_is_filter}
 use Rattle.live_tree.proofs.Held.{held_appended, are_below, held_grows, grows_back}
 use Rattle.live_tree.proofs.After.{held_changed, held_dated, held_sized, held_renamed}

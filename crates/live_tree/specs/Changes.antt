@@ -3,6 +3,7 @@ use Rattle.std.specs.Prelude.{◌≡◌, ◌≢◌, ◌-◌, ◌^◌, ◌%◌, �
 use Rattle.tree_model.specs.Rows.{Content, chunks, Row, Rows, row_of}
 use Rattle.tree_model.specs.Step.{set_row, change_dir, new_row, with_new, with_content, without_row}
 use Rattle.clear_tree.specs.Kept.{What, KeptFile, KeptLink, KeptDir, KeptBad}
+use Rattle.clear_tree.specs.Built.{renamed_node as renamed_kept, sized_node as sized_kept}
 use Rattle.live_tree.specs.Held.{HeldNode, HeldTree, live_rows}
 
 -- ---- changes
@@ -58,19 +59,7 @@ abbrev pub removed : HeldTree → ℕ → ℕ → ℕ → HeldTree
 removed tree number parent now = dropped (changed tree parent now) number
 
 abbrev pub renamed_node : List ℕ → List ℕ → Bool → HeldNode → HeldNode
-renamed_node name entry long node = record {
-  kept = record {
-    parent = node.kept.parent;
-    name = name;
-    entry = entry;
-    long = long;
-    what = node.kept.what;
-    foreign = node.kept.foreign;
-    shadowed = node.kept.shadowed;
-  };
-  version = node.version;
-  modified = node.modified;
-}
+renamed_node name entry long node = record { kept = renamed_kept name entry long node.kept; version = node.version; modified = node.modified }
 
 -- the tree after a node of a directory got another name at a second
 abbrev pub renamed : HeldTree → ℕ → ℕ → List ℕ → List ℕ → Bool → ℕ → HeldTree
@@ -78,19 +67,7 @@ renamed tree number parent name entry long now = changed (edited tree number (re
 
 -- a file whose host file has another size
 abbrev pub sized_node : ℕ → HeldNode → HeldNode
-sized_node size node = record {
-  kept = record {
-    parent = node.kept.parent;
-    name = node.kept.name;
-    entry = node.kept.entry;
-    long = node.kept.long;
-    what = KeptFile size;
-    foreign = node.kept.foreign;
-    shadowed = node.kept.shadowed;
-  };
-  version = node.version;
-  modified = node.modified;
-}
+sized_node size node = record { kept = sized_kept size node.kept; version = node.version; modified = node.modified }
 
 -- the tree after a file was written at a second
 abbrev pub touched : HeldTree → ℕ → ℕ → ℕ → HeldTree
@@ -111,12 +88,6 @@ CanBeMade (KeptFile size) = ⊤
 CanBeMade (KeptDir identifier folder) = ⊤
 CanBeMade (KeptLink size) = ⊥
 CanBeMade (KeptBad text) = ⊥
-
-abbrev pub IsFile : What → Type 0
-IsFile (KeptFile size) = ⊤
-IsFile (KeptDir identifier folder) = ⊥
-IsFile (KeptLink size) = ⊥
-IsFile (KeptBad text) = ⊥
 
 -- the largest number
 abbrev pub count_limit : ℕ

@@ -10,8 +10,7 @@ use Rattle.std.specs.Map.{keys_of}
 use Rattle.std.specs.BTreeMap.{BTreeMap, get}
 use Rattle.vault_path.specs.Parts.{is_part}
 use Rattle.tree_model.specs.Rows.{root}
-use Rattle.clear_tree.specs.Kept.{What, folder_in, IsBehind}
-use Rattle.clear_tree.specs.Built.{IsShowable}
+use Rattle.clear_tree.specs.Kept.{KeptNode, folder_in, IsBehind}
 use Rattle.live_tree.specs.Held.{HeldNode, HeldTree, node_of, IsNamed, IsRoot, HasParent}
 
 -- of each directory the numbers of its nodes, by their names
@@ -66,10 +65,9 @@ pub record IsNextName (names : Names) (parent : ℕ) (last : Option (List ℕ)) 
 
 -- ---- what holds of a tree
 
--- a node of this name, entry and kind can be shown, and its host file has a path
-pub record IsSound (name entry : List ℕ) (what : What) : Type 0 where
-  pub showable : IsShowable name what
-  pub part : folder_in what ≡ None → IsTrue (is_part entry)
+-- the host file of a node that is no directory has a path
+abbrev pub HasHostPart : KeptNode → Type 0
+HasHostPart node = folder_in node.what ≡ None → IsTrue (is_part node.entry)
 
 -- The index has just the names of the nodes.
 pub record IsHeld (names : Names) (tree : HeldTree) : Type 0 where

@@ -6,7 +6,8 @@ ghost use Rattle.std.specs.BTreeMap.{get, insert_entry};
 ghost use Rattle.vault_path.specs.Parts.{is_part};
 ghost use Rattle.tree_model.specs.Names.{IsClearName};
 ghost use Rattle.live_tree.specs.Held.{HeldNode};
-ghost use Rattle.live_tree.specs.Changes.{edited_nodes, changed_node, renamed_node, sized_node, dated_node, IsFile};
+ghost use Rattle.clear_tree.specs.Built.{IsFile};
+ghost use Rattle.live_tree.specs.Changes.{edited_nodes, changed_node, renamed_node, sized_node, dated_node};
 
 use crate::node::LiveNode;
 use std::collections::BTreeMap;

@@ -7,17 +7,17 @@ ghost use Rattle.vault_path.specs.Parts.{is_part, is_path};
 ghost use Rattle.tree_model.specs.Names.{IsClearName};
 ghost use Rattle.tree_model.specs.Rows.{Content, root, is_dir};
 ghost use Rattle.clear_tree.specs.Places.{host_folder, host_entry, host_inner};
-ghost use Rattle.clear_tree.specs.Kept.{IsTree as IsKeptTree, kind_of, tree_rows};
-ghost use Rattle.clear_tree.specs.Built.{kept_what, HasHostFolder};
+ghost use Rattle.clear_tree.specs.Kept.{folder_in, kind_of, tree_rows};
+ghost use Rattle.clear_tree.specs.Built.{kept_what, HasHostFolder, IsFile};
 ghost use Rattle.live_tree.specs.Held.{HeldNode, node_of, path_of, size_of, live_rows, loaded, IsNamed, IsFree, IsNext, IsNoNext, IsChildless, IsDirectory, IsTree};
-ghost use Rattle.live_tree.specs.Changes.{edited, changed, appended, added, dropped, removed, renamed, renamed_node, touched, dated, new_node, count_limit, CanBeMade, IsFile, RowsAreAdded, RowsAreRemoved, RowsAreRenamed, RowsAreTouched, RowsAreDated};
+ghost use Rattle.live_tree.specs.Changes.{edited, changed, appended, added, dropped, removed, renamed, renamed_node, touched, dated, new_node, count_limit, CanBeMade, RowsAreAdded, RowsAreRemoved, RowsAreRenamed, RowsAreTouched, RowsAreDated};
 
 use crate::changing::{Nodes, change_node, date_node, insert_node, rename_node, resize_node};
 use crate::directories::{
     Names, close_directory, copied, next_name, number_at, open_directory, put, take,
 };
 use crate::node::LiveNode;
-use clear_tree::{Tree, What};
+use clear_tree::{Node, Tree, TreeNodes, What};
 use std::alloc::{AllocError, Global};
 use std::collections::BTreeMap;
 use std::marker::Model;
@@ -51,15 +51,21 @@ impl Model for LiveTree {
 }
 
 impl LiveTree {
-    /// A tree as it was loaded, of a vault that was unlocked at this second.
-    pub fn from_tree(alloc: Global, tree: &Tree, unlocked: u32) -> Result<LiveTree, AllocError>
-        ensures held { IfOk result (λ live. live ≡ loaded unlocked tree.now.nodes (length tree.now.nodes) tree.now.twice) }
-        ensures rows { IfOk result (λ live. (contents : ℕ → Content) → live_rows contents live ≡ tree_rows contents unlocked tree.now) }
+    /// A tree as it was loaded, of a vault that was unlocked at this second. The nodes are taken over one by one.
+    pub fn from_tree(alloc: Global, tree: Tree, unlocked: u32) -> Result<LiveTree, AllocError>
+        ensures held { IfOk result (λ live. live ≡ loaded unlocked tree.nodes (length tree.nodes) tree.twice) }
+        ensures rows { IfOk result (λ live. (contents : ℕ → Content) → live_rows contents live ≡ tree_rows contents unlocked tree) }
     {
-        let count = tree.len() as u64;
-        let mut live = LiveTree::with_root(alloc, tree, unlocked)?;
-        for number in 1..count {
-            live.load(tree, number, unlocked)?;
+        // for its clauses: it is a tree, and its nodes can be counted
+        let _count = tree.len();
+        let twice = tree.is_twice();
+        let TreeNodes {
+            root: first,
+            others,
+        } = tree.into_nodes();
+        let mut live = LiveTree::with_root(alloc, first, twice, unlocked)?;
+        for node in others {
+            live.append(LiveNode::loaded(alloc, node, unlocked)?)?;
         }
         Ok(live)
     }
@@ -157,7 +163,7 @@ impl LiveTree {
         ensures same { OnErr result (self.new ≡ self.old) }
     {
         let number = self.next;
-        self.append(LiveNode::made(parent, name, what, entry, long, now))?;
+        self.append(LiveNode::made(self.alloc, parent, name, what, entry, long, now)?)?;
         self.change(parent, now);
         Ok(number)
     }
@@ -218,14 +224,17 @@ impl LiveTree {
     }
 
     // The root alone, as it was loaded.
-    fn with_root(alloc: Global, tree: &Tree, unlocked: u32) -> Result<LiveTree, AllocError>
-        requires { IsKeptTree tree.now }
-        ensures { IfOk result (λ live. live ≡ loaded unlocked (take 1 tree.now.nodes) 1 tree.now.twice) }
+    fn with_root(
+        alloc: Global,
+        first: Node,
+        twice: bool,
+        unlocked: u32,
+    ) -> Result<LiveTree, AllocError>
+        requires own { first.parent ≡ root }
+        requires folder { IsSome (folder_in first.what) }
+        ensures { IfOk result (λ live. live ≡ loaded unlocked (first ∷ []) 1 twice) }
     {
-        let Some(root) = tree.node(0) else {
-            unreachable!()
-        };
-        let node = LiveNode::loaded(alloc, root, unlocked)?;
+        let node = LiveNode::loaded(alloc, first, unlocked)?;
         let mut names = BTreeMap::new(alloc);
         open_directory(alloc, &mut names, 0, true)?;
         let mut nodes = BTreeMap::new(alloc);
@@ -235,23 +244,8 @@ impl LiveTree {
             nodes,
             names,
             next: 1,
-            twice: tree.is_twice(),
+            twice,
         })
-    }
-
-    // Puts the node of a number of a loaded tree behind those before it.
-    fn load(&mut self, tree: &Tree, number: u64, unlocked: u32) -> Result<(), AllocError>
-        requires tree { IsKeptTree tree.now }
-        requires loaded { self.old ≡ loaded unlocked (take number tree.now.nodes) number tree.now.twice }
-        requires below { number ≢ root }
-        requires there { number < length tree.now.nodes }
-        requires room { number < count_limit }
-        ensures { OnOk result (self.new ≡ loaded unlocked (take (suc number) tree.now.nodes) (suc number) tree.now.twice) }
-    {
-        let Some(node) = tree.node(number) else {
-            unreachable!()
-        };
-        self.append(LiveNode::loaded(self.alloc, node, unlocked)?)
     }
 
     // Puts a node behind the others, under the next number. Where memory runs out the tree stays as it is.

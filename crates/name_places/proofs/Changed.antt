@@ -8,7 +8,8 @@ use Rattle.std.specs.BTreeMap.{is_at}
 use Rattle.clear_tree.specs.Walk.{Sealing}
 use Rattle.clear_tree.specs.Kept.{What, KeptFile, KeptLink, KeptDir, KeptBad}
 use Rattle.live_tree.specs.Held.{HeldNode, HeldTree, node_of, IsTree}
-use Rattle.live_tree.specs.Changes.{edited, changed, changed_node, appended, added, removed, renamed, renamed_node, touched, sized_node, dated, dated_node, IsFile}
+use Rattle.clear_tree.specs.Built.{IsFile}
+use Rattle.live_tree.specs.Changes.{edited, changed, changed_node, appended, added, removed, renamed, renamed_node, touched, sized_node, dated, dated_node}
 use Rattle.live_tree.proofs.Places.{at_number}
 use Rattle.live_tree.proofs.Entries.{AreBelow, below_from}
 use Rattle.live_tree.proofs.Held.{number_from}

@@ -177,6 +177,6 @@ fn load_tree<D: Folder>(
     ensures cause { HasCause (D.faults journal.old) (D.faults journal.new) (IsErrOf result open_errs.Device) }
 {
     let tree = load(alloc, journal, keys, threshold)?;
-    let live = LiveTree::from_tree(alloc, &tree, now)?;
+    let live = LiveTree::from_tree(alloc, tree, now)?;
     Ok(VaultTree::new(alloc, keys, threshold, live)?)
 }

@@ -26,20 +26,6 @@ invariant_of-self-in-Err c =
     (rw (c.parent.ensures, called) at c.in_ok-put.ensures.set) (rw (c.parent-in-Err.ensures, c.name-in-Err.ensures.bytes, c.in-Err.ensures.refused) at c.take.ensures) c.requires.free
     c.insert_node.new.nodes.entries c.in-Err.ensures.same
 
-pub invariant_of-self-in-Err-2 : goal.invariant_of-self-in-Err-2
-invariant_of-self-in-Err-2 c =
-    let called : c.in_ok-name.name ≡ c.args.node.kept.name = c.in_ok-name.ensures ∙ c.as_bytes.ensures ∙ c.name.ensures.bytes in
-    append_undone c.self.inside.names _ c.args.self.now c.self.invariant c.self.view_is c.args.node c.open_directory.new.names c.put.new.names c.take.new.names c.open_directory.ensures.grown
-    (rw (c.parent.ensures, called) at c.in_ok-put.ensures.set) (rw (c.parent-in-Err.ensures, c.name-in-Err.ensures.bytes, c.in-Err.ensures.refused) at c.take.ensures) c.requires.free
-    c.insert_node.new.nodes.entries c.in-Err.ensures.same
-
-pub invariant_of-self-in-Err-3 : goal.invariant_of-self-in-Err-3
-invariant_of-self-in-Err-3 c =
-    let called : c.in_ok-name.name ≡ c.args.node.kept.name = c.in_ok-name.ensures ∙ c.as_bytes.ensures ∙ c.name.ensures.bytes in
-    append_undone c.self.inside.names _ c.args.self.now c.self.invariant c.self.view_is c.args.node c.open_directory.new.names c.put.new.names c.take.new.names c.open_directory.ensures.grown
-    (rw (c.parent.ensures, called) at c.in_ok-put.ensures.set) (rw (c.parent-in-Err.ensures, c.name-in-Err.ensures.bytes, c.in-Err.ensures.refused) at c.take.ensures) c.requires.free
-    c.insert_node.new.nodes.entries c.in-Err.ensures.same
-
 pub invariant_of-self-in-Ok : goal.invariant_of-self-in-Ok
 invariant_of-self-in-Ok c =
     let called : c.in_ok-name.name ≡ c.args.node.kept.name = c.in_ok-name.ensures ∙ c.as_bytes.ensures ∙ c.name.ensures.bytes in
