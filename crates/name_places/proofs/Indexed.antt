@@ -1,10 +1,13 @@
 -- The index of claims as it is built, grows and shrinks.
-use Rattle.std.proofs.Common.{◌≡◌, ◌≢◌, ℕ, suc, ◌<◌, ◌≤◌, Bool, true, false, cond, List, [], Option, Some, None, is_some, bytes_eq, ◌==◌, ◌↔◌, refl, sym, ap, ◌∙◌, subst, true≢false, inl, inr, ◌⊎◌, arith}
+use Rattle.std.proofs.Common.{◌≡◌, ◌≢◌, ℕ, suc, ◌<◌, ◌≤◌, Bool, true, false, cond, List, [], ◌∷◌, Option, Some, None, is_some, bytes_eq, ◌==◌, ◌↔◌, refl, sym, ap, ◌∙◌, subst, true≢false, inl, inr, ◌⊎◌, arith}
 use Rattle.std.proofs.lemmas.Bool.{eqb-true, eq-eqb, ne_eqb, cases_lt}
 use Rattle.std.proofs.lemmas.Slice.Eq.{bytes_eq-Decides}
-use Rattle.std.specs.Ordering.{nat_cmp}
+use Rattle.std.specs.declared.cmp.Ordering.{Ordering}
+use Rattle.std.specs.declared.cmp.Ordering.TheVariants.{Less, Equal, Greater}
+use Rattle.std.specs.Ordering.{nat_cmp, is_eq, match_ordering}
 use Rattle.std.specs.Cmp.Lexicographic.{slice_cmp}
-use Rattle.std.specs.BTreeMap.{is_at}
+use Rattle.std.specs.Map.{remove_entry}
+use Rattle.std.specs.BTreeMap.{is_at, insert_entry}
 use Rattle.tree_model.specs.Rows.{root}
 use Rattle.clear_tree.specs.Walk.{Sealing}
 use Rattle.live_tree.specs.Held.{HeldNode, HeldTree, IsTree}
@@ -12,7 +15,7 @@ use Rattle.live_tree.specs.Changes.{added, removed}
 use Rattle.live_tree.proofs.Places.{at_name}
 use Rattle.name_places.specs.Claims.{claimed_in, claimed_at, NamesFolder, IsFirst, number_in, AreClaimsOf}
 use Rattle.name_places.specs.Index.{or_number, IsPut, IsFirstBelow, AreClaimsBelow}
-use Rattle.name_places.specs.Laws.{Grows, Shrinks}
+use Rattle.name_places.specs.Laws.{Grows, Shrinks, IsNumbered, TakesBack}
 use Rattle.name_places.proofs.Changed.{claimed_added, claimed_removed, claimer_below}
 use Rattle.name_places.proofs.Lowest.{one_first, none_names}
 
@@ -240,3 +243,30 @@ pub removed_over : (old mid new : Entries) (folder : List ℕ) → mid ≡ old �
     → Shrinks old new folder
 removed_over old mid new folder same updates =
     removed_at old new folder (λ q. updates q ∙ ap (λ (es : Entries). cond (is_at (slice_cmp nat_cmp folder) q) None (number_in es q)) same)
+
+-- ---- taking back
+
+same_key : (k : List ℕ) → is_at (slice_cmp nat_cmp k) k ≡ true
+same_key k = at_name k k ∙ (bytes_eq-Decides k k).1 refl
+
+undone_at : (k : List ℕ) (v : ℕ) (e : List ℕ × ℕ) (es : Entries) (o : Ordering) → slice_cmp nat_cmp k e.0 ≡ o → cond (is_eq o) (Some e.1) (number_in es k) ≡ None
+    → (number_in es k ≡ None → remove_entry (is_at (slice_cmp nat_cmp k)) (insert_entry (slice_cmp nat_cmp) es k v) ≡ es)
+    → remove_entry (is_at (slice_cmp nat_cmp k)) (match_ordering o ((k, v) ∷ e ∷ es) ((e.0, v) ∷ es) (e ∷ insert_entry (slice_cmp nat_cmp) es k v)) ≡ e ∷ es
+undone_at k v e es Less is none rest = ap (λ (b : Bool). cond b (e ∷ es) ((k, v) ∷ remove_entry (is_at (slice_cmp nat_cmp k)) (e ∷ es))) (same_key k)
+undone_at k v e es Equal is none rest = absurd cc
+undone_at k v e es Greater is none rest =
+    ap (λ (o : Ordering). cond (is_eq o) (insert_entry (slice_cmp nat_cmp) es k v) (e ∷ remove_entry (is_at (slice_cmp nat_cmp k)) (insert_entry (slice_cmp nat_cmp) es k v))) is
+    ∙ ap (λ (xs : Entries). e ∷ xs) (rest none)
+
+undone : (k : List ℕ) (v : ℕ) (es : Entries) → number_in es k ≡ None → remove_entry (is_at (slice_cmp nat_cmp k)) (insert_entry (slice_cmp nat_cmp) es k v) ≡ es
+undone k v [] none = ap (λ (b : Bool). cond b [] ((k, v) ∷ [])) (same_key k)
+undone k v (e ∷ es) none = undone_at k v e es (slice_cmp nat_cmp k e.0) refl none (undone k v es)
+
+pub taken_back : (old mid new : Entries) (folder : List ℕ) → mid ≡ old → new ≡ remove_entry (is_at (slice_cmp nat_cmp folder)) mid → TakesBack old new folder
+taken_back old mid new folder same removed before number put =
+    removed ∙ ap (remove_entry (is_at (slice_cmp nat_cmp folder))) (same ∙ put.entries) ∙ undone folder number before put.free
+
+pub numbered_new : (old mid new : Entries) (folder : List ℕ) (number : ℕ) → mid ≡ old → is_some (number_in old folder) ≡ false → new ≡ insert_entry (slice_cmp nat_cmp) mid folder number
+    → IsNumbered old new folder number
+numbered_new old mid new folder number same free put =
+    record { free = none_of (number_in old folder) free; entries = put ∙ ap (λ (es : Entries). insert_entry (slice_cmp nat_cmp) es folder number) same }

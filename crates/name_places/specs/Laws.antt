@@ -1,6 +1,9 @@
 -- What changes leave of the claims of a tree, and how they stand to those of a disk.
-use Rattle.std.specs.Prelude.{◌≡◌, ℕ, List, ◌∷◌, Bool, Some, None, IsTrue}
+use Rattle.std.specs.Prelude.{◌≡◌, ℕ, List, ◌∷◌, Bool, true, false, Some, None, IsTrue}
 use Rattle.std.specs.FinMap.{get}
+use Rattle.std.specs.Ordering.{nat_cmp}
+use Rattle.std.specs.Cmp.Lexicographic.{slice_cmp}
+use Rattle.std.specs.BTreeMap.{insert_entry}
 use Rattle.outside.specs.Disk.{Disk}
 use Rattle.vault_path.specs.Parts.{is_part}
 use Rattle.siv_mode.specs.Keys.{KeyPair}
@@ -11,8 +14,9 @@ use Rattle.tree_changes.specs.Trees.{Tree, IsTreeOf}
 use Rattle.tree_changes.specs.Deeds.{place_of}
 use Rattle.tree_changes.specs.Taken.{IsClaimed}
 use Rattle.live_tree.specs.Held.{HeldNode, HeldTree, node_of, IsTree}
-use Rattle.live_tree.specs.Changes.{added, removed, renamed, touched, dated, IsFile}
-use Rattle.name_places.specs.Claims.{claimed_in, claimed_at, NamesFolder, IsOnly, AreClaimsOf, claims_in}
+use Rattle.clear_tree.specs.Built.{IsFile}
+use Rattle.live_tree.specs.Changes.{added, removed, renamed, touched, dated}
+use Rattle.name_places.specs.Claims.{claimed_in, claimed_at, NamesFolder, IsOnly, AreClaimsOf, claims_in, number_in}
 
 -- ---- changes that name no folder and take none away
 
@@ -47,6 +51,20 @@ DatingKeeps = (s : Sealing) (tree : HeldTree) (claims : List (List ℕ × ℕ)) 
 abbrev pub Grows : List (List ℕ × ℕ) → List (List ℕ × ℕ) → List ℕ → ℕ → Type 0
 Grows old new folder number = (s : Sealing) (tree : HeldTree) (node : HeldNode) (now : ℕ) → IsTree tree → AreClaimsOf s tree old → number ≡ tree.next
     → claimed_in s node.kept.what ≡ Some folder → AreClaimsOf s (added tree node now) new
+
+-- a folder that had no number has this one
+pub record IsNumbered (old new : List (List ℕ × ℕ)) (folder : List ℕ) (number : ℕ) : Type 0 where
+  pub free : number_in old folder ≡ None
+  pub entries : new ≡ insert_entry (slice_cmp nat_cmp) old folder number
+
+-- the folder has a number now, or had one, and then nothing changed
+abbrev pub IsInserted : List (List ℕ × ℕ) → List (List ℕ × ℕ) → List ℕ → ℕ → Bool → Type 0
+IsInserted old new folder number true = IsNumbered old new folder number
+IsInserted old new folder number false = new ≡ old
+
+-- what a folder took that had no number before is taken back
+abbrev pub TakesBack : List (List ℕ × ℕ) → List (List ℕ × ℕ) → List ℕ → Type 0
+TakesBack old new folder = (before : List (List ℕ × ℕ)) (number : ℕ) → IsNumbered before old folder number → new ≡ before
 
 -- the only node that names a folder goes
 abbrev pub Shrinks : List (List ℕ × ℕ) → List (List ℕ × ℕ) → List ℕ → Type 0

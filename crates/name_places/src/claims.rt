@@ -6,7 +6,7 @@ ghost use Rattle.clear_tree.specs.Built.{kept_what};
 ghost use Rattle.directory_scan.specs.Format.{sealing_of, is_identifier};
 ghost use Rattle.name_places.specs.Claims.{claimed_at, claimed_in, number_in, AreClaimsOf};
 ghost use Rattle.name_places.specs.Index.{AreClaimsBelow, IsPut};
-ghost use Rattle.name_places.specs.Laws.{Grows, Shrinks};
+ghost use Rattle.name_places.specs.Laws.{Grows, IsInserted, Shrinks, TakesBack};
 
 use crate::directory::folder_of;
 use clear_tree::What;
@@ -57,17 +57,20 @@ impl Claims {
         self.numbers.get(folder).copied()
     }
 
-    /// Says that the next node of the tree, which is made now, names a folder. It stays as it is where memory runs out.
-    pub fn insert(&mut self, folder: [u8; 32], number: u64) -> Result<(), AllocError>
+    /// Says that the next node of the tree, which is made now, names a folder, and gives whether no node named it before. It stays as
+    /// it is where memory runs out.
+    pub fn insert(&mut self, folder: [u8; 32], number: u64) -> Result<bool, AllocError>
         ensures claims { OnOk result (Grows self.old self.new folder number) }
+        ensures inserted { IfOk result (IsInserted self.old self.new folder number) }
         ensures same { OnErr result (self.new ≡ self.old) }
     {
         self.put(folder, number)
     }
 
-    /// Says that the only node which names a folder goes. It takes no memory.
+    /// Says that the only node which names a folder goes, or isn't made. It takes no memory.
     pub fn remove(&mut self, folder: &[u8; 32])
-        ensures { Shrinks self.old self.new folder.now }
+        ensures claims { Shrinks self.old self.new folder.now }
+        ensures back { TakesBack self.old self.new folder.now }
     {
         self.numbers.remove(folder);
     }
@@ -88,15 +91,16 @@ impl Claims {
     }
 
     // Gives a folder a number, if it has none.
-    fn put(&mut self, folder: [u8; 32], number: u64) -> Result<(), AllocError>
+    fn put(&mut self, folder: [u8; 32], number: u64) -> Result<bool, AllocError>
         ensures put { OnOk result (IsPut self.old self.new folder number) }
+        ensures inserted { IfOk result (IsInserted self.old self.new folder number) }
         ensures same { OnErr result (self.new ≡ self.old) }
     {
         if self.first(&folder).is_some() {
-            return Ok(());
+            return Ok(false);
         }
         self.numbers.insert(folder, number)?;
-        Ok(())
+        Ok(true)
     }
 }
 

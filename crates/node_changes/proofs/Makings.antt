@@ -36,8 +36,8 @@ use Rattle.held_changes.proofs.Paths.{one_held}
 use Rattle.held_changes.proofs.Numbers.{nodes_have_rows, reached}
 use Rattle.name_places.specs.declared.directory.NewDirectory.{NewDirectory}
 use Rattle.name_places.specs.New.{IsNewDirectory}
-use Rattle.name_places.specs.Claims.{AreClaimsOf, HaveHostEntries, claimed_in, claims_in}
-use Rattle.name_places.specs.Laws.{EntriesAreParts, KeptClaims}
+use Rattle.name_places.specs.Claims.{AreClaimsOf, HaveHostEntries, claims_in}
+use Rattle.name_places.specs.Laws.{EntriesAreParts, Grows, IsInserted, IsNumbered, KeptClaims, TakesBack}
 use Rattle.name_places.specs.Asked.{IsTaken}
 use Rattle.name_places.specs.Asked.{identifier_in as drawn_in}
 use Rattle.name_places.proofs.Lowest.{making_keeps}
@@ -223,7 +223,7 @@ module _ (keys : KeyPair) (texts : AreTexts (sealing_of keys)) (kept : KeptClaim
   module _ (directory : NewDirectory) (bytes : List ℕ) (new : IsNewDirectory (sealing_of keys) bytes directory)
       (are : deeds ≡ create_dir_deeds (place_by site.folder site.place.entry site.place.long) site.place.text directory.folder directory.identifier)
       (made : live' ≡ added live (new_node parent site.name (KeptDir directory.identifier directory.folder) site.place.entry site.place.long now) now) (rows : RowsAreAdded live live' parent site.name true now)
-      (claimed : (node : HeldNode) (second : ℕ) → claimed_in (sealing_of keys) node.kept.what ≡ Some directory.folder → AreClaimsOf (sealing_of keys) (added live node second) claims') where
+      (grows : Grows claims claims' directory.folder live.next) where
     dir_deeds : site.folder ≡ o.folder_of at.identifier
         → create_dir_deeds (place_of o at.identifier site.name site.place.long) (o.seal at.identifier site.name) (o.folder_of directory.identifier) directory.identifier ≡ deeds
     dir_deeds folder =
@@ -236,4 +236,14 @@ module _ (keys : KeyPair) (texts : AreTexts (sealing_of keys)) (kept : KeptClaim
         (λ d tree p folder of it. subst (λ (ds : List PlainDeed). laws.Leads o d ds (with_node tree (site.name ∷ p) (Dir directory.identifier) site.place.long)) (dir_deeds folder)
         (creates_directory o d tree p at.identifier site.name directory.identifier site.place.long texts of it new.valid))
         (made ∙ ap (λ (f : List ℕ). added live (new_node parent site.name (KeptDir directory.identifier f) site.place.entry site.place.long now) now) new.folder) rows
-        (λ before. claimed (new_node parent site.name (what_of o (Dir directory.identifier)) site.place.entry site.place.long now) now (ap (λ (f : List ℕ). Some f) (sym new.folder)))
+        (λ before. grows o live (new_node parent site.name (what_of o (Dir directory.identifier)) site.place.entry site.place.long now) now is before refl (ap (λ (f : List ℕ). Some f) (sym new.folder)))
+
+-- ---- a directory that isn't made
+
+pub takes_back : (old mid after new : List (List ℕ × ℕ)) (folder : List ℕ) (number : ℕ) (is_new : Bool) → IsInserted old mid folder number is_new → is_new ≡ true → after ≡ mid → TakesBack after new folder → new ≡ old
+takes_back old mid after new folder number true put is same back = back old number (subst (λ (cs : List (List ℕ × ℕ)). IsNumbered old cs folder number) (sym same) put)
+takes_back old mid after new folder number false put is same back = absurd cc
+
+pub took_nothing : (old mid after : List (List ℕ × ℕ)) (folder : List ℕ) (number : ℕ) (is_new : Bool) → IsInserted old mid folder number is_new → is_new ≡ false → after ≡ mid → after ≡ old
+took_nothing old mid after folder number true put is same = absurd cc
+took_nothing old mid after folder number false put is same = same ∙ put

@@ -14,9 +14,7 @@ ghost use Rattle.clear_tree.specs.Built.{HasHostFolder, kept_what};
 ghost use Rattle.clear_tree.specs.Kept.{kind_of};
 ghost use Rattle.clear_tree.specs.Walk.{Sealing};
 ghost use Rattle.directory_scan.specs.Format.{sealing_of};
-ghost use Rattle.live_tree.specs.Held.{HeldNode};
 ghost use Rattle.live_tree.specs.Changes.{CanBeMade, RowsAreAdded, added, new_node};
-ghost use Rattle.name_places.specs.Claims.{AreClaimsOf, claimed_in};
 ghost use Rattle.name_places.specs.New.{IsNewDirectory};
 ghost use Rattle.node_changes.specs.Changed.{IsAtRest};
 ghost use Rattle.node_changes.specs.Causes.{ErrCause, IfRefused, IsUnchanged, RefusalCause};
@@ -34,7 +32,7 @@ use deeds::Deed;
 use file_chunks::{HEADER_LENGTH, new_header};
 use live_tree::LiveTree;
 use name_places::{
-    Claims, NewDirectory, NewPlace, are_texts, entries_are_parts, kept_claims, new_directory,
+    NewDirectory, NewPlace, are_texts, entries_are_parts, kept_claims, new_directory,
 };
 use outside::{Entropy, Failed, Folder, Reads};
 use siv_mode::VaultKeys;
@@ -110,16 +108,11 @@ impl VaultTree {
         entries_are_parts(&self.keys);
         // for its clause: each node is in a directory
         let _count = self.live.len();
-        let site = match self.site(parent, name) {
-            Ok(site) => site,
-            Err(refusal) => return Err(refusal),
-        };
+        let site = self.site(parent, name)?;
         let Ok(directory) = draw_directory(&self.keys, entropy, is_dir) else {
             return Err(Refusal::RandomFault);
         };
-        if let Err(refusal) = self.check_places(folder, &site, directory.as_ref()) {
-            return Err(refusal);
-        }
+        self.check_places(folder, &site, directory.as_ref())?;
         match directory {
             Some(directory) => match self.make_directory(parent, site, &directory, now) {
                 Ok(deeds) => Ok(deeds),
@@ -217,23 +210,14 @@ impl VaultTree {
             identifier: Text::from_vec(identifier),
             folder: directory.folder,
         };
-        // made anew, since those that are there have to stay if there is no memory for the node
-        let claims = self.claims_with(directory)?;
-        self.add(parent, site, what, now)?;
-        self.claims = claims;
+        let is_new = self.claims.insert(directory.folder, self.live.next())?;
+        if let Err(error) = self.add(parent, site, what, now) {
+            if is_new {
+                self.claims.remove(&directory.folder);
+            }
+            return Err(error);
+        }
         Ok(deeds)
-    }
-
-    // The claims of the tree with a further node, which is this directory.
-    fn claims_with(&self, directory: &NewDirectory) -> Result<Claims, AllocError>
-        ensures { IfOk result (λ claims. (node : HeldNode) (now : ℕ) → claimed_in (sealing_of self.now.keys) node.kept.what ≡ Some directory.now.folder
-            → AreClaimsOf (sealing_of self.now.keys) (added self.now.live node now) claims) }
-    {
-        // for its clause: each node is in a directory
-        let _count = self.live.len();
-        let mut claims = Claims::from_tree(self.alloc, &self.keys, &self.live)?;
-        claims.insert(directory.folder, self.live.next())?;
-        Ok(claims)
     }
 
     // Puts a node at a site of the tree in memory, which stays as it is where memory runs out.

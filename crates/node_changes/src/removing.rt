@@ -87,10 +87,7 @@ impl VaultTree {
         if let Some(refusal) = removal_refusal(&self.live, number) {
             return Err(refusal);
         }
-        let deeds = match removal_deeds(self.alloc, &self.live, number) {
-            Ok(deeds) => deeds,
-            Err(refusal) => return Err(refusal),
-        };
+        let deeds = removal_deeds(self.alloc, &self.live, number)?;
         self.forget(number, now);
         Ok(deeds)
     }

@@ -1,6 +1,7 @@
 ghost use Rattle.std.specs.Prelude.{◌≡◌, ◌≤◌, Some, IfOk};
 ghost use Rattle.directory_scan.specs.Format.{sealing_of};
-ghost use Rattle.live_tree.specs.Changes.{dated, touched, IsFile, RowsAreDated, RowsAreTouched};
+ghost use Rattle.clear_tree.specs.Built.{IsFile};
+ghost use Rattle.live_tree.specs.Changes.{dated, touched, RowsAreDated, RowsAreTouched};
 ghost use Rattle.live_tree.specs.Held.{HeldNode, node_of};
 ghost use Rattle.name_places.specs.Claims.{AreClaimsOf};
 

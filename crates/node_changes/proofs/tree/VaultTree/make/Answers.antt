@@ -1,4 +1,5 @@
 use Rattle.std.proofs.Common.{Bool, List, ℕ, ◌++◌, Option, Some, None, refl, sym, subst, ◌∙◌, append_assoc}
+use Rattle.std.proofs.lemmas.Result.{err_from_is_err_and}
 use Rattle.outside.specs.Calls.{Rose, Told}
 use Rattle.outside.specs.Images.{disk_in}
 use Rattle.outside.proofs.Told.{changed_by, told_always}
@@ -15,23 +16,25 @@ use Rattle.node_changes.specs.Creating.{DrawsHead, DrawsIf, IsPlaceRefusal, IsRe
 use Rattle.node_changes.proofs.Draws.{no_draw, file_draw, drew_directory, own_folder, header_drawn, head_changes, header_partly, cause_more, site_refused, random_refused, memory_refused, place_refused, untaken}
 use Rattle.node_changes.proofs.tree.VaultTree.make.Goals as goal
 
-pub returns-in-Err-clause-refused : goal.returns-in-Err-clause-refused
-returns-in-Err-clause-refused g c = λ mode.
+pub returns-in_err-site-clause-refused : goal.returns-in_err-site-clause-refused
+returns-in_err-site-clause-refused g c = λ mode.
     let old = c.args.self.now in
     let s = sealing_of c.args.self.now.keys in
     let asked = create c.args.parent c.args.name.now c.args.is_dir mode in
     let drew = g.E.Entropy.drawn c.args.entropy.now in
-    record {
+    let p = err_from_is_err_and c.from_residual.result c.from_residual.ensures.1 in
+    rw (p.1, p.2) (record {
       drawn = None;
       draw = no_draw c.args.is_dir drew drew refl;
-      refused = told_always (disk_in (g.R.Reads.log c.args.folder.now)) (IsRefusal s asked c.args.now None c.in-Err.refusal old.live old.claims)
-          (site_refused s old.live old.claims c.args.parent c.args.name.now c.args.is_dir mode c.args.now None c.in-Err.refusal c.in-Err.ensures.refusal (c.in-Err.ensures.cause c.args.is_dir mode));
-    }
+      refused = told_always (disk_in (g.R.Reads.log c.args.folder.now)) (IsRefusal s asked c.args.now None c.in_err-site.field-0.0 old.live old.claims)
+          (site_refused s old.live old.claims c.args.parent c.args.name.now c.args.is_dir mode c.args.now None c.in_err-site.field-0.0 c.in_err-site.ensures.refusal (c.in_err-site.ensures.cause c.args.is_dir mode));
+    })
 
-pub returns-in-Err-clause-cause : goal.returns-in-Err-clause-cause
-returns-in-Err-clause-cause g c = λ mode.
-    cause_more (create c.args.parent c.args.name.now c.args.is_dir mode) (Rose (g.R.Reads.faults c.args.folder.now) (g.R.Reads.faults c.args.folder.now))
-    (Rose (g.E.Entropy.faults c.args.entropy.now) (g.E.Entropy.faults c.args.entropy.now)) c.in-Err.refusal (c.in-Err.ensures.cause c.args.is_dir mode)
+pub returns-in_err-site-clause-cause : goal.returns-in_err-site-clause-cause
+returns-in_err-site-clause-cause g c = λ mode.
+    let p = err_from_is_err_and c.from_residual.result c.from_residual.ensures.1 in
+    rw (p.1, p.2) (cause_more (create c.args.parent c.args.name.now c.args.is_dir mode) (Rose (g.R.Reads.faults c.args.folder.now) (g.R.Reads.faults c.args.folder.now))
+    (Rose (g.E.Entropy.faults c.args.entropy.now) (g.E.Entropy.faults c.args.entropy.now)) c.in_err-site.field-0.0 (c.in_err-site.ensures.cause c.args.is_dir mode))
 
 pub returns-in_default-clause-refused : goal.returns-in_default-clause-refused
 returns-in_default-clause-refused g c = λ mode.
@@ -44,26 +47,27 @@ returns-in_default-clause-refused g c = λ mode.
       drawn = None;
       draw = no_draw c.args.is_dir drew drew' c.in_default.ensures.unspent;
       refused = told_always (disk_in (g.R.Reads.log c.args.folder.now)) (IsRefusal s asked c.args.now None refusals.RandomFault old.live old.claims)
-          (random_refused old.keys c.entries_are_parts.ensures old.live old.claims c.args.parent c.in-Ok.site c.in-Ok.ensures.site c.len-count.ensures.tree c.args.name.now c.in-Ok.ensures.name c.args.is_dir mode c.args.now None);
+          (random_refused old.keys c.entries_are_parts.ensures old.live old.claims c.args.parent c.in_ok-site.site c.in_ok-site.ensures.site c.len-count.ensures.tree c.args.name.now c.in_ok-site.ensures.name c.args.is_dir mode c.args.now None);
     }
 
-pub returns-in-Err-check_places-clause-refused : goal.returns-in-Err-check_places-clause-refused
-returns-in-Err-check_places-clause-refused g c = λ mode.
+pub returns-in_err-check_places-clause-refused : goal.returns-in_err-check_places-clause-refused
+returns-in_err-check_places-clause-refused g c = λ mode.
     let old = c.args.self.now in
     let drew = g.E.Entropy.drawn c.args.entropy.now in
     let drew' = g.E.Entropy.drawn c.draw_directory.new.entropy in
     let disk = disk_in (g.R.Reads.log c.args.folder.now) in
     let failed = Rose (g.R.Reads.faults c.args.folder.now) (g.R.Reads.faults c.check_places.new.folder) in
-    let directory = c.in-Ok-draw_directory.directory in
-    let draws = c.in-Ok-draw_directory.ensures.drawn in
-    record {
+    let directory = c.in-Ok.directory in
+    let draws = c.in-Ok.ensures.drawn in
+    let p = err_from_is_err_and c.from_residual-in_err-check_places.result c.from_residual-in_err-check_places.ensures.1 in
+    rw (p.1, p.2) (record {
       drawn = drawn_in directory;
       draw = drew_directory old.keys c.args.is_dir directory drew drew' draws;
-      refused = place_refused old.keys c.entries_are_parts.ensures old.live old.claims c.args.parent c.in-Ok.site c.in-Ok.ensures.site c.len-count.ensures.tree c.args.name.now c.in-Ok.ensures.name c.args.is_dir mode c.args.now
-          disk directory (own_folder old.keys c.args.is_dir directory drew drew' draws) failed c.in-Err-check_places.refusal
-          (subst (λ (o : Option NewDirectory). IsPlaceRefusal c.in-Ok.site o c.args.self.now.live c.args.self.now.claims (disk_in (g.R.Reads.log c.args.folder.now)) (Rose (g.R.Reads.faults c.args.folder.now) (g.R.Reads.faults c.check_places.new.folder)) c.in-Err-check_places.refusal)
-          c.as_ref.ensures.value c.in-Err-check_places.ensures.refusal);
-    }
+      refused = place_refused old.keys c.entries_are_parts.ensures old.live old.claims c.args.parent c.in_ok-site.site c.in_ok-site.ensures.site c.len-count.ensures.tree c.args.name.now c.in_ok-site.ensures.name c.args.is_dir mode c.args.now
+          disk directory (own_folder old.keys c.args.is_dir directory drew drew' draws) failed c.in_err-check_places.field-0.0
+          (subst (λ (o : Option NewDirectory). IsPlaceRefusal c.in_ok-site.site o c.args.self.now.live c.args.self.now.claims (disk_in (g.R.Reads.log c.args.folder.now)) (Rose (g.R.Reads.faults c.args.folder.now) (g.R.Reads.faults c.check_places.new.folder)) c.in_err-check_places.field-0.0)
+          c.as_ref.ensures.value c.in_err-check_places.ensures.refusal);
+    })
 
 pub returns-in_default-draw_header-clause-refused : goal.returns-in_default-draw_header-clause-refused
 returns-in_default-draw_header-clause-refused g c = λ mode.
@@ -73,12 +77,12 @@ returns-in_default-draw_header-clause-refused g c = λ mode.
     let drew = g.E.Entropy.drawn c.args.entropy.now in
     let mid = g.E.Entropy.drawn c.draw_directory.new.entropy in
     let drew' = g.E.Entropy.drawn c.draw_header.new.entropy in
-    let none = subst (λ (o : Option NewDirectory). DrawsIf c.args.self.now.keys c.args.is_dir o (g.E.Entropy.drawn c.args.entropy.now) (g.E.Entropy.drawn c.draw_directory.new.entropy)) c.in-None.is c.in-Ok-draw_directory.ensures.drawn in
+    let none = subst (λ (o : Option NewDirectory). DrawsIf c.args.self.now.keys c.args.is_dir o (g.E.Entropy.drawn c.args.entropy.now) (g.E.Entropy.drawn c.draw_directory.new.entropy)) c.in-None.is c.in-Ok.ensures.drawn in
     record {
       drawn = None;
       draw = file_draw c.args.is_dir drew drew' none.0 (header_partly drew mid drew' none.1 c.in_default-draw_header.ensures.partly);
       refused = told_always (disk_in (g.R.Reads.log c.args.folder.now)) (IsRefusal s asked c.args.now None refusals.RandomFault old.live old.claims)
-          (random_refused old.keys c.entries_are_parts.ensures old.live old.claims c.args.parent c.in-Ok.site c.in-Ok.ensures.site c.len-count.ensures.tree c.args.name.now c.in-Ok.ensures.name c.args.is_dir mode c.args.now None);
+          (random_refused old.keys c.entries_are_parts.ensures old.live old.claims c.args.parent c.in_ok-site.site c.in_ok-site.ensures.site c.len-count.ensures.tree c.args.name.now c.in_ok-site.ensures.name c.args.is_dir mode c.args.now None);
     }
 
 pub returns-in-Ok-make_directory-clause-ready : goal.returns-in-Ok-make_directory-clause-ready
@@ -88,9 +92,9 @@ returns-in-Ok-make_directory-clause-ready g c = λ mode.
     let drew = g.E.Entropy.drawn c.args.entropy.now in
     let drew' = g.E.Entropy.drawn c.draw_directory.new.entropy in
     let disk = disk_in (g.R.Reads.log c.args.folder.now) in
-    let directory = c.in-Ok-draw_directory.directory in
-    let draws = c.in-Ok-draw_directory.ensures.drawn in
-    let some = subst (λ (o : Option NewDirectory). DrawsIf c.args.self.now.keys c.args.is_dir o (g.E.Entropy.drawn c.args.entropy.now) (g.E.Entropy.drawn c.draw_directory.new.entropy)) c.in-Some.is c.in-Ok-draw_directory.ensures.drawn in
+    let directory = c.in-Ok.directory in
+    let draws = c.in-Ok.ensures.drawn in
+    let some = subst (λ (o : Option NewDirectory). DrawsIf c.args.self.now.keys c.args.is_dir o (g.E.Entropy.drawn c.args.entropy.now) (g.E.Entropy.drawn c.draw_directory.new.entropy)) c.in-Some.is c.in-Ok.ensures.drawn in
     record {
       drawn = Some c.in-Some.directory.identifier;
       draw = record {
@@ -101,27 +105,27 @@ returns-in-Ok-make_directory-clause-ready g c = λ mode.
       };
       makes = subst (λ (b : Bool). MakesOn (sealing_of c.args.self.now.keys) (create c.args.parent c.args.name.now b mode) c.args.now (says (qid (new_qid c.args.self.now.live b))) (Some c.in-Some.directory.identifier)
           c.args.self.now.live c.make_directory.new.self.live c.args.self.now.claims c.make_directory.new.self.claims (plains c.in-Ok-make_directory.deeds.items)) (sym some.0)
-          (c.in-Ok-make_directory.ensures.makes c.args.name.now mode c.in-Ok.ensures.name);
+          (c.in-Ok-make_directory.ensures.makes c.args.name.now mode c.in_ok-site.ensures.name);
       untaken = subst (λ (o : Option NewDirectory). Told (disk_in (g.R.Reads.log c.args.folder.now)) (IsUntaken (sealing_of c.args.self.now.keys) (create c.args.parent c.args.name.now c.args.is_dir mode) (drawn_in o) c.args.self.now.live c.args.self.now.claims)) c.in-Some.is
-          (untaken old.keys c.entries_are_parts.ensures old.live old.claims c.args.parent c.in-Ok.site c.in-Ok.ensures.site c.len-count.ensures.tree c.args.name.now c.in-Ok.ensures.name c.args.is_dir mode c.args.now
+          (untaken old.keys c.entries_are_parts.ensures old.live old.claims c.args.parent c.in_ok-site.site c.in_ok-site.ensures.site c.len-count.ensures.tree c.args.name.now c.in_ok-site.ensures.name c.args.is_dir mode c.args.now
           disk directory (own_folder old.keys c.args.is_dir directory drew drew' draws)
-          (subst (λ (o : Option NewDirectory). Told (disk_in (g.R.Reads.log c.args.folder.now)) (IsTaken c.in-Ok.site.folder c.in-Ok.site.place o c.args.self.now.live c.args.self.now.claims None)) c.as_ref.ensures.value c.in_default-check_places.ensures.untaken));
+          (subst (λ (o : Option NewDirectory). Told (disk_in (g.R.Reads.log c.args.folder.now)) (IsTaken c.in_ok-site.site.folder c.in_ok-site.site.place o c.args.self.now.live c.args.self.now.claims None)) c.as_ref.ensures.value c.in_ok-check_places.ensures.untaken));
       header = λ e. absurd cc;
     }
 
-pub returns-in-Err-make_directory-clause-refused : goal.returns-in-Err-make_directory-clause-refused
-returns-in-Err-make_directory-clause-refused g c = λ mode.
+pub returns-in-Err-clause-refused : goal.returns-in-Err-clause-refused
+returns-in-Err-clause-refused g c = λ mode.
     let old = c.args.self.now in
     let s = sealing_of c.args.self.now.keys in
     let asked = create c.args.parent c.args.name.now c.args.is_dir mode in
     let drew = g.E.Entropy.drawn c.args.entropy.now in
     let drew' = g.E.Entropy.drawn c.draw_directory.new.entropy in
-    let directory = c.in-Ok-draw_directory.directory in
+    let directory = c.in-Ok.directory in
     record {
       drawn = drawn_in directory;
-      draw = drew_directory old.keys c.args.is_dir directory drew drew' c.in-Ok-draw_directory.ensures.drawn;
+      draw = drew_directory old.keys c.args.is_dir directory drew drew' c.in-Ok.ensures.drawn;
       refused = told_always (disk_in (g.R.Reads.log c.args.folder.now)) (IsRefusal s asked c.args.now (drawn_in directory) refusals.OutOfMemory old.live old.claims)
-          (memory_refused old.keys c.entries_are_parts.ensures old.live old.claims c.args.parent c.in-Ok.site c.in-Ok.ensures.site c.len-count.ensures.tree c.args.name.now c.in-Ok.ensures.name c.args.is_dir mode c.args.now (drawn_in directory));
+          (memory_refused old.keys c.entries_are_parts.ensures old.live old.claims c.args.parent c.in_ok-site.site c.in_ok-site.ensures.site c.len-count.ensures.tree c.args.name.now c.in_ok-site.ensures.name c.args.is_dir mode c.args.now (drawn_in directory));
     }
 
 pub returns-in-Ok-make_file-clause-ready : goal.returns-in-Ok-make_file-clause-ready
@@ -131,9 +135,9 @@ returns-in-Ok-make_file-clause-ready g c = λ mode.
     let mid = g.E.Entropy.drawn c.draw_directory.new.entropy in
     let drew' = g.E.Entropy.drawn c.draw_header.new.entropy in
     let disk = disk_in (g.R.Reads.log c.args.folder.now) in
-    let directory = c.in-Ok-draw_directory.directory in
-    let draws = c.in-Ok-draw_directory.ensures.drawn in
-    let none = subst (λ (o : Option NewDirectory). DrawsIf c.args.self.now.keys c.args.is_dir o (g.E.Entropy.drawn c.args.entropy.now) (g.E.Entropy.drawn c.draw_directory.new.entropy)) c.in-None.is c.in-Ok-draw_directory.ensures.drawn in
+    let directory = c.in-Ok.directory in
+    let draws = c.in-Ok.ensures.drawn in
+    let none = subst (λ (o : Option NewDirectory). DrawsIf c.args.self.now.keys c.args.is_dir o (g.E.Entropy.drawn c.args.entropy.now) (g.E.Entropy.drawn c.draw_directory.new.entropy)) c.in-None.is c.in-Ok.ensures.drawn in
     let head = subst (λ (d : Option (List ℕ)). DrawsHead c.args.self.now.keys d (g.E.Entropy.drawn c.draw_header.new.entropy) c.in-Ok-draw_header.header) none.1 c.in-Ok-draw_header.ensures.drawn in
     let made = c.in-Ok-make_file.ensures.deeds in
     record {
@@ -141,11 +145,11 @@ returns-in-Ok-make_file-clause-ready g c = λ mode.
       draw = file_draw c.args.is_dir drew drew' none.0 (head_changes old.keys drew drew' c.in-Ok-draw_header.header head);
       makes = subst (λ (b : Bool). MakesOn (sealing_of c.args.self.now.keys) (create c.args.parent c.args.name.now b mode) c.args.now (says (qid (new_qid c.args.self.now.live b))) None
           c.args.self.now.live c.make_file.new.self.live c.args.self.now.claims c.make_file.new.self.claims (plains c.in-Ok-make_file.deeds.items)) (sym none.0)
-          (c.in-Ok-make_file.ensures.makes c.args.name.now mode c.in-Ok.ensures.name);
+          (c.in-Ok-make_file.ensures.makes c.args.name.now mode c.in_ok-site.ensures.name);
       untaken = subst (λ (o : Option NewDirectory). Told (disk_in (g.R.Reads.log c.args.folder.now)) (IsUntaken (sealing_of c.args.self.now.keys) (create c.args.parent c.args.name.now c.args.is_dir mode) (drawn_in o) c.args.self.now.live c.args.self.now.claims)) c.in-None.is
-          (untaken old.keys c.entries_are_parts.ensures old.live old.claims c.args.parent c.in-Ok.site c.in-Ok.ensures.site c.len-count.ensures.tree c.args.name.now c.in-Ok.ensures.name c.args.is_dir mode c.args.now
+          (untaken old.keys c.entries_are_parts.ensures old.live old.claims c.args.parent c.in_ok-site.site c.in_ok-site.ensures.site c.len-count.ensures.tree c.args.name.now c.in_ok-site.ensures.name c.args.is_dir mode c.args.now
           disk directory (own_folder old.keys c.args.is_dir directory drew mid draws)
-          (subst (λ (o : Option NewDirectory). Told (disk_in (g.R.Reads.log c.args.folder.now)) (IsTaken c.in-Ok.site.folder c.in-Ok.site.place o c.args.self.now.live c.args.self.now.claims None)) c.as_ref.ensures.value c.in_default-check_places.ensures.untaken));
+          (subst (λ (o : Option NewDirectory). Told (disk_in (g.R.Reads.log c.args.folder.now)) (IsTaken c.in_ok-site.site.folder c.in_ok-site.site.place o c.args.self.now.live c.args.self.now.claims None)) c.as_ref.ensures.value c.in_ok-check_places.ensures.untaken));
       header = λ e. header_drawn old.keys drew drew' c.in-Ok-draw_header.header head made.0 made.1 (plains c.in-Ok-make_file.deeds.items) made.2;
     }
 
@@ -157,10 +161,10 @@ returns-in-Err-make_file-clause-refused g c = λ mode.
     let drew = g.E.Entropy.drawn c.args.entropy.now in
     let mid = g.E.Entropy.drawn c.draw_directory.new.entropy in
     let drew' = g.E.Entropy.drawn c.draw_header.new.entropy in
-    let none = subst (λ (o : Option NewDirectory). DrawsIf c.args.self.now.keys c.args.is_dir o (g.E.Entropy.drawn c.args.entropy.now) (g.E.Entropy.drawn c.draw_directory.new.entropy)) c.in-None.is c.in-Ok-draw_directory.ensures.drawn in
+    let none = subst (λ (o : Option NewDirectory). DrawsIf c.args.self.now.keys c.args.is_dir o (g.E.Entropy.drawn c.args.entropy.now) (g.E.Entropy.drawn c.draw_directory.new.entropy)) c.in-None.is c.in-Ok.ensures.drawn in
     record {
       drawn = None;
       draw = file_draw c.args.is_dir drew drew' none.0 (header_partly drew mid drew' none.1 (head_changes old.keys mid drew' c.in-Ok-draw_header.header c.in-Ok-draw_header.ensures.drawn));
       refused = told_always (disk_in (g.R.Reads.log c.args.folder.now)) (IsRefusal s asked c.args.now None refusals.OutOfMemory old.live old.claims)
-          (memory_refused old.keys c.entries_are_parts.ensures old.live old.claims c.args.parent c.in-Ok.site c.in-Ok.ensures.site c.len-count.ensures.tree c.args.name.now c.in-Ok.ensures.name c.args.is_dir mode c.args.now None);
+          (memory_refused old.keys c.entries_are_parts.ensures old.live old.claims c.args.parent c.in_ok-site.site c.in_ok-site.ensures.site c.len-count.ensures.tree c.args.name.now c.in_ok-site.ensures.name c.args.is_dir mode c.args.now None);
     }

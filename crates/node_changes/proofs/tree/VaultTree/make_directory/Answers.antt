@@ -3,8 +3,10 @@ use Rattle.clear_tree.specs.Kept.{KeptDir}
 use Rattle.deeds.specs.Plain.{plains}
 use Rattle.live_tree.specs.Changes.{added, new_node}
 use Rattle.tree_changes.specs.Deeds.{create_dir_deeds}
-use Rattle.node_changes.proofs.Makings.{directory_makes, place_by}
+use Rattle.node_changes.specs.declared.tree.VaultTree.{VaultTree}
+use Rattle.node_changes.proofs.Makings.{directory_makes, place_by, takes_back, took_nothing}
 use Rattle.node_changes.proofs.tree.VaultTree.make_directory.Goals as goal
+use Rattle.node_changes.proofs.tree.VaultTree.make_directory.Goals.{then-is_new, else-is_new}
 
 pub returns-clause-makes : goal.returns-clause-makes
 returns-clause-makes c = λ name mode clear.
@@ -12,9 +14,22 @@ returns-clause-makes c = λ name mode clear.
     let new = c.add.new.self in
     let site = c.args.site in
     let directory = c.args.directory.now in
-    directory_makes old.keys c.are_texts.ensures c.kept_claims.ensures old.live new.live old.claims c.in_ok-claims.claims c.args.parent c.args.now site c.requires.site c.len-count.ensures.tree name clear mode
+    directory_makes old.keys c.are_texts.ensures c.kept_claims.ensures old.live new.live old.claims new.claims c.args.parent c.args.now site c.requires.site c.len-count.ensures.tree name clear mode
     (plains c.in_ok-deeds.deeds.items) directory c.requires.directory.0 c.requires.directory.1
     (c.in_ok-deeds.ensures.deeds ∙ ap₂ (λ (e t : List ℕ). create_dir_deeds (place_by site.folder e site.place.long) t directory.folder directory.identifier) c.as_bytes.ensures c.as_bytes-2.ensures)
-    (c.in_ok-add.ensures.live ∙ ap (λ (i : List ℕ). added old.live (new_node c.args.parent site.name (KeptDir i directory.folder) site.place.entry site.place.long c.args.now) c.args.now)
+    (c.in_default.ensures.live ∙ ap (λ (i : List ℕ). added old.live (new_node c.args.parent site.name (KeptDir i directory.folder) site.place.entry site.place.long c.args.now) c.args.now)
     (c.from_vec.ensures ∙ c.in_ok-identifier.ensures.items))
-    c.in_ok-add.ensures.rows c.in_ok-claims.ensures
+    c.in_default.ensures.rows
+    (rw (c.add.ensures.claims, ← c.next.ensures) c.in_ok-is_new.ensures.claims)
+
+pub returns-in-Err-clause-same_claims : goal.returns-in-Err-clause-same_claims
+returns-in-Err-clause-same_claims c =
+    elim c.if-is_new.branch [
+      | then-is_new w ↦
+          ap (λ (t : VaultTree). t.claims) w.self-is
+          ∙ takes_back c.args.self.now.claims c.insert.new.self c.add.new.self.claims w.remove.new.self c.args.directory.now.folder c.next.result c.in_ok-is_new.is_new c.in_ok-is_new.ensures.inserted w.if-is_new.true c.add.ensures.claims
+          w.remove.ensures.back
+      | else-is_new w ↦
+          ap (λ (t : VaultTree). t.claims) w.self-is
+          ∙ took_nothing c.args.self.now.claims c.insert.new.self c.add.new.self.claims c.args.directory.now.folder c.next.result c.in_ok-is_new.is_new c.in_ok-is_new.ensures.inserted w.if-is_new.false c.add.ensures.claims
+    ]

@@ -1,4 +1,5 @@
 use Rattle.std.proofs.Common.{subst}
+use Rattle.std.proofs.lemmas.Result.{err_from_is_err_and}
 use Rattle.deeds.specs.Plain.{plains}
 use Rattle.directory_scan.specs.Format.{sealing_of}
 use Rattle.node_changes.specs.Removal.{IsRemovalRefusal}
@@ -13,10 +14,11 @@ returns-in-Some-clause-refused c =
 pub removal_deeds-requires : goal.removal_deeds-requires
 removal_deeds-requires c = record { there = is_there c.args.self.now.live c.args.number (subst (IsRemovalRefusal c.args.self.now.live c.args.number) c.in_default.is c.removal_refusal.ensures.refusal) }
 
-pub returns-in-Err-clause-refused : goal.returns-in-Err-clause-refused
-returns-in-Err-clause-refused c =
-    deeds_refused c.args.self.now.keys c.entries_are_parts.ensures c.args.self.now.live c.args.self.now.claims c.args.number c.args.now c.removal_refusal.ensures.tree
-    (subst (IsRemovalRefusal c.args.self.now.live c.args.number) c.in_default.is c.removal_refusal.ensures.refusal) c.in-Err.refusal c.in-Err.ensures.refusal
+pub returns-in_err-deeds-clause-refused : goal.returns-in_err-deeds-clause-refused
+returns-in_err-deeds-clause-refused c =
+    let p = err_from_is_err_and c.from_residual.result c.from_residual.ensures.1 in
+    rw (p.1, p.2) (deeds_refused c.args.self.now.keys c.entries_are_parts.ensures c.args.self.now.live c.args.self.now.claims c.args.number c.args.now c.removal_refusal.ensures.tree
+    (subst (IsRemovalRefusal c.args.self.now.live c.args.number) c.in_default.is c.removal_refusal.ensures.refusal) c.in_err-deeds.field-0.0 c.in_err-deeds.ensures.refusal)
 
 pub forget-requires-clause-below : goal.forget-requires-clause-below
 forget-requires-clause-below c =
@@ -29,5 +31,5 @@ forget-requires-clause-childless c =
 pub returns-clause-made : goal.returns-clause-made
 returns-clause-made c =
     removed_leads c.args.self.now.keys c.are_texts.ensures c.kept_claims.ensures c.args.self.now.live c.forget.new.self.live c.args.self.now.claims c.forget.new.self.claims c.args.number c.args.now
-    (plains c.in-Ok.deeds.items) c.removal_refusal.ensures.tree (subst (IsRemovalRefusal c.args.self.now.live c.args.number) c.in_default.is c.removal_refusal.ensures.refusal)
-    c.in-Ok.ensures.deeds c.forget.ensures.live c.forget.ensures.rows c.forget.ensures.claims
+    (plains c.in_ok-deeds.deeds.items) c.removal_refusal.ensures.tree (subst (IsRemovalRefusal c.args.self.now.live c.args.number) c.in_default.is c.removal_refusal.ensures.refusal)
+    c.in_ok-deeds.ensures.deeds c.forget.ensures.live c.forget.ensures.rows c.forget.ensures.claims
