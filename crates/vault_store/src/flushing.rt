@@ -61,10 +61,8 @@ impl<D: Folder> Vault<D> {
         if let Some(refusal) = creation_refusal(self.tree.live(), parent, name) {
             return Ok(Reply::Refused(refusal));
         }
-        match self.flush() {
-            Ok(()) => self.create_idle(parent, name, is_dir, now, entropy),
-            Err(broken) => Err(broken),
-        }
+        self.flush()?;
+        self.create_idle(parent, name, is_dir, now, entropy)
     }
 
     /// Removes a node.
@@ -82,10 +80,8 @@ impl<D: Folder> Vault<D> {
         if let Some(refusal) = removal_refusal(self.tree.live(), number) {
             return Ok(Reply::Refused(refusal));
         }
-        match self.flush() {
-            Ok(()) => self.remove_idle(number, now),
-            Err(broken) => Err(broken),
-        }
+        self.flush()?;
+        self.remove_idle(number, now)
     }
 
     /// Changes attributes of a node: its name or its length, and its mtime.
@@ -114,10 +110,8 @@ impl<D: Folder> Vault<D> {
             Ok(Err(refusal)) => return Ok(Reply::Refused(refusal)),
             Err(_) => return Ok(Reply::Refused(Refusal::OutOfMemory)),
         };
-        match self.flush() {
-            Ok(()) => self.change_idle(number, plan, change.modified, now, entropy),
-            Err(broken) => Err(broken),
-        }
+        self.flush()?;
+        self.change_idle(number, plan, change.modified, now, entropy)
     }
 
     /// Has all that was answered so far last.
@@ -134,9 +128,7 @@ impl<D: Folder> Vault<D> {
         if let Reply::Refused(_) = reply {
             return Ok(reply);
         }
-        match self.flush() {
-            Ok(()) => Ok(reply),
-            Err(broken) => Err(broken),
-        }
+        self.flush()?;
+        Ok(reply)
     }
 }

@@ -13,7 +13,7 @@ use Rattle.vault_keys.specs.Errors.{IsOf, IsCause, key_fault, config_fault}
 use Rattle.vault_keys.specs.declared.errors.UnlockErr.{UnlockErr}
 use Rattle.vault_keys.specs.declared.errors.UnlockErr.TheVariants as unlock_errs
 use Rattle.vault_unlock.specs.Unlock as unlocking
-use Rattle.vault_unlock.specs.Unlock.{FoundFiles, files_at, IsUnlocking, unlock_on}
+use Rattle.vault_unlock.specs.Unlock.{IsUnlocking}
 use Rattle.vault_unlock.specs.declared.unlocking.SecretKind.{SecretKind}
 use Rattle.vault_unlock.specs.declared.refusal.Refusal.{Refusal}
 use Rattle.vault_unlock.specs.declared.refusal.Refusal.TheVariants as refusals

@@ -30,11 +30,17 @@ IsWithin (demo d) = (1 ≤ d.clients) × (d.clients ≤ 64) × (d.requests ≤ 1
 IsWithin help = ⊤
 IsWithin version = ⊤
 
+-- the scripts are a demonstration's, of 1 to 64 clients
+pub record AreForClients (d : Demonstration) (scripts : Scripts) : Type 0 where
+  pub are : AreScriptsOf d scripts
+  pub some : 1 ≤ scripts.clients
+  pub few : scripts.clients ≤ 64
+
 -- the task is this job's
 abbrev pub IsTaskOf : Job → Task → Type 0
 IsTaskOf (serve s) task = (service : Service) × (task ≡ Serve service) × IsServiceOf s service
 IsTaskOf (make dir) task = task ≡ Make
-IsTaskOf (demo d) task = (scripts : Scripts) × (task ≡ Demo scripts) × AreScriptsOf d scripts × (1 ≤ scripts.clients) × (scripts.clients ≤ 64)
+IsTaskOf (demo d) task = (scripts : Scripts) × (task ≡ Demo scripts) × AreForClients d scripts
 IsTaskOf help task = task ≡ Usage
 IsTaskOf version task = task ≡ Version
 
@@ -42,7 +48,7 @@ IsTaskOf version task = task ≡ Version
 abbrev pub AskTask : List Text → Task → Type 0
 AskTask words (Serve service) = (s : Serving) × Ask words (serve s) × IsServiceOf s service
 AskTask words Make = (dir : Text) × Ask words (make dir)
-AskTask words (Demo scripts) = (d : Demonstration) × Ask words (demo d) × AreScriptsOf d scripts × (1 ≤ scripts.clients) × (scripts.clients ≤ 64)
+AskTask words (Demo scripts) = (d : Demonstration) × Ask words (demo d) × AreForClients d scripts
 AskTask words Usage = Ask words help
 AskTask words Version = Ask words version
 

@@ -55,7 +55,7 @@ pub struct Ended<D> {
 /// after the last entry of the history of all their sessions. It touches neither `folder` nor the secret nor the workers.
 ///
 /// `make` reads the secret and makes a vault in `folder`, of what it draws from the first worker; from its first sync on a stop leaves no
-/// vault, or the whole of it, even where it fails later. `--help` and `--version` touch nothing. Of a good secret its line alone is taken.
+/// vault, or the whole of it, even where it fails later. `--help` and `--version` touch nothing. If the secret is accepted, exactly its first line was read.
 ///
 /// | status | report | comes |
 /// |---|---|---|
@@ -75,7 +75,7 @@ pub struct Ended<D> {
 /// | 7 | `serving`, then `listener fault` | some listener's count of faults rose |
 /// | 8 | `not empty: NAME` | `make`'s folder has an entry, the first by the names' bytes |
 ///
-/// Where the sink failed, it took a part of the report; the status is then 4 in place of 0 and 7, and else the same.
+/// If writing the report failed, a prefix of it was written, and a status of 0 or 7 becomes 4.
 ///
 /// `rt` starts the workers' threads, and `gate` is passed by no session.
 pub fn run<

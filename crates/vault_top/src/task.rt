@@ -46,10 +46,7 @@ pub(crate) fn read_task(alloc: Global, words: &[String]) -> Result<Task, WordsEr
     ensures task { IfOk result (AskTask (words_of words.now)) }
     ensures cause { IfErr result (IsWordsCause (words_of words.now)) }
 {
-    match read_words(alloc, words) {
-        Ok(job) => task_of(job).ok_or(WordsErr::Refused),
-        Err(error) => Err(error),
-    }
+    task_of(read_words(alloc, words)?).ok_or(WordsErr::Refused)
 }
 
 // The task of a job, if the program does it.

@@ -66,7 +66,7 @@ returns-in-Err-Memory g c =
 pub report_demonstration-requires : goal.report_demonstration-requires
 report_demonstration-requires g c =
     let asked = rw c.in-Ok-Demo.field-0-is at c.in-Ok-Demo.ensures.task in
-    (c.type_bounds.sync-R, (asked.3, asked.4))
+    (c.type_bounds.sync-R, (asked.2.some, asked.2.few))
 
 pub returns-in-Ok-Demo : goal.returns-in-Ok-Demo
 returns-in-Ok-Demo g c =
@@ -77,7 +77,7 @@ returns-in-Ok-Demo g c =
     let secret = source_view g.S.Source.left g.S.Source.faults c.args.secret.now in
     let sink = course (sink_view g.O.Sink.taken g.O.Sink.faults) c.args.out.now c.report_demonstration.new.out in
     record {
-      run = elim (c.report_demonstration.ensures asked.0 asked.2) [
+      run = elim (c.report_demonstration.ensures asked.0 asked.2.are) [
         | inl h ↦ run_untouched views words secret (g.K.Clock.second c.args.clock.now) c.args.folder c.args.workers.now.items sink _ (demonstrated h.0) refl
             (λ untouched. record { demonstration = asked.0; words = asked.1; untouched = untouched; held = h.1 }) h.2
         | inr reported ↦ run_badly_asked views words secret (g.K.Clock.second c.args.clock.now) c.args.folder c.args.workers.now.items sink _ Memory refl (inr refl) reported

@@ -1,4 +1,5 @@
 use Rattle.std.proofs.Common.{◌≡◌, [], true, None, IsSome, refl, ap, subst, sym, ◌∙◌}
+use Rattle.std.proofs.lemmas.Result.{err_from_is_err_and}
 use Rattle.outside.specs.Views.{entropy_view, folder_view}
 use Rattle.siv_mode.specs.Keys.{KeyPair}
 use Rattle.directory_scan.specs.Format.{sealing_of}
@@ -48,17 +49,17 @@ pub change_idle-requires-clause-planned : goal.change_idle-requires-clause-plann
 change_idle-requires-clause-planned g c =
     let asked = plain_change c.args.change.now in (
       asked,
-      subst (λ (l : HeldTree). IsPlanned l c.args.number asked c.in-Ok-Ok.plan) (c.live.ensures ∙ ap (λ (t : VaultTree). t.live) (sym c.in-Ok.ensures.tree))
+      subst (λ (l : HeldTree). IsPlanned l c.args.number asked c.in-Ok-Ok.plan) (c.live.ensures ∙ ap (λ (t : VaultTree). t.live) (sym c.in_ok-flush.ensures.tree))
           (plan_at (IsPlanned c.live.result.now c.args.number asked) c.in-Ok-Ok.field-0 c.in-Ok-Ok.plan c.in-Ok-Ok.plan c.in-Ok-Ok.field-0-is refl c.in-Ok-Ok.ensures.planned),
     )
 
 pub change_idle-requires-clause-resizable : goal.change_idle-requires-clause-resizable
 change_idle-requires-clause-resizable g c =
-    subst (λ (l : HeldTree). CanResize l c.args.number c.in-Ok-Ok.plan) (c.live.ensures ∙ ap (λ (t : VaultTree). t.live) (sym c.in-Ok.ensures.tree))
+    subst (λ (l : HeldTree). CanResize l c.args.number c.in-Ok-Ok.plan) (c.live.ensures ∙ ap (λ (t : VaultTree). t.live) (sym c.in_ok-flush.ensures.tree))
     (plan_at (CanResize c.live.result.now c.args.number) c.in-Ok-Ok.field-0 c.in-Ok-Ok.plan c.in-Ok-Ok.plan c.in-Ok-Ok.field-0-is refl c.in-Ok-Ok.ensures.resizable)
 
-pub returns-in-Ok-clause-outcome : goal.returns-in-Ok-clause-outcome
-returns-in-Ok-clause-outcome g c = λ entries buffer.
+pub returns-clause-outcome : goal.returns-clause-outcome
+returns-clause-outcome g c = λ entries buffer.
     let tree = c.args.self.now.tree in
     let back = c.args.self.now.back in
     let before = folder_view g.D.Reads.log g.D.Reads.faults g.D.Reads.changes back.folder in
@@ -67,13 +68,13 @@ returns-in-Ok-clause-outcome g c = λ entries buffer.
     let source = entropy_view g.E.Entropy.drawn g.E.Entropy.faults c.args.entropy.now in
     let source' = entropy_view g.E.Entropy.drawn g.E.Entropy.faults c.change_idle.new.entropy in
     let asked = plain_change c.args.change.now in
-    let planned = subst (λ (l : HeldTree). IsPlanned l c.args.number asked c.in-Ok-Ok.plan) (c.live.ensures ∙ ap (λ (t : VaultTree). t.live) (sym c.in-Ok.ensures.tree))
+    let planned = subst (λ (l : HeldTree). IsPlanned l c.args.number asked c.in-Ok-Ok.plan) (c.live.ensures ∙ ap (λ (t : VaultTree). t.live) (sym c.in_ok-flush.ensures.tree))
     (plan_at (IsPlanned c.live.result.now c.args.number asked) c.in-Ok-Ok.field-0 c.in-Ok-Ok.plan c.in-Ok-Ok.plan c.in-Ok-Ok.field-0-is refl c.in-Ok-Ok.ensures.planned) in
     after_flush (view_of tree back.waiting entries None) c.flush.new.self.tree c.change_idle.new.self.tree c.change_idle.new.self.back.waiting entries before amid after source source' (change c.args.number asked) c.args.now
-    c.change_idle.result buffer buffer c.change_idle.ensures.idle (c.in-Ok.ensures.flushed entries) (c.change_idle.ensures.outcome entries buffer asked refl planned)
+    c.change_idle.result buffer buffer c.change_idle.ensures.idle (c.in_ok-flush.ensures.flushed entries) (c.change_idle.ensures.outcome entries buffer asked refl planned)
 
-pub returns-in-Ok-clause-rest : goal.returns-in-Ok-clause-rest
-returns-in-Ok-clause-rest g c =
+pub returns-clause-rest : goal.returns-clause-rest
+returns-clause-rest g c =
     let amid = folder_view g.D.Reads.log g.D.Reads.faults g.D.Reads.changes c.flush.new.self.back.folder in
     let after = folder_view g.D.Reads.log g.D.Reads.faults g.D.Reads.changes c.change_idle.new.self.back.folder in
     let was = c.flush.new.self.tree in
@@ -81,13 +82,13 @@ returns-in-Ok-clause-rest g c =
     let source = entropy_view g.E.Entropy.drawn g.E.Entropy.faults c.args.entropy.now in
     let source' = entropy_view g.E.Entropy.drawn g.E.Entropy.faults c.change_idle.new.entropy in
     let asked = plain_change c.args.change.now in
-    let planned = subst (λ (l : HeldTree). IsPlanned l c.args.number asked c.in-Ok-Ok.plan) (c.live.ensures ∙ ap (λ (t : VaultTree). t.live) (sym c.in-Ok.ensures.tree))
+    let planned = subst (λ (l : HeldTree). IsPlanned l c.args.number asked c.in-Ok-Ok.plan) (c.live.ensures ∙ ap (λ (t : VaultTree). t.live) (sym c.in_ok-flush.ensures.tree))
     (plan_at (IsPlanned c.live.result.now c.args.number asked) c.in-Ok-Ok.field-0 c.in-Ok-Ok.plan c.in-Ok-Ok.plan c.in-Ok-Ok.field-0-is refl c.in-Ok-Ok.ensures.planned) in
     rests was.keys new.tree.keys was.live new.tree.live was.claims new.tree.claims 0 amid after source source' (change c.args.number asked) c.args.now c.change_idle.result [] [] new.back.waiting
-    c.change_idle.ensures.keys c.change_idle.ensures.idle c.in-Ok.ensures.rest (c.change_idle.ensures.outcome 0 [] asked refl planned)
+    c.change_idle.ensures.keys c.change_idle.ensures.idle c.in_ok-flush.ensures.rest (c.change_idle.ensures.outcome 0 [] asked refl planned)
 
-pub returns-in-Err-flush-clause-outcome : goal.returns-in-Err-flush-clause-outcome
-returns-in-Err-flush-clause-outcome g c = λ entries buffer.
+pub returns-in_err-flush-clause-outcome : goal.returns-in_err-flush-clause-outcome
+returns-in_err-flush-clause-outcome g c = λ entries buffer.
     let tree = c.args.self.now.tree in
     let back = c.args.self.now.back in
     let before = folder_view g.D.Reads.log g.D.Reads.faults g.D.Reads.changes back.folder in
@@ -97,6 +98,8 @@ returns-in-Err-flush-clause-outcome g c = λ entries buffer.
     let sizes = subst (λ (k : KeyPair). SizesAreHeld (sealing_of k)) c.keys.ensures c.have_sizes.ensures in
     let planned = subst (λ (l : HeldTree). IsPlanned l c.args.number asked c.in-Ok-Ok.plan) c.live.ensures
     (plan_at (IsPlanned c.live.result.now c.args.number asked) c.in-Ok-Ok.field-0 c.in-Ok-Ok.plan c.in-Ok-Ok.plan c.in-Ok-Ok.field-0-is refl c.in-Ok-Ok.ensures.planned) in
-    flush_failed tree c.flush.new.self.tree back.waiting c.flush.new.self.back.waiting entries before after source (change c.args.number asked) c.args.now c.in-Err-flush.broken buffer c.in-Err-flush.ensures.tree
-    c.in-Err-flush.ensures.cause.later (c.in-Err-flush.ensures.cause.rose refl) tt (plan_late tree.keys tree.live tree.claims c.args.number asked sizes c.in-Ok-Ok.plan planned)
-    c.in-Err-flush.ensures.failed
+    let p = err_from_is_err_and c.from_residual.result c.from_residual.ensures.1 in
+    rw p.1 (
+    flush_failed tree c.flush.new.self.tree back.waiting c.flush.new.self.back.waiting entries before after source (change c.args.number asked) c.args.now p.0 buffer c.in_err-flush.ensures.tree
+    c.in_err-flush.ensures.cause.later (c.in_err-flush.ensures.cause.rose refl) tt (plan_late tree.keys tree.live tree.claims c.args.number asked sizes c.in-Ok-Ok.plan planned)
+    c.in_err-flush.ensures.failed)

@@ -1,4 +1,5 @@
 use Rattle.std.proofs.Common.{[], Some, None, is_some, refl, ap, subst, arith}
+use Rattle.std.proofs.lemmas.Result.{err_from_is_err_and}
 use Rattle.outside.specs.Views.{entropy_view, folder_view}
 use Rattle.directory_scan.specs.Format.{sealing_of}
 use Rattle.tree_model.specs.Asked.{create}
@@ -26,8 +27,8 @@ returns-in-Some-clause-outcome g c = λ entries mode buffer.
     (λ d contents stands. early_answer (live_rows contents tree.live) request c.args.now c.in-Some.refusal
     (subst (λ (l : HeldTree). IsCreationRefusal l c.args.parent c.args.name.now (Some c.in-Some.refusal)) c.live.ensures c.in-Some.ensures.refusal contents c.args.is_dir mode)))
 
-pub returns-in-Ok-clause-outcome : goal.returns-in-Ok-clause-outcome
-returns-in-Ok-clause-outcome g c = λ entries mode buffer.
+pub returns-clause-outcome : goal.returns-clause-outcome
+returns-clause-outcome g c = λ entries mode buffer.
     let tree = c.args.self.now.tree in
     let back = c.args.self.now.back in
     let before = folder_view g.D.Reads.log g.D.Reads.faults g.D.Reads.changes back.folder in
@@ -36,10 +37,10 @@ returns-in-Ok-clause-outcome g c = λ entries mode buffer.
     let source = entropy_view g.E.Entropy.drawn g.E.Entropy.faults c.args.entropy.now in
     let source' = entropy_view g.E.Entropy.drawn g.E.Entropy.faults c.create_idle.new.entropy in
     after_flush (view_of tree back.waiting entries None) c.flush.new.self.tree c.create_idle.new.self.tree c.create_idle.new.self.back.waiting entries before amid after source source' (create c.args.parent c.args.name.now c.args.is_dir mode) c.args.now
-    c.create_idle.result buffer buffer c.create_idle.ensures.idle (c.in-Ok.ensures.flushed entries) (c.create_idle.ensures.outcome entries mode buffer)
+    c.create_idle.result buffer buffer c.create_idle.ensures.idle (c.in_ok-flush.ensures.flushed entries) (c.create_idle.ensures.outcome entries mode buffer)
 
-pub returns-in-Ok-clause-rest : goal.returns-in-Ok-clause-rest
-returns-in-Ok-clause-rest g c =
+pub returns-clause-rest : goal.returns-clause-rest
+returns-clause-rest g c =
     let amid = folder_view g.D.Reads.log g.D.Reads.faults g.D.Reads.changes c.flush.new.self.back.folder in
     let after = folder_view g.D.Reads.log g.D.Reads.faults g.D.Reads.changes c.create_idle.new.self.back.folder in
     let was = c.flush.new.self.tree in
@@ -47,16 +48,18 @@ returns-in-Ok-clause-rest g c =
     let source = entropy_view g.E.Entropy.drawn g.E.Entropy.faults c.args.entropy.now in
     let source' = entropy_view g.E.Entropy.drawn g.E.Entropy.faults c.create_idle.new.entropy in
     rests was.keys new.tree.keys was.live new.tree.live was.claims new.tree.claims 0 amid after source source' (create c.args.parent c.args.name.now c.args.is_dir 0) c.args.now c.create_idle.result [] [] new.back.waiting
-    c.create_idle.ensures.keys c.create_idle.ensures.idle c.in-Ok.ensures.rest (c.create_idle.ensures.outcome 0 0 [])
+    c.create_idle.ensures.keys c.create_idle.ensures.idle c.in_ok-flush.ensures.rest (c.create_idle.ensures.outcome 0 0 [])
 
-pub returns-in-Err-clause-outcome : goal.returns-in-Err-clause-outcome
-returns-in-Err-clause-outcome g c = λ entries mode buffer.
+pub returns-in_err-flush-clause-outcome : goal.returns-in_err-flush-clause-outcome
+returns-in_err-flush-clause-outcome g c = λ entries mode buffer.
     let tree = c.args.self.now.tree in
     let back = c.args.self.now.back in
     let before = folder_view g.D.Reads.log g.D.Reads.faults g.D.Reads.changes back.folder in
     let after = folder_view g.D.Reads.log g.D.Reads.faults g.D.Reads.changes c.flush.new.self.back.folder in
     let source = entropy_view g.E.Entropy.drawn g.E.Entropy.faults c.args.entropy.now in
-    flush_failed tree c.flush.new.self.tree back.waiting c.flush.new.self.back.waiting entries before after source (create c.args.parent c.args.name.now c.args.is_dir mode) c.args.now c.in-Err.broken buffer c.in-Err.ensures.tree
-    c.in-Err.ensures.cause.later (c.in-Err.ensures.cause.rose refl) tt
+    let p = err_from_is_err_and c.from_residual.result c.from_residual.ensures.1 in
+    rw p.1 (
+    flush_failed tree c.flush.new.self.tree back.waiting c.flush.new.self.back.waiting entries before after source (create c.args.parent c.args.name.now c.args.is_dir mode) c.args.now p.0 buffer c.in_err-flush.ensures.tree
+    c.in_err-flush.ensures.cause.later (c.in_err-flush.ensures.cause.rose refl) tt
     (λ d contents stands. ap is_some (subst (λ (l : HeldTree). IsCreationRefusal l c.args.parent c.args.name.now None) c.live.ensures c.in_default.ensures.refusal contents c.args.is_dir mode))
-    c.in-Err.ensures.failed
+    c.in_err-flush.ensures.failed)

@@ -1,4 +1,5 @@
 use Rattle.std.proofs.Common.{[], Some, None, is_some, refl, ap, subst}
+use Rattle.std.proofs.lemmas.Result.{err_from_is_err_and}
 use Rattle.outside.specs.Views.{EntropyView, folder_view}
 use Rattle.directory_scan.specs.Format.{sealing_of}
 use Rattle.tree_model.specs.Asked.{remove}
@@ -21,33 +22,35 @@ returns-in-Some-clause-outcome g c = λ entries source buffer.
     (removal_refused tree.keys tree.live tree.claims entries (over back.waiting folder) source c.args.number c.args.now c.in-Some.refusal buffer c.in-Some.ensures.own
     (subst (λ (l : HeldTree). IsRemovalRefusal l c.args.number (Some c.in-Some.refusal)) c.live.ensures c.in-Some.ensures.refusal))
 
-pub returns-in-Ok-clause-outcome : goal.returns-in-Ok-clause-outcome
-returns-in-Ok-clause-outcome g c = λ entries source buffer.
+pub returns-clause-outcome : goal.returns-clause-outcome
+returns-clause-outcome g c = λ entries source buffer.
     let tree = c.args.self.now.tree in
     let back = c.args.self.now.back in
     let before = folder_view g.D.Reads.log g.D.Reads.faults g.D.Reads.changes back.folder in
     let amid = folder_view g.D.Reads.log g.D.Reads.faults g.D.Reads.changes c.flush.new.self.back.folder in
     let after = folder_view g.D.Reads.log g.D.Reads.faults g.D.Reads.changes c.remove_idle.new.self.back.folder in
     after_flush (view_of tree back.waiting entries None) c.flush.new.self.tree c.remove_idle.new.self.tree c.remove_idle.new.self.back.waiting entries before amid after source source (remove c.args.number) c.args.now
-    c.remove_idle.result buffer buffer c.remove_idle.ensures.idle (c.in-Ok.ensures.flushed entries) (c.remove_idle.ensures.outcome entries source buffer)
+    c.remove_idle.result buffer buffer c.remove_idle.ensures.idle (c.in_ok-flush.ensures.flushed entries) (c.remove_idle.ensures.outcome entries source buffer)
 
-pub returns-in-Ok-clause-rest : goal.returns-in-Ok-clause-rest
-returns-in-Ok-clause-rest g c =
+pub returns-clause-rest : goal.returns-clause-rest
+returns-clause-rest g c =
     let amid = folder_view g.D.Reads.log g.D.Reads.faults g.D.Reads.changes c.flush.new.self.back.folder in
     let after = folder_view g.D.Reads.log g.D.Reads.faults g.D.Reads.changes c.remove_idle.new.self.back.folder in
     let was = c.flush.new.self.tree in
     let new = c.remove_idle.new.self in
     let source : EntropyView = record { drawn = None; faults = 0 } in
     rests was.keys new.tree.keys was.live new.tree.live was.claims new.tree.claims 0 amid after source source (remove c.args.number) c.args.now c.remove_idle.result [] [] new.back.waiting
-    c.remove_idle.ensures.keys c.remove_idle.ensures.idle c.in-Ok.ensures.rest (c.remove_idle.ensures.outcome 0 source [])
+    c.remove_idle.ensures.keys c.remove_idle.ensures.idle c.in_ok-flush.ensures.rest (c.remove_idle.ensures.outcome 0 source [])
 
-pub returns-in-Err-clause-outcome : goal.returns-in-Err-clause-outcome
-returns-in-Err-clause-outcome g c = λ entries source buffer.
+pub returns-in_err-flush-clause-outcome : goal.returns-in_err-flush-clause-outcome
+returns-in_err-flush-clause-outcome g c = λ entries source buffer.
     let tree = c.args.self.now.tree in
     let back = c.args.self.now.back in
     let before = folder_view g.D.Reads.log g.D.Reads.faults g.D.Reads.changes back.folder in
     let after = folder_view g.D.Reads.log g.D.Reads.faults g.D.Reads.changes c.flush.new.self.back.folder in
-    flush_failed tree c.flush.new.self.tree back.waiting c.flush.new.self.back.waiting entries before after source (remove c.args.number) c.args.now c.in-Err.broken buffer c.in-Err.ensures.tree
-    c.in-Err.ensures.cause.later (c.in-Err.ensures.cause.rose refl) tt
+    let p = err_from_is_err_and c.from_residual.result c.from_residual.ensures.1 in
+    rw p.1 (
+    flush_failed tree c.flush.new.self.tree back.waiting c.flush.new.self.back.waiting entries before after source (remove c.args.number) c.args.now p.0 buffer c.in_err-flush.ensures.tree
+    c.in_err-flush.ensures.cause.later (c.in_err-flush.ensures.cause.rose refl) tt
     (λ d contents stands. ap is_some (subst (λ (l : HeldTree). IsRemovalRefusal l c.args.number None) c.live.ensures c.in_default.ensures.refusal contents))
-    c.in-Err.ensures.failed
+    c.in_err-flush.ensures.failed)

@@ -1,4 +1,5 @@
 use Rattle.std.proofs.Common.{[], None, Ok, refl, sym, ap, subst, ◌∙◌}
+use Rattle.std.proofs.lemmas.Result.{err_from_is_err_and}
 use Rattle.outside.specs.Views.{folder_view}
 use Rattle.directory_scan.specs.Format.{sealing_of}
 use Rattle.tree_model.specs.declared.reply.Reply.{Reply}
@@ -25,34 +26,36 @@ returns-in-Refused-clause-outcome g c = λ entries second source buffer.
     (sync_reply tree.keys c.live.result.now tree.live tree.claims entries (over back.waiting folder) source c.args.number second c.sync-reply.result buffer c.live.ensures
     c.sync-reply.ensures.answer c.sync-reply.ensures.form c.sync-reply.ensures.own c.sync-reply.ensures.count)
 
-pub returns-in-Ok-clause-outcome : goal.returns-in-Ok-clause-outcome
-returns-in-Ok-clause-outcome g c = λ entries second source buffer.
+pub returns-clause-outcome : goal.returns-clause-outcome
+returns-clause-outcome g c = λ entries second source buffer.
     let tree = c.args.self.now.tree in
     let back = c.args.self.now.back in
     let new = c.flush.new.self in
     let before = folder_view g.D.Reads.log g.D.Reads.faults g.D.Reads.changes back.folder in
     let after = folder_view g.D.Reads.log g.D.Reads.faults g.D.Reads.changes new.back.folder in
     let store = view_of new.tree [] entries None in
-    let same = c.live.ensures ∙ ap (λ (t : VaultTree). t.live) (sym c.in-Ok.ensures.tree) in
+    let same = c.live.ensures ∙ ap (λ (t : VaultTree). t.live) (sym c.in_ok-flush.ensures.tree) in
     after_flush (view_of tree back.waiting entries None) new.tree new.tree new.back.waiting entries before after after source source (sync c.args.number) second (Ok c.sync-reply.result) buffer buffer
-    c.in-Ok.ensures.idle (c.in-Ok.ensures.flushed entries)
+    c.in_ok-flush.ensures.idle (c.in_ok-flush.ensures.flushed entries)
     (idle_reply store store after after source source (sync c.args.number) second c.sync-reply.result buffer buffer refl refl
     (sync_reply new.tree.keys c.live.result.now new.tree.live new.tree.claims entries after source c.args.number second c.sync-reply.result buffer same
     c.sync-reply.ensures.answer c.sync-reply.ensures.form c.sync-reply.ensures.own c.sync-reply.ensures.count))
 
-pub returns-in-Ok-clause-rest : goal.returns-in-Ok-clause-rest
-returns-in-Ok-clause-rest g c =
+pub returns-clause-rest : goal.returns-clause-rest
+returns-clause-rest g c =
     let new = c.flush.new.self in
-    rests_idle (sealing_of new.tree.keys) new.tree.live new.tree.claims new.back.waiting (g.D.Reads.log new.back.folder) c.in-Ok.ensures.idle c.in-Ok.ensures.rest
+    rests_idle (sealing_of new.tree.keys) new.tree.live new.tree.claims new.back.waiting (g.D.Reads.log new.back.folder) c.in_ok-flush.ensures.idle c.in_ok-flush.ensures.rest
 
-pub returns-in-Err-clause-outcome : goal.returns-in-Err-clause-outcome
-returns-in-Err-clause-outcome g c = λ entries second source buffer.
+pub returns-in_err-flush-clause-outcome : goal.returns-in_err-flush-clause-outcome
+returns-in_err-flush-clause-outcome g c = λ entries second source buffer.
     let tree = c.args.self.now.tree in
     let back = c.args.self.now.back in
     let before = folder_view g.D.Reads.log g.D.Reads.faults g.D.Reads.changes back.folder in
     let after = folder_view g.D.Reads.log g.D.Reads.faults g.D.Reads.changes c.flush.new.self.back.folder in
-    flush_failed tree c.flush.new.self.tree back.waiting c.flush.new.self.back.waiting entries before after source (sync c.args.number) second c.in-Err.broken buffer c.in-Err.ensures.tree
-    c.in-Err.ensures.cause.later (c.in-Err.ensures.cause.rose refl) tt
+    let p = err_from_is_err_and c.from_residual.result c.from_residual.ensures.1 in
+    rw p.1 (
+    flush_failed tree c.flush.new.self.tree back.waiting c.flush.new.self.back.waiting entries before after source (sync c.args.number) second p.0 buffer c.in_err-flush.ensures.tree
+    c.in_err-flush.ensures.cause.later (c.in_err-flush.ensures.cause.rose refl) tt
     (λ d contents stands. sync_late tree.live c.args.number contents c.sync-reply.result
     (subst (λ (l : HeldTree). IsStepOf l (sync c.args.number) (says (plain_reply c.sync-reply.result))) c.live.ensures c.sync-reply.ensures.answer) c.in_default.not-Refused)
-    c.in-Err.ensures.failed
+    c.in_err-flush.ensures.failed)
