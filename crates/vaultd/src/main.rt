@@ -205,6 +205,14 @@ fn socket_at<R: Files + Net<Listener = TcpListener, Stream = TcpStream>>(
     }
 }
 
+// Says on standard error at which port a socket listens that was asked for at port 0: the report has no place for it, and a client has to know.
+fn tell_port<R: Eprint>(rt: &R, address: &str, socket: &Socket) {
+    if let (Some(host), Some(port)) = (address.strip_suffix(":0"), socket.port()) {
+        // where standard error is closed it is lost
+        let _ = eprintln!(rt; "listening at {host}:{port}");
+    }
+}
+
 // Removes the file of a Unix socket that was bound.
 fn remove_socket<R: Files>(rt: &R, address: &str, socket: &Socket) {
     if let Some(path) = address.strip_prefix("unix:") {
@@ -221,6 +229,7 @@ fn start<
         + Files
         + Input
         + Print
+        + Eprint
         + Threads
         + Wait
         + Sync
@@ -252,6 +261,7 @@ where
         serve_streams(rt, words, places.dir, &mut StdSink::new(rt))
     } else {
         let socket = socket_at(rt, places.address);
+        tell_port(rt, places.address, &socket);
         let at_once = places.at_once.clamp(1, 64);
         let status = serve_socket(
             rt,
