@@ -7,7 +7,7 @@ use Rattle.std.specs.Fork.{slice_chunk}
 use Rattle.std.proofs.lemmas.List.{length-map}
 use Rattle.std.proofs.lemmas.List.FromFn.{length-range_with_len}
 use Rattle.outside.specs.Calls.{Told, Changes, Extends}
-use Rattle.outside.specs.Disk.{Disk, Path as HostPath, node_at as thing_at, file as host_file, IsTree}
+use Rattle.outside.specs.Disk.{Disk, Path as HostPath, node_at as thing_at, file as host_file}
 use Rattle.outside.specs.Images.{Log, now}
 use Rattle.outside.proofs.Told.{told_then, told_both, told_from, told_new, changed_by, changed_from, unchanged}
 use Rattle.deeds.specs.Deeds.{PlainDeed}

@@ -4,7 +4,6 @@ use Rattle.std.specs.Option.{ok_or}
 use Rattle.json_members.specs.Members.{object_of}
 use Rattle.json_members.specs.Steps.{result_and_then}
 use Rattle.json_members.specs.declared.TheConstants.{FILE_LIMIT}
-use Rattle.siv_mode.specs.Keys.{KeyPair}
 use Rattle.masterkey_file.specs.declared.reading.KeyFileErr.{KeyFileErr}
 use Rattle.masterkey_file.specs.declared.reading.KeyFileErr.TheVariants.{TooLong, NotJson, Field, Cost, WrongPassword, Memory}
 use Rattle.masterkey_file.specs.KeyFile.{Fault, Fields, too_long, not_json, fields_in, fields_of, keys_in, keys_of}

@@ -6,9 +6,8 @@ use Rattle.std.specs.declared.cmp.Ordering.TheVariants.{Less, Equal}
 use Rattle.std.specs.List.{AllByRecursion}
 use Rattle.std.specs.List.Sorted.{IsStrictlySortedBy}
 use Rattle.std.specs.Map.{keys_of}
-use Rattle.outside.specs.Disk.{Disk, IsTree}
+use Rattle.outside.specs.Disk.{Disk}
 use Rattle.siv_mode.specs.Keys.{KeyPair}
-use Rattle.chunk_journal.specs.Journal.{IsAlike}
 use Rattle.tree_model.specs.Rows.{Content, Row, Rows}
 use Rattle.clear_tree.specs.Walk.{Sealing}
 use Rattle.clear_tree.specs.Queue.{In}

@@ -13,7 +13,7 @@ use Rattle.clear_tree.proofs.Directory as directory
 use Rattle.tree_changes.specs.Trees.{AreTexts, but_at}
 use Rattle.tree_changes.proofs.Seeing.{some_there, looked, look_seen, node_kind}
 use Rattle.tree_changes.proofs.Exact as exact
-use Rattle.tree_changes.proofs.Exact.{through, neither, SameForeign, foreign_to, foreign_from, IsPlace, name_there, dir_above, has_foreign, is_shadowed_in, never_seen}
+use Rattle.tree_changes.proofs.Exact.{through, neither, SameForeign, foreign_to, foreign_from, IsPlace, name_there, has_foreign, is_shadowed_in, never_seen}
 use Rattle.tree_changes.proofs.Stands.{StandsFor}
 
 -- one more node, at an entry that was free, so that nothing else has changed in what nodes and marks ask

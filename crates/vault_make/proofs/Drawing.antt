@@ -1,5 +1,5 @@
 -- Bytes that are drawn one after another.
-use Rattle.std.proofs.Common.{◌≡◌, ℕ, List, ◌++◌, Option, Some, None, ap, ◌∙◌, append_assoc}
+use Rattle.std.proofs.Common.{ℕ, List, ◌++◌, Option, Some, None, ap, ◌∙◌, append_assoc}
 use Rattle.outside.specs.Calls.{Extends}
 
 -- a list grew twice
