@@ -5,15 +5,12 @@
 //! or `text`, a path and a file's text. The vault's keys are zeros. `>` begins a request, with the number of its node; `<` is its reply in
 //! words. `=` is the tree of the vault before the first request and after each: the paths of its nodes in the order of their bytes, as
 //! `tree_of` spells them. `TEXT*N` stands for N times TEXT. `data/script.txt` has what is run with stops and faults, and `data/taken.txt`
-//! what is run with a random source that draws the same bytes for each request. `data/links.txt` has
-//! messages in place of requests: behind `> send 0 -` a message's bytes, or some of them, behind `<` those of the reply, and behind `=` the
-//! tree once they were read.
+//! what is run with a random source that draws the same bytes for each request.
 //!
 //! It is printed how many were looked at, and each that is wrong. The status is 1 if something is wrong or can't be read.
 #![tactic(auto)]
 
 mod error;
-mod links;
 mod parts;
 mod run;
 mod table;
@@ -28,7 +25,6 @@ use std::{fs, io};
 fn main(rt: HostRuntime) -> io::Result<ExitCode> {
     let script = fs::read_to_string(&rt, "script.txt")?;
     let taken = fs::read_to_string(&rt, "taken.txt")?;
-    let links = fs::read_to_string(&rt, "links.txt")?;
     let mut passed = true;
     for (what, table, part) in [
         ("requests", &script, Part::Requests(Manner::Looking)),
@@ -41,7 +37,6 @@ fn main(rt: HostRuntime) -> io::Result<ExitCode> {
         ("runs with a draw that fails", &script, Part::Draws),
         ("runs with a call that fails", &script, Part::Calls),
         ("images of stopped runs", &script, Part::Stops),
-        ("runs with a call of a link that fails", &links, Part::Links),
     ] {
         match Tally::of_part(rt.alloc(), table.as_str(), part) {
             Ok(tally) => {

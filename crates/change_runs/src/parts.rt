@@ -1,7 +1,6 @@
 // What runs come to where nothing fails, where a draw or a call does, and where they are stopped.
 
 use crate::error::RunErr;
-use crate::links::check_link;
 use crate::run::{Ended, Manner, Progress, check_stop, run_script};
 use crate::table::{Script, read_scripts};
 use crate::vault::{seeded, tree_in};
@@ -16,9 +15,6 @@ const MOST_CALLS: u64 = 64;
 /// More draws than a run has.
 const MOST_DRAWS: u64 = 256;
 
-/// More reads or writes than a link has in a run.
-const MOST_LINK_CALLS: u64 = 256;
-
 /// What is looked at.
 #[derive(Clone, Copy, Debug, PartialEq, Eq)]
 pub(crate) enum Part {
@@ -32,8 +28,6 @@ pub(crate) enum Part {
     Calls,
     /// What each stop of a run may leave of the folder.
     Stops,
-    /// A run for each read and each write of a link, which fails.
-    Links,
 }
 
 /// How many were looked at, and what was wrong, a line each.
@@ -59,7 +53,6 @@ impl Tally {
                 Part::Draws => tally.look_at_draws(script)?,
                 Part::Calls => tally.look_at_calls(script, false)?,
                 Part::Stops => tally.look_at_calls(script, true)?,
-                Part::Links => tally.look_at_links(script)?,
             }
         }
         Ok(tally)
@@ -99,20 +92,6 @@ impl Tally {
             }
             let place = format!(in self.alloc; "draw {draw}")?;
             self.add(place.as_str(), outcome.map(|_| ()))?;
-        }
-        Ok(())
-    }
-
-    fn look_at_links(&mut self, script: &Script<'_>) -> Result<(), RunErr> {
-        for writes in [false, true] {
-            for call in 0..MOST_LINK_CALLS {
-                let outcome = check_link(script, writes, call);
-                if let Ok(false) = outcome {
-                    break;
-                }
-                let place = format!(in self.alloc; "call {call} of a link, writes {writes}")?;
-                self.add(place.as_str(), outcome.map(|_| ()))?;
-            }
         }
         Ok(())
     }

@@ -17,7 +17,7 @@ const MOST_WRITTEN: usize = 65537;
 const TRUNCATING: u8 = 0x11;
 
 /// Most times that a text is repeated.
-const MOST_TIMES: usize = 1 << 17;
+const MOST_TIMES: usize = 1 << 16;
 
 /// An entry of the host folder in which a script begins: a folder where it has no text.
 #[derive(Clone, Copy)]
@@ -34,7 +34,7 @@ pub(crate) struct Step<'a> {
     /// A name, or a number.
     argument: String,
     /// What is written, from the place that the argument is on.
-    pub bytes: Vec<u8>,
+    bytes: Vec<u8>,
     pub reply: &'a str,
 }
 
