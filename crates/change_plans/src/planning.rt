@@ -43,7 +43,7 @@ pub enum Plan {
 /// - Of a name and another length: `OneChangeAtATime` if the name is another too, else as of the length alone.
 ///
 /// A name is another if its form NFC isn't the node's own name. Not decided here: whether the new name is free (`FileExists`), and
-/// whether the node can be moved away (`Foreign`). The error is want of memory for a name's form NFC.
+/// whether the node can be moved away (`Foreign`). It fails if there is no memory for a name's form NFC.
 pub fn plan_change(
     alloc: Global,
     tree: &LiveTree,

@@ -7,12 +7,10 @@ ghost use Rattle.file_chunks.specs.File.{content_of};
 ghost use Rattle.content_reader.specs.Reading.{IsSpan};
 
 use crate::error::ReadErr;
-use file_chunks::{
-    CHUNK_LENGTH, Header, SEALED_LENGTH, SEALING_LENGTH, open_chunk, reads_are_slices,
-};
+use file_chunks::{CHUNK_LENGTH, Header, SEALED_LENGTH, open_chunk, reads_are_slices};
 
 /// Opens the slice from byte `at` on that fills `out`, at most 65,536 bytes, out of the sealed chunks that it meets. `clear` is
-/// room for one chunk's clear bytes. `Damaged` comes exactly where a chunk doesn't open; `out` may hold anything then.
+/// room for one chunk's clear bytes. It fails if and only if a chunk doesn't open; `out` may hold anything then.
 pub(crate) fn gather(
     header: &Header,
     at: u64,
@@ -39,7 +37,7 @@ pub(crate) fn gather(
         let offset = (place % CHUNK_LENGTH as u64) as usize;
         let more = (count - done).min(CHUNK_LENGTH - offset);
         let chunk = chunk_in(sealed, (index - first) as usize);
-        let opened = open_sealed(header, index, chunk, clear)?;
+        let opened = open_chunk(header, index, chunk, clear)?;
         if opened < offset + more {
             return Err(ReadErr::Damaged);
         }
@@ -57,28 +55,6 @@ fn chunk_in(sealed: &[u8], index: usize) -> &[u8]
     let start = (SEALED_LENGTH * index).min(sealed.len());
     let end = (start + SEALED_LENGTH).min(sealed.len());
     &sealed[start..end]
-}
-
-// Opens a sealed chunk into the front of `clear`, and gives the number of clear bytes. It is a function of its own in the program
-// too: inlined into a caller with a large frame, decryption keeps more of its words on the stack and takes a tenth longer.
-#[inline(never)]
-fn open_sealed(
-    header: &Header,
-    index: u64,
-    sealed: &[u8],
-    clear: &mut [u8],
-) -> Result<usize, ReadErr>
-    requires sealed { length sealed.now ≤ 32796 }
-    requires clear { length clear.old ≡ 32768 }
-    ensures opened { IfOk result (λ n. chunk_opens header.now index sealed.now ≡ Some (take n clear.new)) }
-    ensures count { IfOk result (λ n. n + 28 ≡ length sealed.now) }
-    ensures damaged { OnErr result (chunk_opens header.now index sealed.now ≡ None) }
-    ensures error { IfErr result (λ e. e ≡ ReadErr.Damaged) }
-{
-    if sealed.len() < SEALING_LENGTH {
-        return Err(ReadErr::Damaged);
-    }
-    Ok(open_chunk(header, index, sealed, clear)?)
 }
 
 // Puts bytes into `out` from a place on.

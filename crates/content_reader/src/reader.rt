@@ -67,8 +67,8 @@ impl ContentReader {
     /// `buffer` keeps the rest, and all after an error. Only the header and the chunks that the slice meets are read; a slice
     /// without a byte of the content needs neither. It takes no memory.
     ///
-    /// `Damaged` comes exactly where no content has the file's size, or the header or a chunk of the slice doesn't open; `Device`
-    /// where the folder failed.
+    /// It fails with `Damaged` if and only if no content has the file's size, or the header or a chunk of the slice doesn't open;
+    /// with `Device` only if the folder failed.
     pub fn read<R: Reads>(
         &mut self,
         folder: &mut R,

@@ -8,7 +8,7 @@ ghost use Rattle.content_changes.specs.Laws.{patched};
 ghost use Rattle.content_writer.specs.Sealing.{HasFaulted, IsOpenedChunk};
 
 use crate::error::WriteErr;
-use file_chunks::{CHUNK_LENGTH, HEADER_LENGTH, Header, SEALED_LENGTH, SEALING_LENGTH, open_chunk};
+use file_chunks::{CHUNK_LENGTH, HEADER_LENGTH, Header, SEALED_LENGTH, open_chunk};
 use outside::Reads;
 use std::alloc::{AllocError, Global};
 use std::marker::Model;
@@ -79,7 +79,7 @@ impl Plaintext {
     {
         let place = HEADER_LENGTH as u64 + SEALED_LENGTH as u64 * index;
         let count = folder.read(path, place, &mut self.sealed)?;
-        self.count = open_sealed(header, index, &self.sealed[..count], &mut self.clear)?;
+        self.count = open_chunk(header, index, &self.sealed[..count], &mut self.clear)?;
         Ok(())
     }
 
@@ -100,28 +100,6 @@ impl Plaintext {
     {
         self.count = self.count.min(count);
     }
-}
-
-// Opens a sealed chunk into the front of `clear`, and gives the number of clear bytes. It is a function of its own in the program
-// too: inlined into a caller with a large frame, decryption keeps more of its words on the stack and takes a tenth longer.
-#[inline(never)]
-fn open_sealed(
-    header: &Header,
-    index: u64,
-    sealed: &[u8],
-    clear: &mut [u8],
-) -> Result<usize, WriteErr>
-    requires sealed { length sealed.now ≤ SEALED_LENGTH }
-    requires clear { length clear.old ≡ CHUNK_LENGTH }
-    ensures opened { IfOk result (λ n. chunk_opens header.now index sealed.now ≡ Some (take n clear.new)) }
-    ensures count { IfOk result (λ n. n + SEALING_LENGTH ≡ length sealed.now) }
-    ensures damaged { OnErr result (chunk_opens header.now index sealed.now ≡ None) }
-    ensures error { IfErr result (λ e. e ≡ WriteErr.Damaged) }
-{
-    if sealed.len() < SEALING_LENGTH {
-        return Err(WriteErr::Damaged);
-    }
-    Ok(open_chunk(header, index, sealed, clear)?)
 }
 
 // Fills the bytes from an index up to another with zeros, where there are any.

@@ -69,7 +69,7 @@ pub fn empty_vault(alloc: Global, keys: &VaultKeys) -> Result<MemFolder, AllocEr
     Ok(folder)
 }
 
-// Makes a folder in one in memory, which fails for want of memory alone.
+// Makes a folder in one in memory, which fails only if there is no memory.
 fn make_dir(folder: &mut MemFolder, path: &VaultPath) -> Result<(), AllocError>
     ensures made { OnOk result (now folder.new.log ≡ done (MakeDir path.now) (now folder.old.log)) }
     ensures faults { OnOk result (folder.new.plan.faults ≡ folder.old.plan.faults) }

@@ -4,14 +4,11 @@ ghost use Rattle.dir_paths.specs.Folder.{base32, folder_of};
 
 use crate::digits::base32;
 use sha1::Sha1;
-use siv_mode::VaultKeys;
+use siv_mode::{TAG_LEN, VaultKeys};
 use vault_path::VaultPath;
 
-// An identifier has at most 1,000 bytes, and a sealed one 16 more.
-const SEALED_LIMIT: usize = 1016;
-
-// How many bytes a sealed text has more than its text.
-const TAG_LEN: usize = 16;
+// A sealed identifier, which has at most 1,000 bytes unsealed.
+const SEALED_LIMIT: usize = 1000 + TAG_LEN;
 
 /// The folder of the directory with this identifier, at most 1,000 bytes; the root's identifier is the empty text. It takes
 /// no memory.

@@ -38,16 +38,20 @@ pub fn seal_chunk<E: Entropy>(
     Ok(())
 }
 
-/// Opens the chunk of an index, of 28 to 32,796 sealed bytes, into the front of `out`, which keeps
-/// the rest, and gives the plaintext's length in bytes. `Damaged` comes exactly where its tag isn't
-/// GCM's for this header and index; the front holds zeros then.
+/// Opens the chunk of an index, of at most 32,796 sealed bytes, into the front of `out`, which keeps
+/// the rest, and gives the plaintext's length in bytes. It fails if and only if the chunk has less
+/// than 28 bytes or its tag isn't GCM's for this header and index; the front holds zeros then.
+//
+// It is a function of its own in the program too: inlined into a caller with a large frame,
+// decryption keeps more of its words on the stack and takes a tenth longer.
+#[inline(never)]
 pub fn open_chunk(
     header: &Header,
     index: u64,
     sealed: &[u8],
     out: &mut [u8],
 ) -> Result<usize, Damaged>
-    requires sealed { (SEALING_LENGTH ≤ length sealed.now) × (length sealed.now ≤ SEALED_LENGTH) }
+    requires sealed { length sealed.now ≤ SEALED_LENGTH }
     requires room { length sealed.now ≤ length out.old + SEALING_LENGTH }
     ensures count { IfOk result (λ n. n + SEALING_LENGTH ≡ length sealed.now) }
     ensures opened { IfOk result (λ n. chunk_opens header.now index sealed.now
@@ -58,6 +62,9 @@ pub fn open_chunk(
     ensures zeros { OnErr result (take (length sealed.now - SEALING_LENGTH) out.new
         ≡ replicate (length sealed.now - SEALING_LENGTH) 0) }
 {
+    if sealed.len() < SEALING_LENGTH {
+        return Err(Damaged);
+    }
     let count = sealed.len() - SEALING_LENGTH;
     let ad = header.associated_data(index);
     open_into(header.key(), &ad, sealed, &mut out[..count])?;

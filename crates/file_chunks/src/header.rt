@@ -103,8 +103,8 @@ pub fn new_header<E: Entropy>(
     Ok((header, bytes))
 }
 
-/// Opens the header that these 68 bytes are. `Damaged` comes exactly where its tag isn't GCM's
-/// under the encryption key.
+/// Opens the header in these 68 bytes. It fails if and only if its tag isn't GCM's under the
+/// encryption key.
 pub fn open_header(keys: &VaultKeys, bytes: &[u8; HEADER_LENGTH]) -> Result<Header, Damaged>
     ensures opened { IfOk result (λ h. header_opens keys.now bytes.now ≡ Some h) }
     ensures lengths { IfOk result (λ h.

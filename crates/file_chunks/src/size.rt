@@ -19,8 +19,8 @@ pub const SEALING_LENGTH: usize = NONCE_LENGTH + TAG_LENGTH;
 /// The length of a full sealed chunk in bytes.
 pub const SEALED_LENGTH: usize = CHUNK_LENGTH + SEALING_LENGTH;
 
-/// The length of the content of a host file of this size, both in bytes; None exactly where no
-/// content has it.
+/// The length of the content of a host file of this size, both in bytes; None if and only if
+/// no content has it.
 pub fn clear_len(size: u64) -> Option<u64>
     ensures { result ≡ clear_length size }
 {

@@ -61,7 +61,7 @@ pub trait GcmCipher {
     }
 
     /// Decrypts the ciphertext `buf` in place (SP 800-38D, 7.2), with the nonce and the associated
-    /// data that it was sealed with and its tag of 16 bytes. `BadTag` comes exactly where the tag
+    /// data that it was sealed with and its tag of 16 bytes. It fails if and only if the tag
     /// differs; `buf` is as it was then.
     fn open_in_place(
         &self,
@@ -79,7 +79,7 @@ pub trait GcmCipher {
             (gcm_opened (aes (key self.now)) nonce.now ad.now buf.old tag.now ≡ Some buf.new) }
         ensures closed { OnErr result
             (gcm_opened (aes (key self.now)) nonce.now ad.now buf.old tag.now ≡ None) }
-        // It is accepted exactly where both are what sealing a text gives.
+        // It is accepted if and only if sealing some text gives both.
         ensures exact { OnOk result (buf.old ++ tag.now
             ≡ gcm_sealed (aes (key self.now)) nonce.now ad.now buf.new) }
         ensures only { (text : List ℕ)
@@ -207,7 +207,7 @@ impl GcmCipher for BulkGcmKey {
 }
 
 /// Opening what was sealed (SP 800-38D, 7.1 and 7.2) gives the text, and a ciphertext with a tag is
-/// accepted exactly where both are what sealing its text gives, for each cipher that makes blocks.
+/// accepted if and only if sealing its text gives both, for each cipher that makes blocks.
 /// It does nothing.
 pub fn sealing_and_opening_agree()
     ensures opens { (cipher : List ℕ → List ℕ) (nonce ad text : List ℕ) → MakesBlocks cipher

@@ -49,7 +49,7 @@ pub fn wrap(kek: &[u8; 32], key: &[u8; 32]) -> [u8; 40]
 }
 
 /// Unwraps a key that was wrapped under the key-encryption key `kek` (RFC 3394, 2.2.2). It fails
-/// exactly where the check value doesn't come out: `kek` is another key, or `wrapped` was changed.
+/// if and only if the check value is wrong: `kek` is another key, or `wrapped` was changed.
 pub fn unwrap(kek: &[u8; 32], wrapped: &[u8; 40]) -> Result<[u8; 32], BadWrap>
     ensures accepted { IsOk result
         ↔ (part (unwrapped_after (inverse_aes kek.now) wrapped.now STEPS) 0 ≡ check_value) }

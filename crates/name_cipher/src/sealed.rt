@@ -8,14 +8,11 @@ ghost use Rattle.name_cipher.specs.Sealed.{IsSealedName, before_suffix, decoded,
 use crate::name::{BadName, Name, clear_name};
 use base64::DecodeAllocError;
 use base64::engine::general_purpose::URL_SAFE;
-use siv_mode::VaultKeys;
+use siv_mode::{TAG_LEN, VaultKeys};
 use std::alloc::{AllocError, Global};
 use vault_path::Text;
 
 const SUFFIX: &str = ".c9r";
-
-// How many bytes a sealed text has more than its text.
-const TAG_LEN: usize = 16;
 
 /// The sealed name of a clear name in the directory whose identifier is `parent`, the empty text for the root: sealed by
 /// SIV (RFC 5297) with the identifier as the associated string, in base64url with padding (RFC 4648, section 5), and `.c9r`.
@@ -77,7 +74,7 @@ fn opened_name(
     valid_name(alloc, &name)
 }
 
-/// A text opens to a name exactly where it is the sealed name of that valid name.
+/// A text opens to a name if and only if it is the sealed name of that valid name.
 pub fn opening_undoes_sealing(keys: &VaultKeys)
     ensures { (parent text name : List ℕ) → AreBytes text →
         (opened_name keys.now parent text ≡ Some name) ↔ IsSealedName keys.now parent text name }

@@ -6,14 +6,11 @@ ghost use Rattle.name_places.specs.New.{IsNewDirectory};
 
 use dir_paths::base32;
 use sha1::Sha1;
-use siv_mode::VaultKeys;
+use siv_mode::{TAG_LEN, VaultKeys};
 use uuid::{Builder, Uuid};
 
-// An identifier has at most 1,000 bytes, and a sealed one 16 more.
-const SEALED_LIMIT: usize = 1016;
-
-// How many bytes a sealed text has more than its text.
-const TAG_LEN: usize = 16;
+// A sealed identifier, which has at most 1,000 bytes unsealed.
+const SEALED_LIMIT: usize = 1000 + TAG_LEN;
 
 /// A directory that is to be made.
 #[derive(Clone, Copy, Debug)]

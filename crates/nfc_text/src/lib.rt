@@ -13,7 +13,7 @@ ghost use Rattle.nfc_text.specs.Nfc.{nfc_of};
 use std::alloc::{AllocError, Global};
 use unicode_normalization::to_nfc;
 
-/// The form NFC of a text. It fails for want of memory alone.
+/// The form NFC of a text. It fails only if there is no memory.
 #[tactic(auto, unfolding(crate::specs::Nfc::nfc_of))]
 pub fn nfc(alloc: Global, text: &str) -> Result<String, AllocError>
     ensures { IfOk result (λ s. string_bytes s ≡ nfc_of text.now) }

@@ -1,4 +1,4 @@
-//! The messages of 9P2000 (section 5 of the Plan 9 manual): what clients send is read exactly where it is in the grammar, and
+//! The messages of 9P2000 (section 5 of the Plan 9 manual): what clients send is read if and only if it is in the grammar, and
 //! what a server answers is written in its one spelling. Nothing here takes memory.
 //!
 //! ```

@@ -44,7 +44,7 @@ impl VaultTree {
     /// Makes a file without content, or a directory, of a name in the directory of a number, at a second since 1970-01-01, and
     /// gives its qid. For a directory 16 bytes are drawn for its identifier, for a file a nonce and a content key for its header.
     /// Memory is taken before anything changes. After `Broken` the folder's count of faults rose, and the tree in memory is the
-    /// one with the node. A file takes O(log n) steps, a directory O(n log n), where n numbers were given so far.
+    /// one with the node. It takes O(log n) steps, where n numbers were given so far.
     pub fn create<D: Folder, E: Entropy>(
         &mut self,
         journal: &mut Journal<D>,

@@ -123,7 +123,7 @@ pub fn gcm_sealed(
     Ok(sealed)
 }
 
-/// The text of a ciphertext and its tag, and None exactly where the tag isn't the ciphertext's (SP 800-38D, 7.2).
+/// The text of a ciphertext and its tag, and None if and only if the tag isn't the ciphertext's (SP 800-38D, 7.2).
 #[tactic(auto, unfolding(gcm_mode::specs::Gcm::gcm_opened))]
 pub fn gcm_opened(
     alloc: Global,

@@ -109,7 +109,7 @@ pub fn siv_sealed(
     Ok(sealed)
 }
 
-/// The text of a sealed text of at least 16 bytes, and None exactly where the tag isn't its text's (RFC 5297, 2.7).
+/// The text of a sealed text of at least 16 bytes, and None if and only if the tag isn't its text's (RFC 5297, 2.7).
 pub fn siv_opened(
     alloc: Global,
     mac: &[u8],

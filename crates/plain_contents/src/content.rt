@@ -40,7 +40,7 @@ fn associated_data(head: &Head, index: u64) -> [u8; ASSOCIATED_LENGTH]
     data
 }
 
-/// The plaintext of the sealed chunk of an index, and None exactly where it is below 28 bytes or
+/// The plaintext of the sealed chunk of an index, and None if and only if it is below 28 bytes or
 /// doesn't open under this header and at this index (vault format 8, file content).
 #[tactic(auto, unfolding(file_chunks::specs::Chunk::chunk_opens))]
 pub fn chunk_opens(

@@ -29,7 +29,7 @@ pub(crate) fn array_at<const N: usize>(bytes: &[u8], at: usize) -> [u8; N]
     part
 }
 
-/// The header that 68 bytes are, and None exactly where they don't open under the encryption key
+/// The header in these 68 bytes; None if and only if they don't open under the encryption key
 /// (vault format 8, file header).
 pub fn header_opens(
     alloc: Global,

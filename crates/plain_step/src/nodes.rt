@@ -52,10 +52,8 @@ pub(crate) fn change_dir(alloc: Global, rows: &Rows, number: u64, now: u32) -> R
     for row in &rows.nodes {
         let copy = copied_row(alloc, row)?;
         if row.number == number {
-            match changed_at(now, copy) {
-                Ok(changed) => nodes.push(changed)?,
-                Err(error) => return Err(error),
-            }
+            let changed = changed_at(now, copy)?;
+            nodes.push(changed)?;
         } else {
             nodes.push(copy)?;
         }

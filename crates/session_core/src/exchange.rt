@@ -21,10 +21,10 @@ use byteorder::{ByteOrder, LittleEndian};
 use ninep_wire::{RMessage, TMessage, WireErr, read_message, write_reply};
 use tree_model::{Reply, Request, TreeObject};
 
-/// Where the tag of a message stands (intro(5)).
+/// The offset of a message's tag (intro(5)).
 const TAG_OFFSET: usize = 5;
 
-/// Where the bytes of an Rread stand, and where the stat of an Rstat (read(5), stat(5)).
+/// The offsets of an Rread's bytes and of an Rstat's stat (read(5), stat(5)).
 const READ_OFFSET: usize = 11;
 
 const STAT_OFFSET: usize = 9;

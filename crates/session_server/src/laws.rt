@@ -10,8 +10,8 @@ ghost use Rattle.session_server.specs.Backward.{TalksLookBack};
 use crate::ending::SessionEnd;
 use session_core::fids_are_found_by_looking_back;
 
-/// A session of whole messages over a link that never fails is done, and answered them all; but for want of memory, where it
-/// read nothing. It does nothing.
+/// A session of whole messages over a link that never fails is done and answered them all, unless memory runs out, in which case
+/// it read nothing. It does nothing.
 pub fn a_session_of_whole_messages_is_done()
     ensures { (before after : LinkView) (second : Option ℕ) (end : SessionEnd) (asked : List Asked)
         (talked : TalkedOn before after second end asked) (whole : IsWhole before.left) → IsFaultless before after

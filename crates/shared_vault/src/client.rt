@@ -123,7 +123,7 @@ impl<'a, R: Wait, T: SharedTree, B: Start, E: Entropy> TreeObject for Client<'a,
     ghost stands = { λ now start asked. HasAsked T.draws (entropy_view E.drawn E.faults) start now asked };
 
     // What the trait asks. Beside it: a request has its entry in a turn that is the last of what the client has then seen, for all of which
-    // the tree then stood, and it is answered as exhausted exactly where its ticket is past the last turn.
+    // the tree then stood, and it is answered as exhausted if and only if its ticket is past the last turn.
     fn ask(&mut self, request: &Request<'_>, now: u32, buffer: &mut [u8]) -> Reply
         requires form { CanAsk request.now (length buffer.old) }
         ensures stands { Extends (λ now start asked. HasAsked T.draws (entropy_view E.drawn E.faults) start now asked) self.old self.new

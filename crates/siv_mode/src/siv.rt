@@ -69,7 +69,7 @@ pub fn seal<K: BlockKey>(mac: &K, ctr: &K, ad: Option<&[u8]>, text: &[u8], out: 
 }
 
 /// Opens a sealed text (RFC 5297, 2.7). `out` is [`TAG_LEN`] shorter than it, and holds the text
-/// then. `BadTag` is answered exactly where the tag differs, and `out` is all zeros then.
+/// then. It fails with `BadTag` if and only if the tag differs, and `out` is all zeros then.
 pub fn open<K: BlockKey>(
     mac: &K,
     ctr: &K,
@@ -85,7 +85,7 @@ pub fn open<K: BlockKey>(
         (siv_opened (K.cipher mac.now) (K.cipher ctr.now) (ad_of ad.entry) sealed.now ≡ None) }
     ensures refused { OnErr result (out.new ≡ replicate (length out.old) 0) }
 
-    // It is accepted exactly where it is what sealing a text gives.
+    // It is accepted if and only if sealing some text gives it.
     ensures exact { OnOk result
         (sealed.now ≡ siv_sealed (K.cipher mac.now) (K.cipher ctr.now) (ad_of ad.entry) out.new) }
     ensures only { (text : List ℕ)

@@ -27,8 +27,8 @@ impl<V: History> Model for TurnLock<V> {
 impl<V: History> TurnLock<V> {
     /// Waits for the seat's turn, and takes the value out of the lock. The seat has then seen every turn that ended.
     ///
-    /// `Spent` carries the seat's ticket, and comes exactly where that is [`TURN_LIMIT`](crate::TURN_LIMIT) or more; from then on it
-    /// comes at once. This is the only call that waits.
+    /// It fails with `Spent`, which carries the seat's ticket, if and only if that is [`TURN_LIMIT`](crate::TURN_LIMIT) or more, and
+    /// from then on without waiting. This is the only call that waits.
     pub fn take<R: Wait>(&self, rt: &R, seat: &mut Seat<V>) -> Result<Turn<V>, Spent>
         requires own { seat.old.lock ≡ self.now.id }
         requires idle { seat.old.in_turn ≡ false }

@@ -55,7 +55,8 @@ impl VaultPath {
         VaultPath { parts, count: 0 }
     }
 
-    /// The path of these parts, from the folder down. `BadPart` comes exactly where a part is none or there are more than 6.
+    /// The path of these parts, from the folder down. It fails if and only if one of them is no part of a path or there
+    /// are more than 6.
     pub fn from_parts(parts: &[Text]) -> Result<VaultPath, BadPart>
         ensures exact { IsOk result ↔ IsTrue (is_path parts.now) }
         ensures parts { IfOk result (λ path. path ≡ parts.now) }
@@ -67,7 +68,7 @@ impl VaultPath {
         Ok(path)
     }
 
-    /// The path one part further. `BadPart` comes exactly where the part is none or would be the seventh.
+    /// The path one part further. It fails if and only if this is no part of a path or would be the seventh.
     pub fn join(&self, part: &[u8]) -> Result<VaultPath, BadPart>
         ensures exact { IsOk result ↔ IsTrue (is_path (self.now ++ part.now ∷ [])) }
         ensures path { IfOk result (λ path. path ≡ self.now ++ part.now ∷ []) }

@@ -8,7 +8,7 @@ use vault_keys::UnlockErr;
 /// Why a vault isn't unlocked.
 #[derive(Clone, Copy, Debug, PartialEq, Eq)]
 pub enum Refusal {
-    /// By the secret's line or the key files, or for want of memory.
+    /// By the secret's line or the key files, or because memory ran out.
     Cause(UnlockErr),
     /// The secret's count of faults rose.
     SecretFault,

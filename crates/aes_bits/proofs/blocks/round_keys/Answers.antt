@@ -19,7 +19,7 @@ loop-r-preserved c =
 
 pub returns : goal.returns
 returns c = record {
-  size = c.has_key.ensures;
+  size = c.has_32_bytes.ensures.long;
   sizes = λ r h. (c.loop-r.invariant.1 r (omega (arith, h))).0;
   each = λ r h. (c.loop-r.invariant.1 r (omega (arith, h))).1;
 }

@@ -1,8 +1,17 @@
-use Rattle.std.proofs.Common.{◌≡◌, ◌-◌, length, drop, Some, None, ap, sym, ◌∙◌, arith, length-take}
+use Rattle.std.proofs.Common.{◌≡◌, ◌-◌, true, length, drop, nat_lt, Some, None, ap, sym, refl, ◌∙◌, arith, length-take}
+use Rattle.std.proofs.lemmas.Grind.{common_steps}
+use Rattle.file_chunks.specs.Chunk.{chunk_opens}
 use Rattle.std.proofs.lemmas.List.{take_at}
 use Rattle.std.proofs.lemmas.Result.{err_from_is_err_and}
 use Rattle.file_chunks.proofs.Layouts.{chunk_opens_is}
 use Rattle.file_chunks.proofs.chunk.open_chunk.Goals as goal
+
+-- No chunk is that short.
+pub returns-then-sealed-lt-SEALING_LENGTH-clause-damaged : goal.returns-then-sealed-lt-SEALING_LENGTH-clause-damaged
+unfolding chunk_opens
+returns-then-sealed-lt-SEALING_LENGTH-clause-damaged c =
+    let short : nat_lt (length c.args.sealed.now) 28 ≡ true = grind (arith, common_steps, c.if-sealed-lt-SEALING_LENGTH.true) in
+    rw short refl
 
 pub returns-in_err-open_into-clause-damaged : goal.returns-in_err-open_into-clause-damaged
 returns-in_err-open_into-clause-damaged c =
