@@ -1,2 +1,4 @@
 pub mod Digits
+pub mod OneKind
 pub mod Refusals
+pub mod OneThing

@@ -12,8 +12,10 @@
 
 mod command;
 mod job;
+mod laws;
 mod number;
 mod starting;
 
 pub use job::{Job, Places, USAGE, VERSION, WordsErr, read_words};
+pub use laws::words_ask_for_one_thing;
 pub use starting::places;

@@ -1,0 +1,11 @@
+//! What the definitions say of all words.
+
+ghost use Rattle.std.specs.Prelude.{◌≡◌, List};
+ghost use Rattle.clap.specs.Words.{Text};
+ghost use Rattle.vault_words.specs.Jobs.{AsksFor, IsRefused, Job};
+
+/// Words ask for one thing: a job, help, the version, or they are refused. It does nothing.
+pub fn words_ask_for_one_thing()
+    ensures one { (words : List Text) (job other : Job) → AsksFor job words → AsksFor other words → job ≡ other }
+    ensures taken { (words : List Text) (job : Job) → AsksFor job words → IsRefused words → ⊥ }
+{}
