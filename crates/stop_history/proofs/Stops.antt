@@ -10,7 +10,7 @@ use Rattle.tree_model.specs.Rows.{Rows}
 use Rattle.tree_history.specs.History.{Entry}
 use Rattle.stop_history.specs.Crash.{DiskShows, IsBlind, HoldsEnded, HaveEnded, IsCrash}
 use Rattle.stop_history.specs.Stands.{WasSafe, IsRunning, IsInState}
-use Rattle.stop_history.specs.Prefix.{low_at, ended_at, IsCrashPrefix, StopsRecover, IsWhole}
+use Rattle.stop_history.specs.Prefix.{low_at, ended_at, IsCrashPrefix, StopsRecover, RecoversWhole, BeginningRecovers, IsWhole}
 use Rattle.stop_history.proofs.Images.{rest_recovers}
 use Rattle.stop_history.proofs.Moves.{running_safe, settles, settles_broken, shows_all}
 
@@ -46,7 +46,19 @@ module _ (Shows : DiskShows) (rows : Rows) where
     shows = elim is.shows [ inl a ↦ inl a.shows | inr f ↦ inr (record { begun = omega (arith, ended_above history m is.k is.within f.ended); entry = f.entry; there = f.there; failed = f.failed; shows = f.shows }) ];
   }
 
+  -- of no entries k is 0
+  unentered : (m : ℕ) (image : Disk) → IsCrash Shows rows [] m image → RecoversWhole Shows rows [] image
+  unentered m image is = record {
+    disk = is.disk;
+    recovers = is.recovers;
+    shows = elim is.shows [ inl a ↦ a.shows | inr f ↦ absurd (let there : None ≡ Some f.entry = f.there in cc) ];
+  }
+
   module _ (opened : ℕ) where
+    -- a store that runs and stands for no entries recovers to the rows that its history begins with
+    pub running_begins : (pending : List PlainDeed) (log : Log) → IsRunning Shows opened rows [] pending log → BeginningRecovers Shows opened (moment log) rows log
+    running_begins pending log run m since before within image is = unentered m image (running_safe Shows opened rows [] pending log run m since (omega (arith, within)) image is)
+
     pub safe_stops : (history : List Entry) (log : Log) → WasSafe Shows opened rows history log (suc (moment log)) → StopsRecover Shows opened rows history log
     safe_stops history log safe m since before image is = prefix_of history m image (safe m since (omega arith) image is)
 

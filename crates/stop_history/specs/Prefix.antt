@@ -54,3 +54,9 @@ pub record RecoversWhole (Shows : DiskShows) (rows : Rows) (history : List Entry
 pub record IsWhole (Shows : DiskShows) (rows : Rows) (history : List Entry) (log : Log) : Type 0 where
   pub shows : Shows (now log) (rows_at rows history (length history))
   pub images : (image : Disk) → IsImage log image → RecoversWhole Shows rows history image
+
+-- A stop at any moment from `opened` up to `begun`, at which a history begins, recovers to a disk that shows the rows that it begins with.
+abbrev pub BeginningRecovers : DiskShows → ℕ → ℕ → Rows → Log → Type 0
+BeginningRecovers Shows opened begun rows log =
+    (m : ℕ) → opened ≤ m → m ≤ begun → m ≤ moment log → (image : Disk) → IsImage (log_at log m) image
+    → RecoversWhole Shows rows [] image

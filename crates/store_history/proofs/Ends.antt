@@ -23,16 +23,18 @@ use Rattle.store_history.specs.Store.{StoreView, ArePlaced, IsSaidFrom, IsStored
 use Rattle.store_history.specs.Ends.{ClosingsRecover, FailedOpeningsRecover, IsCutShort, StoresRecover, StoresAreWhole}
 use Rattle.store_history.proofs.Shows.{shows_blind}
 use Rattle.store_history.proofs.Openings.{stays_soundly}
-use Rattle.store_history.proofs.Placed.{goes_later, grows_on, leaves_go_on, places_go_on}
+use Rattle.store_history.proofs.Placed.{HasBegun, begins_low, begun_goes_on, goes_later, grows_on, leaves_go_on, opened_goes_on, places_go_on}
 use Rattle.store_history.proofs.Turns.{moments_rise, none_back}
 
 pub failed_openings_recover : FailedOpeningsRecover
 failed_openings_recover keys old new stays sound = opening_recovers (shows_under keys) (shows_blind keys) old new (stays_soundly old new stays sound) sound
 
 pub stores_recover : StoresRecover
-stores_recover found store folder rows origin history is =
-    told_then folder.log (IsStoredIn found store rows origin history) (λ log. (opened : ℕ) → IsSaidFrom found origin opened → StopsRecover (shows_under store.keys) opened rows history log) is.stored
-    (λ log stored opened from. state_stops (shows_under store.keys) rows opened history store.waiting log (tally_of origin history).stopped (stored.state opened from))
+stores_recover found store folder rows origin history is = record {
+  stops = told_then folder.log (IsStoredIn found store rows origin history) (λ log. (opened : ℕ) → IsSaidFrom found origin opened → StopsRecover (shows_under store.keys) opened rows history log) is.stored
+      (λ log stored opened from. state_stops (shows_under store.keys) rows opened history store.waiting log (tally_of origin history).stopped (stored.state opened from));
+  begun = told_then folder.log (IsStoredIn found store rows origin history) (HasBegun found store.keys rows origin) is.stored (λ log stored. stored.begun);
+}
 
 -- with nothing pending the disk shows all entries, and at rest it is its only image
 whole_at_rest : (Shows : DiskShows) (opened : ℕ) (rows : Rows) (history : List Entry) (log : Log) → IsRunning Shows opened rows history [] log → IsWhole Shows rows history log
@@ -80,11 +82,18 @@ module _ (found : Option Log) (store : StoreView) (before after : FolderView) (r
   placed_told (Some a) None late stored goes = absurd goes
   placed_told (Some a) (Some b) late stored goes = places_go_on store.keys rows origin history a b goes is.caused late stored.placed
 
+  begun_told : (a b : Option Log) → (tally_of origin history).moment ≤ moment_of a → Told a (IsStoredIn found store rows origin history) → Changes a b LogGoesOn → Told b (HasBegun found store.keys rows origin)
+  begun_told None None late stored goes = tt
+  begun_told None (Some b) late stored goes = absurd goes
+  begun_told (Some a) None late stored goes = absurd goes
+  begun_told (Some a) (Some b) late stored goes = begun_goes_on found store.keys rows origin history a b goes is.caused late stored.begun
+
   cut_short : IsCutShort found store after rows origin history
   cut_short = record {
     grown = grows_on found before.log after.log is.grown grown;
+    opened = opened_goes_on origin.moment found before.log after.log (begins_low origin history (moment_of before.log) is.caused is.moment) is.opened grown;
     placed = placed_told before.log after.log is.moment is.stored grown;
-    recover = recovers_told before.log after.log is.stored any;
+    recover = record { stops = recovers_told before.log after.log is.stored any; begun = begun_told before.log after.log is.moment is.stored grown };
     moment = omega (arith, is.moment, moments_rise before.log after.log LogGoesOn goes_later grown);
   }
 

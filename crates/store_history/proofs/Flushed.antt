@@ -22,7 +22,7 @@ use Rattle.stop_history.proofs.States.{state_runs}
 use Rattle.store_history.specs.Store.{StoreView, HasRows, IsStoredIn, IsStoreOf, LogGoesOn, moment_of, shows_under}
 use Rattle.store_history.specs.Turns.{AddsEntry, FlushedTurnsAdd, FlushesStand, IsFlushed}
 use Rattle.store_history.proofs.Alike.{for_alike, looks_beside, looks_through}
-use Rattle.store_history.proofs.Placed.{grows_on, goes_later, leaves_go_on, places_go_on, read_then}
+use Rattle.store_history.proofs.Placed.{begins_low, begun_goes_on, grows_on, goes_later, leaves_go_on, opened_goes_on, places_go_on, read_then}
 use Rattle.node_changes.proofs.Beside.{stands_beside}
 use Rattle.store_history.proofs.Shows.{shows_blind}
 use Rattle.store_history.proofs.Turns.{moments_rise, none_back}
@@ -66,6 +66,7 @@ module _ (old : StoreView) (before after : FolderView) (found : Option Log) (row
         state = λ opened from. in_state (shows_under old.keys) opened rows history [] b tally.stopped none
             (settles (shows_under old.keys) opened rows (shows_blind old.keys) history old.waiting a b (is_repeatable old.waiting waits.pending)
             (state_runs (shows_under old.keys) opened rows history old.waiting a tally.stopped none (stored.state opened from)) any committed);
+        begun = begun_goes_on found old.keys rows origin history a b (goes a b stored any) store.caused late stored.begun;
         waits = λ _. none_waits (now b);
         tree = λ _. record {
           contents = has.contents;
@@ -97,6 +98,7 @@ module _ (old : StoreView) (before after : FolderView) (found : Option Log) (row
     flush_stands faults = record {
       stored = flushed_told before.log after.log store.moment store.stored committed any;
       grown = grows_on found before.log after.log store.grown grown;
+      opened = opened_goes_on origin.moment found before.log after.log (begins_low origin history (moment_of before.log) store.caused store.moment) store.opened grown;
       caused = store.caused;
       faults = omega (arith, store.faults, faults);
       moment = omega (arith, store.moment, moments_rise before.log after.log LogGoesOn goes_later grown);

@@ -35,8 +35,10 @@ use Rattle.node_changes.specs.Changed.{StandsOn}
 use Rattle.stop_history.specs.Crash.{DiskShows}
 use Rattle.stop_history.specs.Stands.{IsRunning}
 use Rattle.stop_history.specs.Opening.{StaysFound, IsSoundlyFound}
+use Rattle.stop_history.specs.Prefix.{BeginningRecovers}
 use Rattle.stop_history.proofs.Openings.{begins_now}
-use Rattle.store_history.specs.Store.{StoreView, moment_of, shows_under, HasRows, IsStoredIn, IsStoreOf, LogGoesOn}
+use Rattle.stop_history.proofs.Stops.{running_begins}
+use Rattle.store_history.specs.Store.{StoreView, moment_of, shows_under, HasRows, IsSaidFrom, IsStoredIn, IsStoreOf, LogGoesOn}
 use Rattle.store_history.specs.Ends.{IsFoundClear, IsOpened, HasBeenOpened, OpeningsStand}
 use Rattle.store_history.proofs.Shows.{shows_blind, stands_shows}
 use Rattle.store_history.proofs.Alike.{looks_itself}
@@ -149,6 +151,15 @@ module _ (unlocked : ℕ) (kept : KeptTree) (store : StoreView) (live_is : store
       goes_through old (adds old Synced) new (record { start = refl; later = (Synced ∷ [], refl) })
       (leaves_go_on (adds old Synced) new (RecoversLike opened.disk) (opening_keeps old new opened.disk opening (reopenable (now old) sound) opened.recovers))
 
+  -- the store runs, and stands for no entries yet
+  runs_on : (old new : Log) → HasOpened old new → IsOpening old new → (rows : Rows) → Shows (now new) rows → (origin : Origin) → origin.moment ≡ moment new → (opened_at : ℕ) → IsSaidFrom (Some old) origin opened_at
+      → IsRunning Shows opened_at rows [] [] new
+  runs_on old new opened opening rows shows origin at opened_at (inl here) = subst (λ (n : ℕ). IsRunning Shows n rows [] [] new) (sym (here ∙ at)) (runs_now new rows opened.at_rest shows)
+  runs_on old new opened opening rows shows origin at opened_at (inr (sound, there)) =
+      subst (λ (n : ℕ). IsRunning Shows n rows [] [] new) (sym there)
+      (begins_now Shows (shows_blind store.keys) rows opened.disk old new (stays_soundly old new (inr opening) sound)
+      (record { at_rest = opened.at_rest; since = opened_later old new opened opening sound; found = λ other recovers. opened_alike old new other opened recovers }) opened.recovers shows)
+
   begins_on : (old new : Log) → HasOpened old new → IsOpening old new → IsKept s (now new) kept → Begins (Some old) (Some new)
   begins_on old new opened opening is =
       let tells : TellsRows s (now new) kept = keeping_tells_rows s (now new) kept is in
@@ -156,6 +167,7 @@ module _ (unlocked : ℕ) (kept : KeptTree) (store : StoreView) (live_is : store
       let has : HasRows store (now new) (rows_of tells.contents) [] = has_rows (now new) is tells host in
       let shows : Shows (now new) (rows_of tells.contents) = stands_shows s (now new) store.live store.claims tells.contents (rows_of tells.contents) (stands_loaded (now new) is tells host) (current tells.contents) in
       let found : IsTree opened.disk = recovered_tree (now old) opened.disk opening.steady.tree opened.recovers in
+      let running = λ (origin : Origin) (at : origin.moment ≡ moment new) (opened_at : ℕ) (from : IsSaidFrom (Some old) origin opened_at). runs_on old new opened opening (rows_of tells.contents) shows origin at opened_at from in
       record {
         rows = rows_of tells.contents;
         clear = record {
@@ -164,13 +176,8 @@ module _ (unlocked : ℕ) (kept : KeptTree) (store : StoreView) (live_is : store
           clear = clear_beside s (now new) opened.disk unlocked (rows_of tells.contents) (tells.clear unlocked) host found (λ q not_journal not_new. sym (opened.alike q not_journal not_new));
         };
         stands = λ origin at. record {
-          state = λ opened_at from. subst (λ (w : List PlainDeed). IsRunning Shows opened_at (rows_of tells.contents) [] w new) (sym idle) (elim from [
-            | inl here ↦ subst (λ (n : ℕ). IsRunning Shows n (rows_of tells.contents) [] [] new) (sym (here ∙ at)) (runs_now new (rows_of tells.contents) opened.at_rest shows)
-            | inr (sound, there) ↦
-                subst (λ (n : ℕ). IsRunning Shows n (rows_of tells.contents) [] [] new) (sym there)
-                (begins_now Shows (shows_blind store.keys) (rows_of tells.contents) opened.disk old new (stays_soundly old new (inr opening) sound)
-                (record { at_rest = opened.at_rest; since = opened_later old new opened opening sound; found = λ other recovers. opened_alike old new other opened recovers }) opened.recovers shows)
-          ]);
+          state = λ opened_at from. subst (λ (w : List PlainDeed). IsRunning Shows opened_at (rows_of tells.contents) [] w new) (sym idle) (running origin at opened_at from);
+          begun = λ opened_at from. subst (λ (n : ℕ). BeginningRecovers Shows opened_at n (rows_of tells.contents) new) (sym at) (running_begins Shows (rows_of tells.contents) opened_at [] new (running origin at opened_at from));
           waits = λ none. subst (λ (w : List PlainDeed). CanWait w (now new)) (sym idle) (none_waits (now new));
           since = λ none. subst (λ (d : Disk). LookAlike d (now new)) (sym (ap (λ (m : ℕ). now (log_at new m)) at ∙ ap now (at_its_end new))) (looks_itself (now new));
           tree = λ none. subst (λ (d : Disk). HasRows store d (rows_of tells.contents) []) (sym (ap (λ (w : List PlainDeed). laid w (now new)) idle)) has;
@@ -186,11 +193,19 @@ module _ (unlocked : ℕ) (kept : KeptTree) (store : StoreView) (live_is : store
   begins_told (Some old) None opened opening is = absurd opened
   begins_told (Some old) (Some new) opened opening is = begins_on old new opened opening is
 
-  begins_store : (before after : FolderView) (begun : Begins before.log after.log) → IsNone store.stopped → store.entries ≡ 0 → (origin : Origin) → origin.folder_faults ≤ after.faults → origin.moment ≡ moment_of after.log
+  -- at the moment at which the history begins
+  opened_at : (m : ℕ) (before after : Option Log) → m ≡ moment_of after → Changes before after HasOpened → Changes before after (λ a b. HasOpened a (log_at b m))
+  opened_at m None None at opened = tt
+  opened_at m None (Some b) at opened = absurd opened
+  opened_at m (Some a) None at opened = absurd opened
+  opened_at m (Some a) (Some b) at opened = subst (λ (l : Log). HasOpened a l) (sym (ap (λ (n : ℕ). log_at b n) at ∙ at_its_end b)) opened
+
+  begins_store : (before after : FolderView) (begun : Begins before.log after.log) → Changes before.log after.log HasOpened → IsNone store.stopped → store.entries ≡ 0 → (origin : Origin) → origin.folder_faults ≤ after.faults → origin.moment ≡ moment_of after.log
       → IsStoreOf before.log store after begun.rows origin []
-  begins_store before after begun running none origin faults at = record {
+  begins_store before after begun opened running none origin faults at = record {
     stored = begun.stands origin at;
     grown = begun.grown;
+    opened = opened_at origin.moment before.log after.log at opened;
     caused = tt;
     faults = faults;
     moment = omega (arith, at);
@@ -205,7 +220,7 @@ opened_own before after unlocked kept store is =
       keys_are = refl;
       rows = begun.rows;
       clear = begun.clear;
-      stands = λ origin faults at. begins_store unlocked kept store is.live is.claims is.idle before after begun is.running is.none origin faults at;
+      stands = λ origin faults at. begins_store unlocked kept store is.live is.claims is.idle before after begun is.opened is.running is.none origin faults at;
     }
 
 pub openings_stand : OpeningsStand

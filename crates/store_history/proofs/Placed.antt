@@ -1,15 +1,17 @@
--- A log that goes on, and the places that entries name on it.
+-- A log that goes on, the places that entries name on it, and what a stop recovers to before its history begins.
 use Rattle.std.proofs.Common.{◌≡◌, ℕ, zero, suc, ◌-◌, ◌≤◌, List, [], ◌∷◌, ◌++◌, length, take, drop, Option, Some, None, IsNone, refl, sym, ap, subst, ◌∙◌, arith, append_assoc, length-append}
 use Rattle.outside.specs.Calls.{Changes}
 use Rattle.outside.specs.Disk.{Disk}
-use Rattle.outside.specs.Images.{Call, Log, log_at, moment, now, LeavesOnly}
+use Rattle.outside.specs.Images.{Call, Log, log_at, moment, now, IsImage, LeavesOnly}
 use Rattle.outside.proofs.Moments.{at_since}
 use Rattle.siv_mode.specs.Keys.{KeyPair}
+use Rattle.chunk_journal.specs.Opening.{HasOpened}
 use Rattle.tree_model.specs.Rows.{Rows}
 use Rattle.tree_history.specs.History.{Entry, Origin, Tally, after, next, entry_at, rows_at, rows_after, tally_at, tally_of, AreCaused}
 use Rattle.stop_history.specs.Opening.{IsSoundlyFound}
+use Rattle.stop_history.specs.Prefix.{BeginningRecovers}
 use Rattle.stop_history.proofs.Histories.{at_more, at_within, rows_all, rows_more}
-use Rattle.store_history.specs.Store.{ArePlaced, IsPlacedOn, LogGoesOn}
+use Rattle.store_history.specs.Store.{ArePlaced, IsPlacedOn, IsSaidFrom, LogGoesOn, moment_of, shows_under}
 
 -- ---- logs that go on
 
@@ -110,3 +112,28 @@ pub places_go_on : (keys : KeyPair) (rows : Rows) (origin : Origin) (history : L
 places_go_on keys rows origin history a b grown caused at_end placed i x there none =
     let low : (tally_of origin (take i history)).moment ≤ moment a = omega (arith, moments_rise (tally_at origin) history i caused, at_end) in
     subst (λ (d : Disk). IsPlacedOn keys d (rows_at rows history i) x.made) (read_then a b (tally_of origin (take i history)).moment grown low) (placed i x there none)
+
+-- ---- before a history begins
+
+abbrev pub HasBegun : Option Log → KeyPair → Rows → Origin → Log → Type 0
+HasBegun found keys rows origin log = (opened : ℕ) → IsSaidFrom found origin opened → BeginningRecovers (shows_under keys) opened origin.moment rows log
+
+-- no history begins past its last entry
+pub begins_low : (origin : Origin) (history : List Entry) (m : ℕ) → AreCaused (tally_at origin) history → (tally_of origin history).moment ≤ m → origin.moment ≤ m
+begins_low origin history m caused le = omega (arith, moments_rise (tally_at origin) history 0 caused, le)
+
+-- that the journal had been opened at a moment stays so on a log that goes on
+pub opened_goes_on : (m : ℕ) (found old new : Option Log) → m ≤ moment_of old → Changes found old (λ a b. HasOpened a (log_at b m)) → Changes old new LogGoesOn → Changes found new (λ a b. HasOpened a (log_at b m))
+opened_goes_on m None None None low so_far more = tt
+opened_goes_on m None None (Some c) low so_far more = absurd more
+opened_goes_on m None (Some b) new low so_far more = absurd so_far
+opened_goes_on m (Some a) None new low so_far more = absurd so_far
+opened_goes_on m (Some a) (Some b) None low so_far more = absurd more
+opened_goes_on m (Some a) (Some b) (Some c) low so_far more = subst (λ (l : Log). HasOpened a l) (sym (at_since b c more.later.0 m more.start more.later.1 low)) so_far
+
+-- it stays said on a log that goes on, since the moments up to then are what they were
+pub begun_goes_on : (found : Option Log) (keys : KeyPair) (rows : Rows) (origin : Origin) (history : List Entry) (a b : Log) → LogGoesOn a b → AreCaused (tally_at origin) history → (tally_of origin history).moment ≤ moment a
+    → HasBegun found keys rows origin a → HasBegun found keys rows origin b
+begun_goes_on found keys rows origin history a b grown caused at_end begun opened from m since before within image is =
+    let low : m ≤ moment a = omega (arith, before, begins_low origin history (moment a) caused at_end) in
+    begun opened from m since before low image (subst (λ (l : Log). IsImage l image) (at_since a b grown.later.0 m grown.start grown.later.1 low) is)

@@ -91,6 +91,7 @@ module _ (old : StoreView) (before : FolderView) (source : EntropyView) (turn : 
           placed = placed_more old.keys rows origin history entry log log (goes_nowhere log) store.caused (omega (arith, store.moment, was)) stored.placed (λ none. absurd (running_not store none));
           state = λ opened from. broken_state (shows_under old.keys) opened rows origin history entry old.waiting log (inr some)
               (stays_broken (shows_under old.keys) opened rows origin history log entry (state_broke (shows_under old.keys) opened rows history old.waiting log tally.stopped some (stored.state opened from)) now same_stable);
+          begun = stored.begun;
           waits = λ none. absurd (running_not store (subst (λ (o : Option ℕ). IsNone o) more none));
           since = λ none. absurd (running_not store (subst (λ (o : Option ℕ). IsNone o) more none));
           tree = λ none. absurd (running_not store (subst (λ (o : Option ℕ). IsNone o) more none));

@@ -40,7 +40,7 @@ use Rattle.store_history.specs.Turns.{Draws, IsMadeOf, Turn, made_in, made_of, I
 use Rattle.node_changes.proofs.Beside.{stands_beside}
 use Rattle.store_history.proofs.Shows.{shows_blind, stands_shows}
 use Rattle.store_history.proofs.Alike.{for_alike, looks_itself, looks_through}
-use Rattle.store_history.proofs.Placed.{at_its_end, goes_later, goes_nowhere, grows_on, leaves_go_on, placed_more}
+use Rattle.store_history.proofs.Placed.{HasBegun, at_its_end, begins_low, begun_goes_on, goes_later, goes_nowhere, grows_on, leaves_go_on, opened_goes_on, placed_more}
 
 pub bounded_suc : (n : ℕ) → bounded (suc (bounded n)) ≡ bounded (suc n)
 bounded_suc n = omega arith
@@ -130,6 +130,7 @@ module _ (old new : StoreView) (before after : FolderView) (source source' : Ent
       record {
         stored = stored;
         grown = grows_on found before.log after.log store.grown grown;
+        opened = opened_goes_on origin.moment found before.log after.log (begins_low origin history (moment_of before.log) store.caused store.moment) store.opened grown;
         caused = caused_more (tally_at origin) history entry store.caused caused;
         faults = omega (arith, ap (λ (t : Tally). t.folder_faults) more);
         moment = omega (arith, ap (λ (t : Tally). t.moment) more);
@@ -245,6 +246,12 @@ module _ (old new : StoreView) (before after : FolderView) (source source' : Ent
         subst (λ (k : KeyPair). ArePlaced k rows origin (history ++ entry ∷ []) b) (sym is.keys)
         (placed_more old.keys rows origin history entry a b grown store.caused (omega (arith, store.moment, at)) stored.placed (λ none. placed_so a store stored taken))
 
+    -- what a stop recovered to before the history began
+    pub begun_next : (a b : Log) → Before → moment_of before.log ≡ moment a → LogGoesOn a b → Stored a → HasBegun found new.keys rows origin b
+    begun_next a b store at grown stored =
+        subst (λ (k : KeyPair). HasBegun found k rows origin b) (sym is.keys)
+        (begun_goes_on found old.keys rows origin history a b grown store.caused (omega (arith, store.moment, at)) stored.begun)
+
     -- no time has gone by since
     since_next : (log : Log) → made.moment ≡ moment log → LookAlike (now (log_at log (tally_of origin (history ++ entry ∷ [])).moment)) (now log)
     since_next log at =
@@ -255,9 +262,11 @@ module _ (old new : StoreView) (before after : FolderView) (source source' : Ent
     -- whose commits all came through
     runs_next : (log : Log) → Before → turn.commit_failed ≡ false → made.moment ≡ moment log → AreAnswered rows (tally_at origin) history → IsAnswered (rows_after rows history) made → WaitsOn log → (contents : ℕ → Content)
         → StandsOn s (laid new.waiting (now log)) new.live new.claims contents → wrapped (rows_then (rows_after rows history) made) ≡ wrapped (live_rows contents new.live)
-        → ((opened : ℕ) → IsSaidFrom found origin opened → IsRunning Shows opened rows (history ++ entry ∷ []) new.waiting log) → ArePlaced new.keys rows origin (history ++ entry ∷ []) log → StoredNext log
-    runs_next log store whole at answered so waits contents stands same running placed = record {
+        → ((opened : ℕ) → IsSaidFrom found origin opened → IsRunning Shows opened rows (history ++ entry ∷ []) new.waiting log) → HasBegun found new.keys rows origin log
+        → ArePlaced new.keys rows origin (history ++ entry ∷ []) log → StoredNext log
+    runs_next log store whole at answered so waits contents stands same running begun placed = record {
       placed = placed;
+      begun = begun;
       state = λ opened from. state_next opened log (running_state Shows opened rows origin history entry new.waiting log (not_stopped is.running store) whole (running opened from));
       waits = λ none. waits;
       since = λ none. since_next log at;
@@ -290,7 +299,7 @@ module _ (old new : StoreView) (before after : FolderView) (source source' : Ent
         let same = same_next has.contents to.contents has.current to.shows in
         runs_next log store whole at stored.answered (answered_next (laid old.waiting (now log)) allowed has) waits to.contents to.stands same
         (λ opened from. idles_on log opened store stored from at waits kept (shows_next (laid new.waiting (now log)) to.contents to.stands same) (is_kept turn.asked.request turn.asked.reply) refl)
-        (placed_next log log store was (goes_nowhere log) stored taken)
+        (begun_next log log store was (goes_nowhere log) stored) (placed_next log log store was (goes_nowhere log) stored taken)
 
     accepted_rows : (r : Rows) → is_refusal turn.asked.reply ≡ false → rows_then r made ≡ (step r turn.asked.request turn.asked.second).rows
     accepted_rows r accepted = ap (λ (b : Bool). cond b r (step r turn.asked.request turn.asked.second).rows) accepted
@@ -307,12 +316,13 @@ module _ (old new : StoreView) (before after : FolderView) (source source' : Ent
         let shows = shows_next change.makes.after to.contents to.stands same in
         let stands = stands_beside s change.makes.after (now b) new.live new.claims to.contents to.stands change.committed.at_rest.steady.tree (change.committed.after change.makes.after change.makes.does) in
         let none : laid new.waiting (now b) ≡ now b = ap (λ (w : List PlainDeed). laid w (now b)) idle.1 in
+        let goes : LogGoesOn a b = leaves_go_on a b (IsBeforeOrAfter (now a) change.makes.after) (change.any_moment change.makes.after change.makes.does) in
         runs_next b store whole at stored.answered (answered_next (now a) (subst AllowedOn (shown_idle idle.0 a) allowed) has)
         (subst (λ (w : List PlainDeed). CanWait w (now b)) (sym idle.1) (none_waits (now b))) to.contents (subst (λ (d : Disk). StandsOn s d new.live new.claims to.contents) (sym none) stands) same
         (λ opened from. subst (λ (w : List PlainDeed). IsRunning Shows opened rows (history ++ entry ∷ []) w b) (sym idle.1)
         (commits Shows opened rows (shows_blind old.keys) history change.deeds a b entry change.makes.after change.makes.repeatable (runs_idle idle.0 a store stored opened from) change.makes.does shows at (stable store).within
         change.any_moment change.committed))
-        (placed_next a b store was (leaves_go_on a b (IsBeforeOrAfter (now a) change.makes.after) (change.any_moment change.makes.after change.makes.does)) stored taken)
+        (begun_next a b store was goes stored) (placed_next a b store was goes stored taken)
 
     -- ---- on a log, after a commit that failed
 
@@ -337,6 +347,7 @@ module _ (old new : StoreView) (before after : FolderView) (source source' : Ent
         → ((opened : ℕ) → IsSaidFrom found origin opened → IsBroken Shows opened rows (history ++ entry ∷ []) b) → StoredNext b
     broken_next a b store failed was grown stored allowed taken broken = record {
       placed = placed_next a b store was grown stored taken;
+      begun = begun_next a b store was grown stored;
       state = λ opened from. state_next opened b (broken_state Shows opened rows origin history entry new.waiting b (inl failed) (broken opened from));
       waits = λ none. stops_tree failed none;
       since = λ none. stops_tree failed none;

@@ -2,7 +2,7 @@
 use Rattle.std.specs.Prelude.{◌≡◌, ℕ, ◌≤◌, List, [], Option, IsNone}
 use Rattle.outside.specs.Calls.{Changes, Told}
 use Rattle.outside.specs.Disk.{Disk}
-use Rattle.outside.specs.Images.{Log, now}
+use Rattle.outside.specs.Images.{Log, log_at, now}
 use Rattle.outside.specs.Views.{FolderView}
 use Rattle.siv_mode.specs.Keys.{KeyPair}
 use Rattle.chunk_journal.specs.Journal.{AnyMoment, RecoversTo}
@@ -14,7 +14,7 @@ use Rattle.directory_scan.specs.Format.{sealing_of}
 use Rattle.tree_loading.specs.Clear.{IsClear}
 use Rattle.held_changes.specs.Loading.{loaded_tree}
 use Rattle.name_places.specs.Claims.{AreClaimsOf}
-use Rattle.stop_history.specs.Prefix.{StopsRecover, IsWhole}
+use Rattle.stop_history.specs.Prefix.{StopsRecover, BeginningRecovers, IsWhole}
 use Rattle.stop_history.specs.Opening.{IsSoundlyFound, OpeningRecovers}
 use Rattle.store_history.specs.Store.{StoreView, ArePlaced, IsSaidFrom, IsStoreOf, LogGoesOn, moment_of, shows_under}
 
@@ -55,11 +55,16 @@ FailedOpeningsRecover = (keys : KeyPair) (old new : Log) → StaysOpening old ne
 
 -- ---- at its end
 
--- a stop at any moment recovers to a prefix of the history that holds all that was synced
+-- What a stop recovers to: at any moment to a prefix of the history that holds all that was synced, and up to the moment at which it begins to the
+-- rows that it begins with.
+pub record Recovers (found : Option Log) (keys : KeyPair) (folder : FolderView) (rows : Rows) (origin : Origin) (history : List Entry) : Type 0 where
+  pub stops : Told folder.log (λ log. (opened : ℕ) → IsSaidFrom found origin opened → StopsRecover (shows_under keys) opened rows history log)
+  pub begun : Told folder.log (λ log. (opened : ℕ) → IsSaidFrom found origin opened → BeginningRecovers (shows_under keys) opened origin.moment rows log)
+
+-- a store's history is left so, whenever it ends
 abbrev pub StoresRecover : Type 0
 StoresRecover = (found : Option Log) (store : StoreView) (folder : FolderView) (rows : Rows) (origin : Origin) (history : List Entry)
-    → IsStoreOf found store folder rows origin history
-    → Told folder.log (λ log. (opened : ℕ) → IsSaidFrom found origin opened → StopsRecover (shows_under store.keys) opened rows history log)
+    → IsStoreOf found store folder rows origin history → Recovers found store.keys folder rows origin history
 
 -- of a store none of whose commits failed and in which nothing waits, all of it is on the disk
 abbrev pub StoresAreWhole : Type 0
@@ -70,8 +75,9 @@ StoresAreWhole = (found : Option Log) (store : StoreView) (folder : FolderView) 
 -- what is left of a store's history where the commit of what waits failed as it was closed
 pub record IsCutShort (found : Option Log) (store : StoreView) (after : FolderView) (rows : Rows) (origin : Origin) (history : List Entry) : Type 0 where
   pub grown : Changes found after.log (λ old new. IsSoundlyFound (now old) → LogGoesOn old new)
+  pub opened : Changes found after.log (λ old new. HasOpened old (log_at new origin.moment))
   pub placed : Told after.log (ArePlaced store.keys rows origin history)
-  pub recover : Told after.log (λ log. (opened : ℕ) → IsSaidFrom found origin opened → StopsRecover (shows_under store.keys) opened rows history log)
+  pub recover : Recovers found store.keys after rows origin history
   pub moment : (tally_of origin history).moment ≤ moment_of after.log
 
 abbrev pub ClosingsRecover : Type 0

@@ -6,6 +6,7 @@ use Rattle.outside.specs.Disk.{Disk}
 use Rattle.outside.specs.Images.{Call, Log, disk_in, log_at, moment, now}
 use Rattle.outside.specs.Views.{FolderView}
 use Rattle.deeds.specs.Deeds.{PlainDeed}
+use Rattle.chunk_journal.specs.Opening.{HasOpened}
 use Rattle.pending_files.specs.Laid.{CanWait, LookAlike, laid, laid_log}
 use Rattle.siv_mode.specs.Keys.{KeyPair}
 use Rattle.tree_model.specs.Rows.{Content, Rows}
@@ -19,6 +20,7 @@ use Rattle.node_changes.specs.Placed.{taken_for}
 use Rattle.stop_history.specs.Crash.{DiskShows}
 use Rattle.stop_history.specs.Stands.{IsInState}
 use Rattle.stop_history.specs.Opening.{IsSoundlyFound}
+use Rattle.stop_history.specs.Prefix.{BeginningRecovers}
 
 -- a disk shows rows where they have the shape of its tree
 abbrev pub shows_under : KeyPair → DiskShows
@@ -88,11 +90,12 @@ abbrev pub ArePlaced : KeyPair → Rows → Origin → List Entry → Log → Ty
 ArePlaced keys rows origin history log = (i : ℕ) (entry : Entry) → entry_at history i ≡ Some entry → IsNone (tally_of origin (take i history)).stopped
     → IsPlacedOn keys (now (log_at log (tally_of origin (take i history)).moment)) (rows_at rows history i) entry.made
 
--- A folder's log on which a store stands for a history: a stop at any moment recovers to a prefix of it; until a commit fails the tree in
--- memory is that of the disk once what waits is done, which can be done; each entry is answered in the rows before it, and names the place
--- that is taken. What was committed since the last entry has changed no more than bytes of files.
+-- A folder's log on which a store stands for a history: a stop at any moment recovers to a prefix of it, which is empty up to the moment at which
+-- it begins; until a commit fails the tree in memory is that of the disk once what waits is done, which can be done; each entry is answered
+-- in the rows before it, and names the place that is taken. What was committed since the last entry has changed no more than bytes of files.
 pub record IsStoredIn (found : Option Log) (store : StoreView) (rows : Rows) (origin : Origin) (history : List Entry) (log : Log) : Type 0 where
   pub state : (opened : ℕ) → IsSaidFrom found origin opened → IsInState (shows_under store.keys) opened rows history store.waiting log (tally_of origin history).stopped
+  pub begun : (opened : ℕ) → IsSaidFrom found origin opened → BeginningRecovers (shows_under store.keys) opened origin.moment rows log
   pub waits : IsNone (tally_of origin history).stopped → CanWait store.waiting (now log)
   pub tree : IsNone (tally_of origin history).stopped → HasRows store (laid store.waiting (now log)) rows history
   pub since : IsNone (tally_of origin history).stopped → LookAlike (now (log_at log (tally_of origin history).moment)) (now log)
@@ -100,10 +103,11 @@ pub record IsStoredIn (found : Option Log) (store : StoreView) (rows : Rows) (or
   pub placed : ArePlaced store.keys rows origin history log
 
 -- A store stands for a history from given rows and counts on, over a folder that was found with this log: its entries have their causes, and
--- where the folder tells its log, it stands for them on that.
+-- where the folder tells its log, it stands for them on that, and the history begins at a moment at which the journal had been opened.
 pub record IsStoreOf (found : Option Log) (store : StoreView) (folder : FolderView) (rows : Rows) (origin : Origin) (history : List Entry) : Type 0 where
   pub stored : Told folder.log (IsStoredIn found store rows origin history)
   pub grown : Changes found folder.log (λ old new. IsSoundlyFound (now old) → LogGoesOn old new)
+  pub opened : Changes found folder.log (λ old new. HasOpened old (log_at new origin.moment))
   pub caused : AreCaused (tally_at origin) history
   pub faults : (tally_of origin history).folder_faults ≤ folder.faults
   pub moment : (tally_of origin history).moment ≤ moment_of folder.log

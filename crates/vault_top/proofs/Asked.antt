@@ -1,24 +1,13 @@
--- Words that clap takes ask for one job alone.
-use Rattle.std.proofs.Common.{◌≡◌, List, [], Some, None, sym, subst, ◌∙◌, inl, inr}
-use Rattle.clap.specs.Words.{Text, IsAmong, fault_of, subcommand_of}
-use Rattle.clap.specs.declared.error.kind.ErrorKind.TheVariants as kind
-use Rattle.vault_words.specs.Command.{vaultd}
-use Rattle.vault_words.specs.Jobs.{Job, serve, make, demo, help, version, AsksFor, job_in}
-use Rattle.vault_top.specs.Words.{AreRefused, IsOffered}
+-- Words that ask for a job that the program does ask for nothing else, and aren't refused.
+use Rattle.std.proofs.Common.{◌≡◌, List, subst, inl, inr}
+use Rattle.clap.specs.Words.{Text}
+use Rattle.vault_words.specs.Jobs.{Job, AsksFor}
+use Rattle.vault_words.proofs.OneThing as words
+use Rattle.vault_top.specs.Words.{Ask, AreRefused, IsOffered}
 
--- clap takes the words, and this is their job
-pub record AskPlainly (words : List Text) (job : Job) : Type 0 where
-  pub taken : fault_of vaultd words ≡ []
-  pub named : job_in (subcommand_of vaultd words) ≡ Some job
+pub one_job : (asked : List Text) (job other : Job) → Ask asked job → AsksFor other asked → other ≡ job
+one_job asked job other is asks = words.one_job asked other job asks is.asks
 
-pub one_job : (words : List Text) (job other : Job) → AskPlainly words job → AsksFor other words → other ≡ job
-one_job words job (serve s) h k = let e : Some (serve s) ≡ Some job = sym k.1 ∙ h.named in cc
-one_job words job (make dir) h k = let e : Some (make dir) ≡ Some job = sym k.1 ∙ h.named in cc
-one_job words job (demo d) h k = let e : Some (demo d) ≡ Some job = sym k.1 ∙ h.named in cc
-one_job words job help h k = absurd (subst (λ kinds. IsAmong kind.DisplayHelp kinds) h.taken k)
-one_job words job version h k = absurd (subst (λ kinds. IsAmong kind.DisplayVersion kinds) h.taken k)
-
-pub not_refused : (words : List Text) (job : Job) → AskPlainly words job → IsOffered job → AreRefused words → ⊥
-not_refused words job h offered (inl (inl by)) = subst (λ kinds. IsAmong by.0 kinds) h.taken by.1
-not_refused words job h offered (inl (inr by)) = let e : Some job ≡ None = sym h.named ∙ by.1 in absurd cc
-not_refused words job h offered (inr by) = by.2 (subst IsOffered (sym (one_job words job by.0 h by.1)) offered)
+pub not_refused : (asked : List Text) (job : Job) → Ask asked job → AreRefused asked → ⊥
+not_refused asked job is (inl refused) = words.never_refused asked job is.asks refused
+not_refused asked job is (inr by) = by.2 (subst IsOffered (words.one_job asked job by.0 is.asks by.1) is.offered)

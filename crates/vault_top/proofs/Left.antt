@@ -3,13 +3,14 @@ use Rattle.std.proofs.Common.{◌≡◌, ◌⊎◌, ℕ, suc, ◌≤◌, List, [
 use Rattle.std.specs.Option.{option_map}
 use Rattle.outside.specs.Calls.{Changes, Rose, Told}
 use Rattle.outside.specs.declared.stream.Failed.{Failed}
-use Rattle.outside.specs.Images.{Log, moment}
+use Rattle.outside.specs.Images.{Log, log_at, moment}
 use Rattle.outside.specs.Views.{FolderView}
 use Rattle.outside.proofs.Told.{told_then}
 use Rattle.siv_mode.specs.Keys.{KeyPair}
+use Rattle.chunk_journal.specs.Opening.{HasOpened}
 use Rattle.tree_model.specs.Rows.{Rows}
 use Rattle.tree_history.specs.History.{Entry, Origin, tally_at, tally_of, AreCaused, IsLegal}
-use Rattle.stop_history.specs.Prefix.{IsWhole, StopsRecover}
+use Rattle.stop_history.specs.Prefix.{BeginningRecovers, IsWhole, StopsRecover}
 use Rattle.store_history.specs.Store.{StoreView, ArePlaced, IsSaidFrom, IsStoredIn, IsStoreOf, bounded, moment_of, shows_under}
 use Rattle.store_history.specs.Turns.{IsFlushed}
 use Rattle.store_history.proofs.Ends.{closings_recover, stores_recover, stores_are_whole}
@@ -42,16 +43,18 @@ pub record Leaves (keys : KeyPair) (rows : Rows) (origin : Origin) (entries : Li
   pub caused : AreCaused (tally_at origin) entries
   pub legal : Told before.log (λ log. IsLegal rows origin entries)
   pub placed : Told after.log (ArePlaced keys rows origin entries)
+  pub opened : Changes before.log after.log (λ old new. HasOpened old (log_at new origin.moment))
   pub stops : HasStops keys rows origin entries before after
   pub faults : (tally_of origin entries).folder_faults ≤ after.faults
   pub moment : (tally_of origin entries).moment ≤ moment_of after.log
 
 pub left_by : (before after : FolderView) (store : StoreView) (rows : Rows) (origin : Origin) (entries : List Entry) → IsStoreOf before.log store after rows origin entries → Leaves store.keys rows origin entries before after
-left_by before after store rows origin entries is = record {
+left_by before after store rows origin entries is = let recover = stores_recover before.log store after rows origin entries is in record {
   caused = is.caused;
   legal = told_before before.log after.log _ _ (IsLegal rows origin entries) is.grown is.stored (λ log stored. record { caused = is.caused; answered = stored.answered });
   placed = told_then after.log (IsStoredIn before.log store rows origin entries) (ArePlaced store.keys rows origin entries) is.stored (λ log stored. stored.placed);
-  stops = record { grown = is.grown; recover = stores_recover before.log store after rows origin entries is };
+  opened = is.opened;
+  stops = record { grown = is.grown; recover = recover.stops; begun = recover.begun };
   faults = is.faults;
   moment = is.moment;
 }
@@ -71,7 +74,8 @@ module _ {D : Type 0} (view : D → FolderView) (before : FolderView) (vault : O
         caused = is.caused;
         legal = told_before before.log (view vault.folder).log _ _ (IsLegal rows origin entries) is.grown is.stored (λ log stored. record { caused = is.caused; answered = stored.answered });
         placed = short.placed;
-        stops = record { grown = short.grown; recover = short.recover };
+        opened = short.opened;
+        stops = record { grown = short.grown; recover = short.recover.stops; begun = short.recover.begun };
         faults = omega (arith, is.faults, later);
         moment = short.moment;
       }
@@ -104,13 +108,19 @@ module _ {D : Type 0} (view : D → FolderView) (before : FolderView) (vault : O
 
 -- ---- nothing is said of a folder that is as it was, where the history's moment is still to come
 
+said_later : (origin : Origin) (log : Log) → origin.moment ≡ suc (moment log) → (opened : ℕ) → IsSaidFrom (Some log) origin opened → suc (moment log) ≤ opened
+said_later origin log next opened (inl here) = omega (arith, here, next)
+said_later origin log next opened (inr found) = let here = found.1 in omega (arith, here)
+
 nothing_since : (keys : KeyPair) (rows : Rows) (origin : Origin) (log : Log) → origin.moment ≡ suc (moment log) → (opened : ℕ) → IsSaidFrom (Some log) origin opened → StopsRecover (shows_under keys) opened rows [] log
-nothing_since keys rows origin log next opened (inl here) = λ m since within image is. absurd (omega (arith, since, within, here, next))
-nothing_since keys rows origin log next opened (inr found) = λ m since within image is. absurd (let here = found.1 in omega (arith, since, within, here))
+nothing_since keys rows origin log next opened from m since within image is = absurd (omega (arith, since, within, said_later origin log next opened from))
+
+nothing_before : (keys : KeyPair) (rows : Rows) (origin : Origin) (log : Log) → origin.moment ≡ suc (moment log) → (opened : ℕ) → IsSaidFrom (Some log) origin opened → BeginningRecovers (shows_under keys) opened origin.moment rows log
+nothing_before keys rows origin log next opened from m since before within image is = absurd (omega (arith, since, within, said_later origin log next opened from))
 
 pub stops_nowhere : (keys : KeyPair) (rows : Rows) (origin : Origin) (view : FolderView) → origin.moment ≡ suc (moment_of view.log) → HasStops keys rows origin [] view view
 stops_nowhere keys rows origin view next = stops_in view.log next
   where
     stops_in : (log : Option Log) → origin.moment ≡ suc (moment_of log) → HasStops keys rows origin [] (record view { log = log }) (record view { log = log })
-    stops_in None same = record { grown = tt; recover = tt }
-    stops_in (Some log) same = record { grown = λ sound. goes_nowhere log; recover = nothing_since keys rows origin log same }
+    stops_in None same = record { grown = tt; recover = tt; begun = tt }
+    stops_in (Some log) same = record { grown = λ sound. goes_nowhere log; recover = nothing_since keys rows origin log same; begun = nothing_before keys rows origin log same }

@@ -15,3 +15,4 @@ pub mod Soundness
 pub mod SoundMaking
 pub mod Demonstrations
 pub mod SoundDemo
+pub mod SoundWords

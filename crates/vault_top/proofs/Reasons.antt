@@ -144,6 +144,7 @@ module _ {D N C E : Type 0} (start : Rows → Origin → Type 0) (since : Folder
           unlocked = begun.unlocked;
           clear = clear_by service.kind (views.folder folder) secret.before second h.store.store.keys joined.right.start h.rows begun;
           second = begun.at_second;
+          opened = left.opened;
           stops = left.stops;
         };
         ended = h.ended;

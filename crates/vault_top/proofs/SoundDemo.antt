@@ -7,19 +7,16 @@ use Rattle.vault_top.specs.Words.{Ask}
 use Rattle.vault_top.specs.Span.{Views, Span}
 use Rattle.vault_top.specs.Ending.{Ending, refused, usage_said, version_said, made, no_memory_to_serve, served, listener_fault, closing_fault, no_memory_to_report, demonstrated, IsRefused, HasReason}
 use Rattle.vault_top.specs.Sound.{IsHeldOrFull}
-use Rattle.vault_top.proofs.Asked.{AskPlainly, one_job, not_refused}
+use Rattle.vault_top.proofs.Asked.{one_job, not_refused}
 
 module _ {C : Type 0} (span : Span C) (d : Demonstration) (asked : Ask span.words (demo d)) where
-  plainly : AskPlainly span.words (demo d)
-  plainly = record { taken = asked.asks.0; named = asked.asks.1 }
-
   -- the words ask for nothing else
   one : (job : Job) → AsksFor job span.words → job ≡ demo d
-  one job asks = one_job span.words (demo d) job plainly asks
+  one job asks = one_job span.words (demo d) job asked asks
 
   refused_held : (cause : Cause) → IsRefused span cause → cause ≡ Memory
   refused_held cause (inl h) = elim h.why [
-    | inl bad ↦ absurd (not_refused span.words (demo d) plainly asked.offered bad.1)
+    | inl bad ↦ absurd (not_refused span.words (demo d) asked bad.1)
     | inr memory ↦ memory
   ]
   refused_held cause (inr (inl h)) = let e : serve h.serving ≡ demo d = one (serve h.serving) h.words.asks in absurd cc

@@ -33,11 +33,8 @@ use Rattle.vault_top.specs.Ending.{Ending, refused, usage_said, version_said, ma
 use Rattle.vault_top.specs.Sound.{IsVaultFor, IsSound, IsSoundRun, IsFaultless, IsServedOrFull}
 use Rattle.shared_sessions.specs.declared.workers.Worker.{Worker}
 use Rattle.vault_top.specs.declared.program.Ended.{Ended}
-use Rattle.vault_top.proofs.Asked.{AskPlainly, one_job, not_refused}
+use Rattle.vault_top.proofs.Asked.{one_job, not_refused}
 use Rattle.vault_top.proofs.Faults.{faults_rise, rose_within, stopped_rose}
-
-plainly : (words : List Text) (s : Serving) → Ask words (serve s) → AskPlainly words (serve s)
-plainly words s h = record { taken = h.asks.0; named = h.asks.1 }
 
 -- ---- a secret that unlocks a vault has no cause against it
 
@@ -126,16 +123,16 @@ unopened_sound given kind cause sound secret folder (inr h) =
 
 refused_sound : {C : Type 0} (span : Span C) (cause : Cause) → IsSound span → IsFaultless span → IsRefused span cause → cause ≡ Memory
 refused_sound span cause is faultless (inl h) = elim h.why [
-  | inl bad ↦ absurd (not_refused span.words (serve is.serving) (plainly span.words is.serving is.words) is.words.offered bad.1)
+  | inl bad ↦ absurd (not_refused span.words (serve is.serving) is.words bad.1)
   | inr memory ↦ memory
 ]
 refused_sound span cause is faultless (inr (inl h)) =
-    let e : serve h.serving ≡ serve is.serving = one_job span.words (serve is.serving) (serve h.serving) (plainly span.words is.serving is.words) h.words.asks in
+    let e : serve h.serving ≡ serve is.serving = one_job span.words (serve is.serving) (serve h.serving) is.words h.words.asks in
     let same : is.serving ≡ h.serving = cc in
     unopened_sound span.given (kind_of h.serving) cause
     (subst (λ s. Unlocks (kind_of s) span.given.secret.before.left (disk_in span.given.folder.before.log)) same is.vault) faultless.secret faultless.folder h.unopened.why
 refused_sound span cause is faultless (inr (inr h)) =
-    let e : make h.dir ≡ serve is.serving = one_job span.words (serve is.serving) (make h.dir) (plainly span.words is.serving is.words) h.words.asks in absurd cc
+    let e : make h.dir ≡ serve is.serving = one_job span.words (serve is.serving) (make h.dir) is.words h.words.asks in absurd cc
 
 -- ---- a commit that failed
 
@@ -158,11 +155,11 @@ closing_rose span keys shares history (inr rose) =
 pub sound : {D N C E : Type 0} (views : Views D N C E) (span : Span C) (ending : Ending) → IsSound span → IsFaultless span → HasReason views span ending → IsServedOrFull ending
 sound views span (refused cause) is faultless h = refused_sound span cause is faultless h
 sound views span usage_said is faultless h =
-    let e : help ≡ serve is.serving = one_job span.words (serve is.serving) help (plainly span.words is.serving is.words) h.0.asks in absurd cc
+    let e : help ≡ serve is.serving = one_job span.words (serve is.serving) help is.words h.0.asks in absurd cc
 sound views span version_said is faultless h =
-    let e : version ≡ serve is.serving = one_job span.words (serve is.serving) version (plainly span.words is.serving is.words) h.0.asks in absurd cc
+    let e : version ≡ serve is.serving = one_job span.words (serve is.serving) version is.words h.0.asks in absurd cc
 sound views span made is faultless h =
-    let e : make h.dir ≡ serve is.serving = one_job span.words (serve is.serving) (make h.dir) (plainly span.words is.serving is.words) h.words.asks in absurd cc
+    let e : make h.dir ≡ serve is.serving = one_job span.words (serve is.serving) (make h.dir) is.words h.words.asks in absurd cc
 sound views span no_memory_to_serve is faultless h = tt
 sound views span (served ends) is faultless h = tt
 sound views span (listener_fault ends) is faultless h = absurd (faultless.listeners h.1)
@@ -170,7 +167,7 @@ sound views span (closing_fault ends) is faultless h =
     absurd (faultless.folder (closing_rose span h.0.sessions.vault.keys h.0.sessions.shares h.0.sessions.history h.1))
 sound views span (no_memory_to_report ends) is faultless h = tt
 sound views span (demonstrated text) is faultless h =
-    let e : demo h.demonstration ≡ serve is.serving = one_job span.words (serve is.serving) (demo h.demonstration) (plainly span.words is.serving is.words) h.words.asks in absurd cc
+    let e : demo h.demonstration ≡ serve is.serving = one_job span.words (serve is.serving) (demo h.demonstration) is.words h.words.asks in absurd cc
 
 -- ---- the status
 

@@ -2,7 +2,7 @@
 -- history of the tree that the vault's disk stands for.
 use Rattle.std.specs.Prelude.{◌≡◌, ◌⊎◌, ℕ, zero, suc, ◌*◌, ◌<◌, ◌≤◌, List, [], ◌∷◌, length, map, ⊤}
 use Rattle.outside.specs.Calls.{Changes, Told}
-use Rattle.outside.specs.Images.{moment, now}
+use Rattle.outside.specs.Images.{log_at, moment, now}
 use Rattle.outside.specs.Views.{FolderView}
 use Rattle.siv_mode.specs.Keys.{KeyPair}
 use Rattle.tree_model.specs.Rows.{Rows}
@@ -13,8 +13,9 @@ use Rattle.shared_sessions.specs.Joined.{all_asked}
 use Rattle.shared_vault.specs.declared.TheConstants.{MOST_TICKETS}
 use Rattle.turn_lock.specs.declared.TheConstants.{TURN_LIMIT}
 use Rattle.shared_vault.specs.Clients.{AreDrawnFor}
+use Rattle.chunk_journal.specs.Opening.{HasOpened}
 use Rattle.stop_history.specs.Opening.{IsSoundlyFound}
-use Rattle.stop_history.specs.Prefix.{StopsRecover, IsWhole}
+use Rattle.stop_history.specs.Prefix.{StopsRecover, BeginningRecovers, IsWhole}
 use Rattle.store_history.specs.Store.{ArePlaced, IsSaidFrom, LogGoesOn, moment_of, shows_under}
 use Rattle.store_history.specs.Turns.{draws_for}
 use Rattle.store_history.specs.Ends.{IsFoundClear}
@@ -67,15 +68,16 @@ AreAllDrawn entries j (worker ∷ workers) =
 
 -- What a stop leaves of a vault that was served under these keys with these entries. The folder's log goes on from the one that was found, where that was sound; a stop at
 -- any moment, from the end of the opening on, and where the disk was found sound from the end of the opening's first sync on, recovers to a prefix of the history
--- that holds all that was synced.
+-- that holds all that was synced; and up to the moment at which the history begins to a disk that shows the rows that it begins with.
 pub record HasStops (keys : KeyPair) (rows : Rows) (origin : Origin) (entries : List Entry) (before after : FolderView) : Type 0 where
   pub grown : Changes before.log after.log (λ old new. IsSoundlyFound (now old) → LogGoesOn old new)
   pub recover : Told after.log (λ log. (opened : ℕ) → IsSaidFrom before.log origin opened → StopsRecover (shows_under keys) opened rows entries log)
+  pub begun : Told after.log (λ log. (opened : ℕ) → IsSaidFrom before.log origin opened → BeginningRecovers (shows_under keys) opened origin.moment rows log)
 
 -- The entries of all callers are one history from the rows on that the folder recovers to, under these keys. Of each caller it has what was asked on the links of the worker of
 -- that number, in order, but for requests that were answered as exhausted; and nothing else. One is answered so only where the most tickets that all requests may
 -- take are more than there are turns. Each entry has its cause, and each caller's random source gave what its entries drew, in order. Where the folder tells its log the history is legal, and
--- each entry names the place that is taken; and what a stop leaves follows it.
+-- each entry names the place that is taken; and what a stop leaves follows it. It begins at a moment at which the journal that was found had been opened.
 pub record HasHistory {C : Type 0} (span : Span C) (keys : KeyPair) (shares : List (Share C)) : Type 0 where
   pub rows : Rows
   pub origin : Origin
@@ -91,6 +93,7 @@ pub record HasHistory {C : Type 0} (span : Span C) (keys : KeyPair) (shares : Li
   pub unlocked : ℕ
   pub clear : Told span.given.folder.before.log (λ log. IsFoundClear keys (now log) unlocked rows)
   pub second : Told span.given.second (λ second. unlocked ≡ second)
+  pub opened : Changes span.given.folder.before.log span.given.folder.after.log (λ old new. HasOpened old (log_at new origin.moment))
   pub stops : HasStops keys rows origin entries span.given.folder.before span.given.folder.after
 
 -- all entries of a history are on the disk: it shows the rows after them, and so does what any stop leaves

@@ -14,7 +14,7 @@ use Rattle.chunk_journal.specs.Journal.{IsAlike, RecoversTo}
 use Rattle.chunk_journal.specs.Opening.{IsDamagedAt, LeavesFolder}
 use Rattle.vault_make.specs.Vault.{IsEmpty}
 use Rattle.tree_loading.specs.Clear.{HasTooMany, root_folder}
-use Rattle.vault_causes.specs.declared.cause.Cause.TheVariants.{Memory}
+use Rattle.vault_causes.specs.declared.cause.Cause.TheVariants.{Words, Memory}
 use Rattle.vault_top.specs.Words.{Ask, kind_of}
 use Rattle.vault_top.specs.Span.{Course, SourceView, SinkView, Views, WorkerSpan, Span, span_of}
 use Rattle.vault_top.specs.Ending.{Ending, refused, usage_said, version_said, made, no_memory_to_serve, served, listener_fault, closing_fault, no_memory_to_report, demonstrated, SomeFailed, HasRun}
@@ -102,3 +102,18 @@ IsHeldOrFull (listener_fault ends) = ⊥
 IsHeldOrFull (closing_fault ends) = ⊥
 IsHeldOrFull (no_memory_to_report ends) = ⊥
 IsHeldOrFull (demonstrated text) = ⊤
+
+-- ---- words that are refused
+
+-- the words were bad, or memory ran out
+abbrev pub IsBadOrFull : Ending → Type 0
+IsBadOrFull (refused cause) = (cause ≡ Words) ⊎ (cause ≡ Memory)
+IsBadOrFull usage_said = ⊥
+IsBadOrFull version_said = ⊥
+IsBadOrFull made = ⊥
+IsBadOrFull no_memory_to_serve = ⊥
+IsBadOrFull (served ends) = ⊥
+IsBadOrFull (listener_fault ends) = ⊥
+IsBadOrFull (closing_fault ends) = ⊥
+IsBadOrFull (no_memory_to_report ends) = ⊥
+IsBadOrFull (demonstrated text) = ⊥

@@ -4,8 +4,8 @@ ghost use Rattle.vault_top.specs.declared.program.Ended.{Ended};
 ghost use Rattle.vault_top.specs.Span.{Course, SourceView, SinkView, Views, Span};
 ghost use Rattle.vault_top.specs.Ending.{Ending, HasReason};
 ghost use Rattle.vault_words.specs.Jobs.{Demonstration, demo};
-ghost use Rattle.vault_top.specs.Words.{Ask};
-ghost use Rattle.vault_top.specs.Sound.{IsSound, IsSoundRun, IsSoundToMake, IsFaultless, IsServedOrFull, IsMadeOrFull, IsHeldOrFull, SomeRandomFailed};
+ghost use Rattle.vault_top.specs.Words.{Ask, AreRefused};
+ghost use Rattle.vault_top.specs.Sound.{IsSound, IsSoundRun, IsSoundToMake, IsFaultless, IsServedOrFull, IsMadeOrFull, IsHeldOrFull, IsBadOrFull, SomeRandomFailed};
 
 use outside::{Entropy, Folder, Listener};
 
@@ -34,4 +34,11 @@ pub fn an_empty_folder_becomes_a_vault<D: Folder, N: Listener, E: Entropy>()
 pub fn a_demonstration_is_held<D: Folder, N: Listener, E: Entropy>()
     ensures { (views : Views D N N.Conn E) (span : Span N.Conn) (d : Demonstration) (ending : Ending) → Ask span.words (demo d)
         → HasReason views span ending → IsHeldOrFull ending }
+{}
+
+/// Where the words are refused, the program's ending is that they are bad, or that memory ran out: so the status 1 comes if and only if
+/// they are, but for memory.
+pub fn refused_words_are_bad<D: Folder, N: Listener, E: Entropy>()
+    ensures { (views : Views D N N.Conn E) (span : Span N.Conn) (ending : Ending) → AreRefused span.words
+        → HasReason views span ending → IsBadOrFull ending }
 {}

@@ -18,7 +18,7 @@ mod vault;
 
 pub use laws::{
     a_demonstration_is_held, a_sound_run_ends_with_0_or_5, a_sound_vault_is_served,
-    an_empty_folder_becomes_a_vault,
+    an_empty_folder_becomes_a_vault, refused_words_are_bad,
 };
 pub use program::{Ended, run};
 pub use shared_sessions::Worker;

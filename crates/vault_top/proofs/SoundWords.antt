@@ -1,0 +1,26 @@
+-- Where the words are refused, nothing is done.
+use Rattle.std.proofs.Common.{inl, inr}
+use Rattle.vault_words.specs.Jobs.{Job, serve, make, demo, help, version}
+use Rattle.vault_top.specs.Words.{Ask, AreRefused}
+use Rattle.vault_top.specs.Span.{Views, Span}
+use Rattle.vault_top.specs.Ending.{Ending, refused, usage_said, version_said, made, no_memory_to_serve, served, listener_fault, closing_fault, no_memory_to_report, demonstrated, HasReason}
+use Rattle.vault_top.specs.Sound.{IsBadOrFull}
+use Rattle.vault_top.proofs.Asked.{not_refused}
+
+module _ {C : Type 0} (span : Span C) (bad : AreRefused span.words) where
+  none : (job : Job) → Ask span.words job → ⊥
+  none job asked = not_refused span.words job asked bad
+
+  pub bad_or_full : {D N E : Type 0} (views : Views D N C E) (ending : Ending) → HasReason views span ending → IsBadOrFull ending
+  bad_or_full views (refused cause) (inl h) = elim h.why [ inl words ↦ inl words.0 | inr memory ↦ inr memory ]
+  bad_or_full views (refused cause) (inr (inl h)) = absurd (none (serve h.serving) h.words)
+  bad_or_full views (refused cause) (inr (inr h)) = absurd (none (make h.dir) h.words)
+  bad_or_full views usage_said h = absurd (none help h.0)
+  bad_or_full views version_said h = absurd (none version h.0)
+  bad_or_full views made h = absurd (none (make h.dir) h.words)
+  bad_or_full views no_memory_to_serve h = absurd (none (serve h.serving) h.words)
+  bad_or_full views (served ends) h = absurd (none (serve h.0.serving) h.0.words)
+  bad_or_full views (listener_fault ends) h = absurd (none (serve h.0.serving) h.0.words)
+  bad_or_full views (closing_fault ends) h = absurd (none (serve h.0.serving) h.0.words)
+  bad_or_full views (no_memory_to_report ends) h = absurd (none (serve h.0.serving) h.0.words)
+  bad_or_full views (demonstrated text) h = absurd (none (demo h.demonstration) h.words)
