@@ -63,7 +63,10 @@ fn expanded(alloc: Global, text: &str) -> Result<String, RunErr> {
         }
         let (piece, times) = part.split_once('*').unwrap_or((part, "1"));
         let times = times.parse::<usize>().map_err(|_| RunErr::Line)?;
-        for _ in 0..times.min(MOST_TIMES) {
+        if times > MOST_TIMES {
+            return Err(RunErr::Line);
+        }
+        for _ in 0..times {
             whole.push_str(piece)?;
         }
     }

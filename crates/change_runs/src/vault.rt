@@ -113,12 +113,22 @@ fn list(
     Err(RunErr::Stats)
 }
 
-// What a path shows of a file's content.
+// What a path shows of a file's content: its front, and of a longer one its length and its end, so that each end of what was written is read.
 fn content_of(alloc: Global, vault: &mut Vault, node: &Node<'_>) -> Result<String, RunErr> {
+    let front = part_of(alloc, vault, node, 0)?;
+    if node.length <= 64 {
+        return Ok(front);
+    }
+    let end = part_of(alloc, vault, node, node.length - 64)?;
+    Ok(format!(in alloc; "{front}..{}{end}", node.length)?)
+}
+
+// 64 bytes of a file's content from a place on, or why they can't be read.
+fn part_of(alloc: Global, vault: &mut Vault, node: &Node<'_>, at: u64) -> Result<String, RunErr> {
     let mut buffer = [0; 64];
     let request = Request::Read {
         node: node.qid.path,
-        at: 0,
+        at,
         count: 64,
     };
     let reply = vault.serve(&request, SECOND, &mut seeded(alloc), &mut buffer);
