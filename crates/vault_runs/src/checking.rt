@@ -1,12 +1,8 @@
 // Comparing runs with their rows.
 
-use crate::folders::{folder_of, holds};
-use crate::plan::Row;
-use crate::replies::{Likeness, compare_replies};
-use crate::row::RowErr;
-use crate::running::{Ran, run_row};
 use outside_mem::MemFolder;
-use std::alloc::Global;
+use run_tables::{Pieces, Ran, Row, RowErr, check_run, folder_of, is_fault_told, run_row};
+use std::alloc::{AllocError, Global};
 use std::rt::Files;
 use std::sync::Wait;
 use std::thread::Threads;
@@ -18,76 +14,27 @@ pub(crate) struct Counts {
     pub faulty: u64,
 }
 
-// A run's folder after it. Where its row doesn't say that it is changed, it consists of the parts that it began with.
-fn check_folder<R: Files + Alloc>(
+// Runs a row with a call of its folder failing, before it does anything or after a part of it.
+fn check_call<R: Alloc + Files + Threads + Wait + Sync>(
     rt: &R,
     alloc: Global,
     parts: &str,
     row: &Row<'_>,
-    folder: Option<MemFolder>,
-) -> Result<MemFolder, RowErr> {
-    // What it holds is looked at by calls that don't fail.
-    let folder = folder.ok_or(RowErr::Differs("folder"))?;
-    let mut folder = folder.failing_at(Vec::new(alloc));
-    if row.changed
-        || holds(
-            rt,
-            alloc,
-            parts,
-            row.holds.unwrap_or(row.folder),
-            &mut folder,
-        )?
-    {
-        Ok(folder)
+    call: u64,
+    breaks: bool,
+) -> Result<bool, RowErr> {
+    let calls = vec![in alloc; call]?;
+    let folder = folder_of(rt, alloc, parts, row.folder)?;
+    let folder = if breaks {
+        folder.breaking_at(calls)
     } else {
-        Err(RowErr::Differs("folder"))
-    }
+        folder.failing_at(calls)
+    };
+    let mut ran = run_row(rt, alloc, row, folder, Pieces::WHOLE)?;
+    is_fault_told(alloc, row, &mut ran)
 }
 
-// Compares what a run came to with its row, and gives its folder.
-fn check_run<R: Files + Alloc>(
-    rt: &R,
-    alloc: Global,
-    parts: &str,
-    row: &Row<'_>,
-    ran: Ran,
-) -> Result<MemFolder, RowErr> {
-    let mut ran = ran;
-    if ran.report.taken() != row.report.as_slice() {
-        return Err(RowErr::Differs("report"));
-    }
-    if ran.status as u64 != row.status {
-        return Err(RowErr::Differs("status"));
-    }
-    if ran.secret.left().len() as u64 != row.left {
-        return Err(RowErr::Differs("secret's rest"));
-    }
-    if compare_replies(alloc, row, &mut ran.workers)? != Likeness::Same {
-        return Err(RowErr::Differs("replies"));
-    }
-    check_folder(rt, alloc, parts, row, ran.folder)
-}
-
-// Whether the report says that the folder failed.
-fn tells_fault(report: &[u8]) -> bool {
-    report == b"device fault: folder\n".as_slice()
-        || report == b"serving\ndevice fault: folder\n".as_slice()
-}
-
-// A run whose folder failed ends in a device fault, or it is as without the fault but for replies `device fault`.
-fn is_fault_told(alloc: Global, row: &Row<'_>, ran: Ran) -> Result<bool, RowErr> {
-    let mut ran = ran;
-    if ran.status == 4 && tells_fault(ran.report.taken()) {
-        return Ok(true);
-    }
-    Ok(
-        ran.status as u64 == row.status
-            && ran.report.taken() == row.report.as_slice()
-            && compare_replies(alloc, row, &mut ran.workers)? == Likeness::Faulty,
-    )
-}
-
-// Runs a row with each of these calls of its folder failing, before it does anything or after a part of it.
+// Runs a row with each of these calls of its folder failing.
 fn check_each_call<R: Alloc + Files + Threads + Wait + Sync>(
     rt: &R,
     alloc: Global,
@@ -99,29 +46,13 @@ fn check_each_call<R: Alloc + Files + Threads + Wait + Sync>(
     let mut count = 0u64;
     for call in first..end {
         for breaks in [false, true] {
-            let folder = folder_of(rt, alloc, parts, row.folder)?;
-            let calls = vec![in alloc; call]?;
-            let folder = if breaks {
-                folder.breaking_at(calls)
-            } else {
-                folder.failing_at(calls)
-            };
-            let ran = run_row(rt, alloc, row, folder, usize::MAX)?;
-            if !is_fault_told(alloc, row, ran)? {
+            if !check_call(rt, alloc, parts, row, call, breaks)? {
                 return Err(RowErr::Fault(call.saturating_sub(first)));
             }
             count = count.saturating_add(1);
         }
     }
     Ok(count)
-}
-
-// How many calls a run's folder has had, where it was handed back.
-fn call_count(ran: &Ran) -> u64 {
-    match &ran.folder {
-        Some(folder) => folder.call_count(),
-        None => 0,
-    }
 }
 
 // The folder that a row begins with.
@@ -139,6 +70,74 @@ fn first_folder<R: Files + Alloc>(
     }
 }
 
+// Runs a row with one byte at a time.
+fn check_bytes<R: Alloc + Files + Threads + Wait + Sync>(
+    rt: &R,
+    alloc: Global,
+    parts: &str,
+    row: &Row<'_>,
+) -> Result<(), RowErr> {
+    let folder = folder_of(rt, alloc, parts, row.folder)?;
+    let mut ran = run_row(rt, alloc, row, folder, Pieces::BYTES)?;
+    check_run(rt, alloc, parts, row, &mut ran).map(drop)
+}
+
+// The calls of a folder, which has had so many, that fail in a row.
+fn failing_calls(alloc: Global, row: &Row<'_>, first: u64) -> Result<Vec<u64>, AllocError> {
+    let mut failing = Vec::from_slice(alloc, &row.failing.folder)?;
+    for call in failing.iter_mut() {
+        *call = call.saturating_add(first);
+    }
+    Ok(failing)
+}
+
+// The folder that a run leaves, and the calls that it has had before and in the end.
+#[derive(Drop)]
+struct Passed {
+    folder: MemFolder,
+    first: u64,
+    end: u64,
+}
+
+// How many calls a run's folder has had, where it was handed back.
+fn call_count(ran: &Ran) -> u64 {
+    match &ran.folder {
+        Some(folder) => folder.call_count(),
+        None => 0,
+    }
+}
+
+// Compares a run with its row.
+fn compared<R: Files + Alloc>(
+    rt: &R,
+    alloc: Global,
+    parts: &str,
+    row: &Row<'_>,
+    ran: &mut Ran,
+    first: u64,
+) -> Result<Passed, RowErr> {
+    let end = call_count(ran);
+    Ok(Passed {
+        folder: check_run(rt, alloc, parts, row, ran)?,
+        first,
+        end,
+    })
+}
+
+// Runs a row over a folder.
+fn run_over<R: Alloc + Files + Threads + Wait + Sync>(
+    rt: &R,
+    alloc: Global,
+    parts: &str,
+    row: &Row<'_>,
+    folder: MemFolder,
+) -> Result<Passed, RowErr> {
+    let first = folder.call_count();
+    let folder = folder.failing_at(failing_calls(alloc, row, first)?);
+    let mut ran = run_row(rt, alloc, row, folder, Pieces::WHOLE)?;
+    compared(rt, alloc, parts, row, &mut ran, first)
+}
+
 /// Runs a row, also with one byte at a time and with each call of the folder failing, where that is asked. Gives the folder that is left.
 pub(crate) fn check_row<R: Alloc + Files + Threads + Wait + Sync>(
     rt: &R,
@@ -149,23 +148,14 @@ pub(crate) fn check_row<R: Alloc + Files + Threads + Wait + Sync>(
     counts: &mut Counts,
 ) -> Result<MemFolder, RowErr> {
     if row.folder != "=" && row.is_sound() {
-        let folder = folder_of(rt, alloc, parts, row.folder)?;
-        let ran = run_row(rt, alloc, row, folder, 1)?;
-        drop(check_run(rt, alloc, parts, row, ran)?);
+        check_bytes(rt, alloc, parts, row)?;
         counts.runs = counts.runs.saturating_add(1);
     }
     let folder = first_folder(rt, alloc, parts, row, before)?;
-    let calls = folder.call_count();
-    let mut failing = Vec::from_slice(alloc, &row.failing.folder)?;
-    for call in failing.iter_mut() {
-        *call = call.saturating_add(calls);
-    }
-    let ran = run_row(rt, alloc, row, folder.failing_at(failing), usize::MAX)?;
-    let end = call_count(&ran);
-    let folder = check_run(rt, alloc, parts, row, ran)?;
+    let Passed { folder, first, end } = run_over(rt, alloc, parts, row, folder)?;
     counts.runs = counts.runs.saturating_add(1);
     if row.each_call {
-        let count = check_each_call(rt, alloc, parts, row, calls, end)?;
+        let count = check_each_call(rt, alloc, parts, row, first, end)?;
         counts.faulty = counts.faulty.saturating_add(count);
     }
     Ok(folder)

@@ -17,15 +17,10 @@
 #![tactic(auto)]
 
 mod checking;
-mod folders;
-mod plan;
-mod replies;
-mod row;
-mod running;
 mod waiting;
 
 use checking::{Counts, check_row};
-use plan::read_rows;
+use run_tables::{Row, read_rows};
 use std::alloc::Global;
 use std::process::ExitCode;
 use std::rt::Files;
@@ -34,7 +29,30 @@ use std::thread::Threads;
 use std::{fs, io};
 use waiting::check_waiting;
 
-// Runs all rows, and prints those that differ. Gives whether none does.
+// Runs rows, and prints those that differ. Gives whether none does.
+fn check_rows<R: Alloc + Files + Print + Threads + Wait + Sync>(
+    rt: &R,
+    alloc: Global,
+    parts: &str,
+    rows: &[Row<'_>],
+    counts: &mut Counts,
+) -> io::Result<bool> {
+    let mut passed = true;
+    let mut left = None;
+    for row in rows {
+        left = match check_row(rt, alloc, parts, row, left.take(), counts) {
+            Ok(folder) => Some(folder),
+            Err(error) => {
+                println!(rt; "{}: {error}", row.name)?;
+                passed = false;
+                None
+            }
+        };
+    }
+    Ok(passed)
+}
+
+// Runs all rows of a table, and prints those that differ and how many there were. Gives whether none differs.
 fn check_all<R: Alloc + Files + Print + Threads + Wait + Sync>(
     rt: &R,
     alloc: Global,
@@ -48,19 +66,8 @@ fn check_all<R: Alloc + Files + Print + Threads + Wait + Sync>(
             return Ok(false);
         }
     };
-    let mut passed = true;
-    let mut left = None;
     let mut counts = Counts { runs: 0, faulty: 0 };
-    for row in &rows {
-        left = match check_row(rt, alloc, parts, row, left.take(), &mut counts) {
-            Ok(folder) => Some(folder),
-            Err(error) => {
-                println!(rt; "{}: {error}", row.name)?;
-                passed = false;
-                None
-            }
-        };
-    }
+    let passed = check_rows(rt, alloc, parts, &rows, &mut counts)?;
     println!(rt; "runs {}", counts.runs)?;
     println!(rt; "runs with a call that fails {}", counts.faulty)?;
     Ok(passed)

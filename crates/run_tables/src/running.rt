@@ -16,14 +16,39 @@ const SECOND: u32 = 100;
 /// The seed of each worker's random source: RFC 8439's first example of ChaCha20's stream has this key.
 const SEED: [u8; 32] = [0; 32];
 
+/// The most bytes that a stream or a link gives at a read, and takes at a write.
+#[derive(Clone, Copy, Debug, PartialEq, Eq)]
+pub struct Pieces {
+    pub read: usize,
+    pub write: usize,
+}
+
+impl Pieces {
+    /// As many as there is room for.
+    pub const WHOLE: Pieces = Pieces {
+        read: usize::MAX,
+        write: usize::MAX,
+    };
+
+    /// One byte at a time.
+    pub const BYTES: Pieces = Pieces { read: 1, write: 1 };
+}
+
 /// What is left after a run.
 #[derive(Drop)]
-pub(crate) struct Ran {
+pub struct Ran {
     pub status: u8,
     pub folder: Option<MemFolder>,
     pub secret: MemSource,
     pub report: MemSink,
     pub workers: Vec<Worker<MemListener, SeedEntropy>>,
+}
+
+impl Ran {
+    /// Takes out the folder that is left.
+    pub fn take_folder(&mut self) -> Result<MemFolder, RowErr> {
+        self.folder.take().ok_or(RowErr::Differs("folder"))
+    }
 }
 
 fn source(
@@ -48,9 +73,9 @@ fn sink(alloc: Global, failing: &[u64], piece: usize) -> Result<MemSink, AllocEr
     )
 }
 
-fn link(alloc: Global, client: &Client, piece: usize) -> Result<MemLink, AllocError> {
-    let source = source(alloc, &client.sends, &client.failing_reads, piece)?;
-    let sink = sink(alloc, &client.failing_writes, piece)?;
+fn link(alloc: Global, client: &Client, pieces: Pieces) -> Result<MemLink, AllocError> {
+    let source = source(alloc, &client.sends, &client.failing_reads, pieces.read)?;
+    let sink = sink(alloc, &client.failing_writes, pieces.write)?;
     MemLink::new(alloc, source, sink)
 }
 
@@ -59,11 +84,11 @@ fn worker(
     alloc: Global,
     crew: &Crew,
     failing: &[u64],
-    piece: usize,
+    pieces: Pieces,
 ) -> Result<Worker<MemListener, SeedEntropy>, AllocError> {
     let mut links = Vec::new(alloc);
     for client in &crew.clients {
-        links.push(link(alloc, client, piece)?)?;
+        links.push(link(alloc, client, pieces)?)?;
     }
     let listener = MemListener::new(alloc, links).failing_at(Vec::from_slice(
         alloc,
@@ -77,20 +102,20 @@ fn worker(
 fn workers(
     alloc: Global,
     row: &Row<'_>,
-    piece: usize,
+    pieces: Pieces,
 ) -> Result<Vec<Worker<MemListener, SeedEntropy>>, AllocError> {
     let mut workers = Vec::new(alloc);
     if row.crews.is_empty() {
-        workers.push(worker(alloc, &Crew::new(alloc), &row.failing.random, piece)?)?;
+        workers.push(worker(alloc, &Crew::new(alloc), &row.failing.random, pieces)?)?;
     }
     for crew in &row.crews {
-        workers.push(worker(alloc, crew, &row.failing.random, piece)?)?;
+        workers.push(worker(alloc, crew, &row.failing.random, pieces)?)?;
     }
     Ok(workers)
 }
 
 /// Words with a space between each two.
-pub(crate) fn words_of(alloc: Global, line: &str) -> Result<Vec<String>, AllocError> {
+pub fn words_of(alloc: Global, line: &str) -> Result<Vec<String>, AllocError> {
     let mut words = Vec::new(alloc);
     if !line.is_empty() {
         for word in line.split(' ') {
@@ -100,37 +125,56 @@ pub(crate) fn words_of(alloc: Global, line: &str) -> Result<Vec<String>, AllocEr
     Ok(words)
 }
 
-/// Runs a row's job over a folder; streams and links give and take at most a piece of so many bytes at once.
-pub(crate) fn run_row<R: Threads + Wait + Sync>(
+// What a row is run with.
+fn begun(alloc: Global, row: &Row<'_>, pieces: Pieces) -> Result<Ran, AllocError> {
+    let secret = source(alloc, &row.secret, &row.failing.secret, pieces.read)?;
+    let report = sink(alloc, &row.failing.report, pieces.write)?;
+    Ok(Ran {
+        status: 0,
+        folder: None,
+        secret,
+        report,
+        workers: workers(alloc, row, pieces)?,
+    })
+}
+
+// Does the job that words ask for over a folder.
+fn run_words<R: Threads + Wait + Sync>(
     rt: &R,
     alloc: Global,
-    row: &Row<'_>,
+    words: &str,
     folder: MemFolder,
-    piece: usize,
-) -> Result<Ran, RowErr> {
-    let words = words_of(alloc, row.words)?;
-    let mut workers = workers(alloc, row, piece)?;
-    if workers.is_empty() || workers.len() > 64 {
+    ran: &mut Ran,
+) -> Result<(), RowErr> {
+    if ran.workers.is_empty() || ran.workers.len() > 64 {
         return Err(RowErr::Line);
     }
-    let mut secret = source(alloc, &row.secret, &row.failing.secret, piece)?;
-    let mut report = sink(alloc, &row.failing.report, piece)?;
+    let words = words_of(alloc, words)?;
     let ended = run(
         rt,
         alloc,
         &words,
         folder,
-        &mut workers,
-        &mut secret,
-        &mut report,
+        &mut ran.workers,
+        &mut ran.secret,
+        &mut ran.report,
         &SetClock::new(SECOND),
         &OpenGate,
     );
-    Ok(Ran {
-        status: ended.status,
-        folder: ended.folder,
-        secret,
-        report,
-        workers,
-    })
+    ran.status = ended.status;
+    ran.folder = ended.folder;
+    Ok(())
+}
+
+/// Runs a row's job over a folder; streams and links give and take at most pieces of so many bytes at once.
+pub fn run_row<R: Threads + Wait + Sync>(
+    rt: &R,
+    alloc: Global,
+    row: &Row<'_>,
+    folder: MemFolder,
+    pieces: Pieces,
+) -> Result<Ran, RowErr> {
+    let mut ran = begun(alloc, row, pieces)?;
+    run_words(rt, alloc, row.words, folder, &mut ran)?;
+    Ok(ran)
 }

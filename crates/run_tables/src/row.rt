@@ -6,9 +6,12 @@ use std::alloc::{AllocError, AllocFailed, Global};
 use thiserror::Error;
 use vault_path::VaultPath;
 
+/// Most times that digits stand for.
+const MOST_TIMES: u64 = 1 << 17;
+
 /// Why a row doesn't pass.
 #[derive(Debug, Drop, Error)]
-pub(crate) enum RowErr {
+pub enum RowErr {
     #[error("the {0} differs")]
     Differs(&'static str),
     #[error("where call {0} fails, the outcome is neither a device fault nor the one without it")]
@@ -33,16 +36,21 @@ impl<T: Drop> From<AllocFailed<T>> for RowErr {
     }
 }
 
-/// Puts the bytes of a field, which has spaces between some of its digits, behind others.
-pub(crate) fn push_bytes(alloc: Global, bytes: &mut Vec<u8>, field: &str) -> Result<(), RowErr> {
-    for digits in field.split(' ') {
-        bytes.extend_from_slice(&hex::decode(alloc, digits)?)?;
+/// Puts the bytes of a field, which has spaces between some of its digits, behind others. Between spaces, digits with `*` and a number behind
+/// them stand for so many times their bytes.
+pub fn push_bytes(alloc: Global, bytes: &mut Vec<u8>, field: &str) -> Result<(), RowErr> {
+    for part in field.split(' ') {
+        let (digits, times) = part.split_once('*').unwrap_or((part, "1"));
+        let part = hex::decode(alloc, digits)?;
+        for _ in 0..number(times)?.min(MOST_TIMES) {
+            bytes.extend_from_slice(&part)?;
+        }
     }
     Ok(())
 }
 
 /// A field as a number.
-pub(crate) fn number(field: &str) -> Result<u64, RowErr> {
+pub fn number(field: &str) -> Result<u64, RowErr> {
     field.parse::<u64>().map_err(|_| RowErr::Line)
 }
 

@@ -89,8 +89,39 @@ fn bytes_of<R: Files + Alloc>(
     Ok(Some(bytes))
 }
 
+// Puts an entry into a folder.
+fn put_entry<R: Files + Alloc>(
+    rt: &R,
+    alloc: Global,
+    folder: &mut MemFolder,
+    entry: &Entry<'_>,
+) -> Result<(), RowErr> {
+    let at = path(entry.path)?;
+    match bytes_of(rt, alloc, entry)? {
+        None => folder.make_dir(&at)?,
+        Some(bytes) => folder.put(&at, &bytes)?,
+    }
+    Ok(())
+}
+
+// Puts the entries of a part into a folder.
+fn put_part<R: Files + Alloc>(
+    rt: &R,
+    alloc: Global,
+    table: &str,
+    part: &str,
+    folder: &mut MemFolder,
+) -> Result<(), RowErr> {
+    for line in table.lines() {
+        if let Some(entry) = entry_of(line, part)? {
+            put_entry(rt, alloc, folder, &entry)?;
+        }
+    }
+    Ok(())
+}
+
 /// A folder of these parts, whose names have a space between each two; `-` is an empty folder.
-pub(crate) fn folder_of<R: Files + Alloc>(
+pub fn folder_of<R: Files + Alloc>(
     rt: &R,
     alloc: Global,
     table: &str,
@@ -101,17 +132,28 @@ pub(crate) fn folder_of<R: Files + Alloc>(
         return Ok(folder);
     }
     for part in parts.split(' ') {
-        for line in table.lines() {
-            if let Some(entry) = entry_of(line, part)? {
-                match bytes_of(rt, alloc, &entry)? {
-                    None => folder.make_dir(&path(entry.path)?)?,
-                    Some(bytes) => folder.put(&path(entry.path)?, &bytes)?,
-                }
-            }
-        }
+        put_part(rt, alloc, table, part, &mut folder)?;
     }
     folder.sync()?;
     Ok(folder)
+}
+
+// How many entries are in a folder at a path; the folders among them are put behind those that wait.
+fn count_in(
+    alloc: Global,
+    folder: &mut MemFolder,
+    at: &VaultPath,
+    waiting: &mut Vec<VaultPath>,
+) -> Result<u64, RowErr> {
+    let mut count = 0u64;
+    for name in folder.list(alloc, at)? {
+        count = count.saturating_add(1);
+        let inner = at.join(name.as_bytes()).map_err(|_| RowErr::Path)?;
+        if folder.kind(&inner)? == Some(Kind::Dir) {
+            waiting.push(inner)?;
+        }
+    }
+    Ok(count)
 }
 
 // How many entries a folder has, with those of the folders in it.
@@ -123,13 +165,7 @@ fn count_entries(alloc: Global, folder: &mut MemFolder) -> Result<u64, RowErr> {
         let Some(at) = waiting.pop() else {
             break;
         };
-        for name in folder.list(alloc, &at)? {
-            count = count.saturating_add(1);
-            let inner = at.join(name.as_bytes()).map_err(|_| RowErr::Path)?;
-            if folder.kind(&inner)? == Some(Kind::Dir) {
-                waiting.push(inner)?;
-            }
-        }
+        count = count.saturating_add(count_in(alloc, folder, &at, &mut waiting)?);
     }
     Ok(count)
 }
@@ -164,7 +200,7 @@ fn has_entry<R: Files + Alloc>(
 }
 
 /// Whether a folder has the entries of these parts, and no other.
-pub(crate) fn holds<R: Files + Alloc>(
+pub fn holds<R: Files + Alloc>(
     rt: &R,
     alloc: Global,
     table: &str,

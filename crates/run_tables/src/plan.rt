@@ -1,11 +1,11 @@
-// The runs of the table.
+// The rows of a table of runs.
 
 use crate::row::{RowErr, number, push_bytes};
 use std::alloc::{AllocError, Global};
 
 /// A client: what it sends, what it is to be sent, and which calls of its link fail.
 #[derive(Drop)]
-pub(crate) struct Client {
+pub struct Client {
     pub sends: Vec<u8>,
     pub is_sent: Vec<u8>,
     pub failing_reads: Vec<u64>,
@@ -14,14 +14,14 @@ pub(crate) struct Client {
 
 /// A worker: the clients that its listener is to give back, in their order, and which calls for the next one fail.
 #[derive(Drop)]
-pub(crate) struct Crew {
+pub struct Crew {
     pub clients: Vec<Client>,
     pub failing: Vec<u64>,
 }
 
 /// Which calls of an object fail.
 #[derive(Drop)]
-pub(crate) struct Failing {
+pub struct Failing {
     pub folder: Vec<u64>,
     pub secret: Vec<u64>,
     pub random: Vec<u64>,
@@ -30,7 +30,7 @@ pub(crate) struct Failing {
 
 /// A run of the program, and what it is to come to.
 #[derive(Drop)]
-pub(crate) struct Row<'a> {
+pub struct Row<'a> {
     pub name: &'a str,
     /// The folder's parts; `=` for what the run before has left.
     pub folder: &'a str,
@@ -51,7 +51,8 @@ pub(crate) struct Row<'a> {
 }
 
 impl Client {
-    fn new(alloc: Global) -> Client {
+    /// A client that sends nothing, and is sent nothing.
+    pub fn new(alloc: Global) -> Client {
         Client {
             sends: Vec::new(alloc),
             is_sent: Vec::new(alloc),
@@ -63,7 +64,7 @@ impl Client {
 
 impl Crew {
     /// A worker whose listener has no link.
-    pub(crate) fn new(alloc: Global) -> Crew {
+    pub fn new(alloc: Global) -> Crew {
         Crew {
             clients: Vec::new(alloc),
             failing: Vec::new(alloc),
@@ -98,7 +99,8 @@ fn push_line(lines: &mut Vec<u8>, line: &str) -> Result<(), AllocError> {
 }
 
 impl<'a> Row<'a> {
-    fn new(alloc: Global, name: &'a str) -> Row<'a> {
+    /// A run that has a name alone.
+    pub fn new(alloc: Global, name: &'a str) -> Row<'a> {
         Row {
             name,
             folder: "-",
@@ -116,7 +118,7 @@ impl<'a> Row<'a> {
     }
 
     /// Whether no call of an object is to fail.
-    pub(crate) fn is_sound(&self) -> bool {
+    pub fn is_sound(&self) -> bool {
         let mut sound = self.failing.is_empty();
         for crew in &self.crews {
             sound &= crew.failing.is_empty();
@@ -180,7 +182,7 @@ impl<'a> Row<'a> {
 }
 
 /// The runs of a table.
-pub(crate) fn read_rows(alloc: Global, table: &str) -> Result<Vec<Row<'_>>, RowErr> {
+pub fn read_rows(alloc: Global, table: &str) -> Result<Vec<Row<'_>>, RowErr> {
     let mut rows: Vec<Row<'_>> = Vec::new(alloc);
     for line in table.lines() {
         if line.is_empty() || line.starts_with('#') {

@@ -13,7 +13,7 @@ const DEVICE_FAULT: &[u8; 14] = b"\x0c\0device fault";
 
 /// How sent bytes compare with the wanted ones.
 #[derive(Clone, Copy, Debug, PartialEq, Eq)]
-pub(crate) enum Likeness {
+pub enum Likeness {
     /// They are the same.
     Same,
     /// They are the same replies but for some `device fault`.
@@ -77,8 +77,8 @@ fn compare(wanted: &[u8], sent: &[u8]) -> Likeness {
     }
 }
 
-// The links that a listener was given back, in their order.
-fn given_back(alloc: Global, listener: &mut MemListener) -> Result<Vec<MemLink>, AllocError> {
+/// The links that a listener was given back, in their order. The listener then has none of them.
+pub fn given_back(alloc: Global, listener: &mut MemListener) -> Result<Vec<MemLink>, AllocError> {
     let mut links = Vec::new(alloc);
     for _ in 0..u32::MAX {
         match listener.take_back() {
@@ -91,7 +91,7 @@ fn given_back(alloc: Global, listener: &mut MemListener) -> Result<Vec<MemLink>,
 }
 
 /// Compares what the clients of a run were sent, and which they are, with its row.
-pub(crate) fn compare_replies(
+pub fn compare_replies(
     alloc: Global,
     row: &Row<'_>,
     workers: &mut Vec<Worker<MemListener, SeedEntropy>>,

@@ -1,0 +1,191 @@
+// Clients whose messages come in one order.
+
+ghost use Rattle.std.specs.Prelude.{None};
+
+use crate::table::Message;
+use outside::{Failed, Link, Listener};
+use std::alloc::Global;
+use std::sync::atomic::{AtomicU64, Ordering};
+use std::thread;
+
+/// How often a link looks for the replies before its message at most.
+const PATIENCE: u32 = 10_000_000;
+
+/// The message that is given, or a place in the order before it, and how much of it was given.
+#[derive(Clone, Copy, Debug, PartialEq, Eq)]
+struct Place {
+    next: usize,
+    at: usize,
+}
+
+/// A link to a client that sends each of its messages only once all before it in the order were answered, whoever sent them.
+#[derive(Drop)]
+pub(crate) struct OrderedLink<'a> {
+    messages: &'a [Message],
+    // How many of them were answered.
+    answered: &'a AtomicU64,
+    client: usize,
+    place: Place,
+    taken: Vec<u8>,
+    // Where in what was taken the reply under way begins.
+    reply_at: usize,
+    read_faults: u64,
+    write_faults: u64,
+}
+
+impl Place {
+    // The place after so many bytes more, of a message of which so many were left.
+    fn after(self, count: usize, left: usize) -> Place {
+        if count < left {
+            Place {
+                next: self.next,
+                at: self.at.saturating_add(count),
+            }
+        } else {
+            Place {
+                next: self.next.saturating_add(1),
+                at: 0,
+            }
+        }
+    }
+}
+
+// Whether so many messages were answered, as far as patience goes.
+fn were_answered(answered: &AtomicU64, count: usize) -> bool {
+    for _ in 0..PATIENCE {
+        if answered.load(Ordering::SeqCst) >= count as u64 {
+            return true;
+        }
+        thread::yield_now();
+    }
+    false
+}
+
+// Whether a message is whole.
+fn is_whole(message: &[u8]) -> bool {
+    match message.first_chunk::<4>() {
+        Some(size) => u32::from_le_bytes(*size) as usize <= message.len(),
+        None => false,
+    }
+}
+
+// The next message of a client, from a place in the order on.
+fn next_of(messages: &[Message], client: usize, from: usize) -> Option<(usize, &Message)> {
+    for (index, message) in messages.iter().enumerate().skip(from) {
+        if message.client == client {
+            return Some((index, message));
+        }
+    }
+    None
+}
+
+impl<'a> OrderedLink<'a> {
+    pub(crate) fn new(
+        alloc: Global,
+        messages: &'a [Message],
+        answered: &'a AtomicU64,
+        client: usize,
+    ) -> OrderedLink<'a> {
+        OrderedLink {
+            messages,
+            answered,
+            client,
+            place: Place { next: 0, at: 0 },
+            taken: Vec::new(alloc),
+            reply_at: 0,
+            read_faults: 0,
+            write_faults: 0,
+        }
+    }
+
+    // Whether what was taken ends with a whole reply that isn't counted yet.
+    fn has_reply(&self) -> bool {
+        match self.taken.get(self.reply_at..) {
+            Some(reply) => is_whole(reply),
+            None => false,
+        }
+    }
+}
+
+impl<'a> Link for OrderedLink<'a> {
+    ghost left = { λ _. None };
+
+    ghost taken = { λ _. None };
+
+    ghost read_faults = { λ link. link.read_faults };
+
+    ghost write_faults = { λ link. link.write_faults };
+
+    fn read(&mut self, out: &mut [u8]) -> Result<usize, Failed> {
+        let Some((next, message)) = next_of(self.messages, self.client, self.place.next) else {
+            return Ok(0);
+        };
+        if self.place.at == 0 && !were_answered(self.answered, next) {
+            self.read_faults = self.read_faults.saturating_add(1);
+            return Err(Failed);
+        }
+        let rest = message.sends.get(self.place.at..).unwrap_or(&[]);
+        let count = out.len().min(rest.len());
+        out[..count].copy_from_slice(&rest[..count]);
+        let place = Place {
+            next,
+            at: self.place.at,
+        };
+        self.place = place.after(count, rest.len());
+        Ok(count)
+    }
+
+    fn write(&mut self, piece: &[u8]) -> Result<usize, Failed> {
+        if self.taken.extend_from_slice(piece).is_err() {
+            self.write_faults = self.write_faults.saturating_add(1);
+            return Err(Failed);
+        }
+        if self.has_reply() {
+            self.reply_at = self.taken.len();
+            self.answered.fetch_add(1, Ordering::SeqCst);
+        }
+        Ok(piece.len())
+    }
+}
+
+/// Gives one link, and keeps it once it was given back.
+#[derive(Drop)]
+pub(crate) struct OrderedListener<'a> {
+    coming: Option<OrderedLink<'a>>,
+    returned: Option<OrderedLink<'a>>,
+}
+
+impl<'a> OrderedListener<'a> {
+    pub(crate) fn new(link: OrderedLink<'a>) -> OrderedListener<'a> {
+        OrderedListener {
+            coming: Some(link),
+            returned: None,
+        }
+    }
+
+    /// What the client was sent, where its link was given back.
+    pub(crate) fn taken(&self) -> Option<&[u8]> {
+        match &self.returned {
+            Some(link) => Some(&link.taken),
+            None => None,
+        }
+    }
+}
+
+impl<'a> Listener for OrderedListener<'a> {
+    type Conn = OrderedLink<'a>;
+
+    ghost to_come = { λ _. None };
+
+    ghost given_back = { λ _. None };
+
+    ghost faults = { λ _. 0 };
+
+    fn next(&mut self) -> Result<Option<OrderedLink<'a>>, Failed> {
+        Ok(self.coming.take())
+    }
+
+    fn back(&mut self, link: OrderedLink<'a>) {
+        self.returned = Some(link);
+    }
+}

@@ -1,0 +1,160 @@
+// Serving two clients whose messages come in one order.
+
+use crate::link::{OrderedLink, OrderedListener};
+use crate::look::zero_keys;
+use crate::table::{Message, replies_to};
+use outside_mem::{MemFolder, MemSink, MemSource, OpenGate, SeedEntropy, SetClock};
+use run_tables::{RowErr, words_of};
+use std::alloc::{AllocError, Global};
+use std::sync::Wait;
+use std::sync::atomic::AtomicU64;
+use std::thread::Threads;
+use vault_top::{Worker, run};
+
+/// How many clients there are.
+const CLIENTS: usize = 2;
+
+const WORDS: &str = "serve v --listen 127.0.0.1:564 --sessions 2 --at-once 2 --raw-key";
+
+/// The second that the clock stands at.
+const SECOND: u32 = 100;
+
+/// How the program ended.
+#[derive(Clone, Copy, Debug, PartialEq, Eq)]
+pub(crate) enum Ending {
+    /// Both sessions are done.
+    Done,
+    /// The folder failed before a session was served.
+    Unopened,
+    /// The folder failed in a commit.
+    Broken,
+    Other,
+}
+
+/// What is left after messages were served.
+#[derive(Drop)]
+pub(crate) struct Served {
+    pub ending: Ending,
+    pub folder: MemFolder,
+    /// Whether each client was sent the replies to its messages, and nothing else.
+    pub as_told: bool,
+}
+
+// A worker for each client.
+fn workers_of<'a>(
+    alloc: Global,
+    messages: &'a [Message],
+    answered: &'a AtomicU64,
+) -> Result<Vec<Worker<OrderedListener<'a>, SeedEntropy>>, AllocError> {
+    let mut workers = Vec::new(alloc);
+    for client in 0..CLIENTS {
+        let link = OrderedLink::new(alloc, messages, answered, client);
+        workers.push(Worker {
+            listener: OrderedListener::new(link),
+            entropy: SeedEntropy::from_seed(alloc, [client as u8; 32]),
+        })?;
+    }
+    Ok(workers)
+}
+
+// Whether each client was sent the replies to its messages.
+fn are_told(
+    alloc: Global,
+    messages: &[Message],
+    workers: &[Worker<OrderedListener<'_>, SeedEntropy>],
+) -> Result<bool, AllocError> {
+    for (client, worker) in workers.iter().enumerate() {
+        let replies = replies_to(alloc, messages, client)?;
+        if worker.listener.taken() != Some(replies.as_slice()) {
+            return Ok(false);
+        }
+    }
+    Ok(true)
+}
+
+// How the program ended, by its status and its report.
+fn ending_of(status: u8, report: &[u8]) -> Ending {
+    if status == 0
+        && report
+            == b"serving\nsessions 2 done 2 cut 0 bad 0 read 0 write 0 memory 0 limit 0\n".as_slice()
+    {
+        Ending::Done
+    } else if status == 4 && report == b"serving\ndevice fault: folder\n".as_slice() {
+        Ending::Broken
+    } else if status == 4 && report == b"device fault: folder\n".as_slice() {
+        Ending::Unopened
+    } else {
+        Ending::Other
+    }
+}
+
+// Runs the program with these words.
+fn run_words<R: Threads + Wait + Sync>(
+    rt: &R,
+    alloc: Global,
+    words: &[String],
+    folder: MemFolder,
+    workers: &mut Vec<Worker<OrderedListener<'_>, SeedEntropy>>,
+    secret: Vec<u8>,
+) -> Result<(MemFolder, Ending), RowErr> {
+    if workers.is_empty() || workers.len() > 64 {
+        return Err(RowErr::Line);
+    }
+    let mut report = MemSink::new(alloc);
+    let ended = run(
+        rt,
+        alloc,
+        words,
+        folder,
+        workers,
+        &mut MemSource::new(alloc, secret),
+        &mut report,
+        &SetClock::new(SECOND),
+        &OpenGate,
+    );
+    let ending = ending_of(ended.status, report.taken());
+    match ended.folder {
+        Some(folder) => Ok((folder, ending)),
+        None => Err(RowErr::Differs("folder")),
+    }
+}
+
+// Runs the program over workers, and gives the folder and how it ended.
+fn run_workers<R: Threads + Wait + Sync>(
+    rt: &R,
+    alloc: Global,
+    folder: MemFolder,
+    workers: &mut Vec<Worker<OrderedListener<'_>, SeedEntropy>>,
+) -> Result<(MemFolder, Ending), RowErr> {
+    let words = words_of(alloc, WORDS)?;
+    let secret = zero_keys(alloc)?;
+    run_words(rt, alloc, &words, folder, workers, secret)
+}
+
+// Serves messages to their end.
+fn served_by<R: Threads + Wait + Sync>(
+    rt: &R,
+    alloc: Global,
+    messages: &[Message],
+    folder: MemFolder,
+    workers: &mut Vec<Worker<OrderedListener<'_>, SeedEntropy>>,
+) -> Result<Served, RowErr> {
+    let (folder, ending) = run_workers(rt, alloc, folder, workers)?;
+    Ok(Served {
+        ending,
+        folder,
+        as_told: are_told(alloc, messages, workers)?,
+    })
+}
+
+/// Serves the clients' messages over the vault in a folder.
+pub(crate) fn serve<R: Threads + Wait + Sync>(
+    rt: &R,
+    alloc: Global,
+    messages: &[Message],
+    folder: MemFolder,
+) -> Result<Served, RowErr> {
+    let answered = AtomicU64::new(0);
+    let mut workers = workers_of(alloc, messages, &answered)?;
+    served_by(rt, alloc, messages, folder, &mut workers)
+}

@@ -1,0 +1,163 @@
+// What each stop of a run may leave.
+
+use crate::look::Looks;
+use crate::orders::{bare_vault, calls_before, last_state};
+use crate::serving::serve;
+use crate::table::Message;
+use crate::tally::Tally;
+use outside_mem::MemFolder;
+use run_tables::RowErr;
+use std::alloc::{AllocError, Global};
+use std::rt::Files;
+use std::sync::Wait;
+use std::thread::Threads;
+
+/// Most images of a stop that are looked at.
+const MOST_IMAGES: usize = 64;
+
+/// More calls than a run makes behind the one at which it is stopped.
+const MOST_CALLS: u64 = 256;
+
+/// From which number of the folder's calls on no stop undoes a state.
+#[derive(Clone, Copy, Debug, PartialEq, Eq)]
+struct Moment {
+    calls: u64,
+    state: usize,
+}
+
+/// The states of which a stop at a call leaves one.
+#[derive(Clone, Copy, Debug, PartialEq, Eq)]
+struct Kept {
+    call: u64,
+    least: usize,
+    most: usize,
+}
+
+// The moments at which a message was answered that no stop undoes.
+fn moments_of<R: Alloc + Files + Threads + Wait + Sync>(
+    rt: &R,
+    alloc: Global,
+    parts: &str,
+    messages: &[Message],
+) -> Result<Vec<Moment>, RowErr> {
+    let mut moments = Vec::new(alloc);
+    for (index, message) in messages.iter().enumerate() {
+        if message.stable {
+            let begun = messages.get(..=index).ok_or(RowErr::Line)?;
+            moments.push(Moment {
+                calls: calls_before(rt, alloc, parts, begun)?.all,
+                state: message.leaves,
+            })?;
+        }
+    }
+    Ok(moments)
+}
+
+// The last state that no stop undoes after so many calls.
+fn kept_after(moments: &[Moment], calls: u64) -> usize {
+    let mut state = 0;
+    for moment in moments {
+        if moment.calls <= calls {
+            state = moment.state;
+        }
+    }
+    state
+}
+
+// A folder that is stopped at a call, before it does anything or after a part of it.
+fn stopped_at(
+    alloc: Global,
+    folder: MemFolder,
+    call: u64,
+    breaks: bool,
+) -> Result<MemFolder, AllocError> {
+    let mut failing = Vec::new(alloc);
+    for further in 0..MOST_CALLS {
+        failing.push(call.saturating_add(further))?;
+    }
+    let folder = folder.failing_at(failing);
+    if breaks {
+        return Ok(folder.breaking_at(vec![in alloc; call]?));
+    }
+    Ok(folder)
+}
+
+// The folder that messages leave where it is stopped at a call.
+fn serve_stopped<R: Alloc + Files + Threads + Wait + Sync>(
+    rt: &R,
+    alloc: Global,
+    parts: &str,
+    messages: &[Message],
+    call: u64,
+    breaks: bool,
+) -> Result<MemFolder, RowErr> {
+    let folder = stopped_at(alloc, bare_vault(rt, alloc, parts)?, call, breaks)?;
+    Ok(serve(rt, alloc, messages, folder)?.folder)
+}
+
+// Looks at each image of a folder that was stopped at a call.
+fn look_at_images<R: Threads + Wait + Sync>(
+    rt: &R,
+    alloc: Global,
+    folder: &MemFolder,
+    looks: &Looks,
+    kept: Kept,
+    tally: &mut Tally,
+) -> Result<(), RowErr> {
+    for image in folder.images(MOST_IMAGES)? {
+        let outcome = looks.check(rt, alloc, image, kept.least, kept.most);
+        tally.add("a stop", "call", kept.call, outcome)?;
+    }
+    Ok(())
+}
+
+// The first call of the folder of a run, and how many it has had in the end.
+fn calls_of<R: Alloc + Files + Threads + Wait + Sync>(
+    rt: &R,
+    alloc: Global,
+    parts: &str,
+    messages: &[Message],
+) -> Result<(u64, u64), RowErr> {
+    let first = bare_vault(rt, alloc, parts)?.call_count();
+    let end = calls_before(rt, alloc, parts, messages)?.all;
+    Ok((first, end))
+}
+
+// Stops a run at a call.
+fn look_at_stop<R: Alloc + Files + Threads + Wait + Sync>(
+    rt: &R,
+    alloc: Global,
+    parts: &str,
+    messages: &[Message],
+    looks: &Looks,
+    kept: Kept,
+    tally: &mut Tally,
+) -> Result<(), RowErr> {
+    for breaks in [false, true] {
+        let folder = serve_stopped(rt, alloc, parts, messages, kept.call, breaks)?;
+        look_at_images(rt, alloc, &folder, looks, kept, tally)?;
+    }
+    Ok(())
+}
+
+/// Stops a run at each call of the folder, and behind the last: each image has the state that no stop undoes at that moment, or a later one.
+pub(crate) fn look_at_stops<R: Alloc + Files + Threads + Wait + Sync>(
+    rt: &R,
+    alloc: Global,
+    parts: &str,
+    messages: &[Message],
+    looks: &Looks,
+    tally: &mut Tally,
+) -> Result<(), RowErr> {
+    let (first, end) = calls_of(rt, alloc, parts, messages)?;
+    let moments = moments_of(rt, alloc, parts, messages)?;
+    for call in first..=end {
+        let kept = Kept {
+            call,
+            least: kept_after(&moments, call),
+            most: last_state(messages),
+        };
+        look_at_stop(rt, alloc, parts, messages, looks, kept, tally)?;
+    }
+    Ok(())
+}
