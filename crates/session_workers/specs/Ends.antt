@@ -1,5 +1,5 @@
 -- How sessions ended, and how many of them so.
-use Rattle.std.specs.Prelude.{◌≡◌, ℕ, List, length, Bool, true, false, filter}
+use Rattle.std.specs.Prelude.{◌≡◌, ℕ, ◌+◌, ◌<◌, ◌^◌, List, length, Bool, true, false, filter}
 use Rattle.session_server.specs.declared.ending.SessionEnd.{SessionEnd}
 use Rattle.session_server.specs.declared.ending.SessionEnd.TheVariants as ends
 use Rattle.session_workers.specs.declared.counts.SessionCounts.{SessionCounts}
@@ -45,3 +45,11 @@ pub record AreCounts (counts : SessionCounts) (ends : List SessionEnd) : Type 0 
   pub write : counts.write ≡ count_of is_write_fault ends
   pub memory : counts.memory ≡ count_of is_memory ends
   pub limit : counts.limit ≡ count_of is_limit ends
+
+-- both count the ends of some sessions, of which there are fewer than 2^32 together
+pub record CanAdd (counts others : SessionCounts) : Type 0 where
+  pub ends : List SessionEnd
+  pub other_ends : List SessionEnd
+  pub counted : AreCounts counts ends
+  pub others_counted : AreCounts others other_ends
+  pub few : length ends + length other_ends < 2 ^ 32

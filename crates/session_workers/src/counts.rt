@@ -17,7 +17,7 @@ pub struct SessionCounts {
 impl SessionCounts {
     ghost use Rattle.std.specs.Prelude.{◌<◌, ◌+◌, ◌^◌, ◌∷◌, ◌++◌, [], List, length};
     ghost use Rattle.session_server.specs.declared.ending.SessionEnd as ends;
-    ghost use Rattle.session_workers.specs.Ends.{AreCounts};
+    ghost use Rattle.session_workers.specs.Ends.{AreCounts, CanAdd};
 
     /// Counts one session more. There are fewer than 2^32 of them.
     pub fn add(&mut self, end: SessionEnd)
@@ -38,8 +38,7 @@ impl SessionCounts {
 
     /// Counts those that others counted. Together there are fewer than 2^32 of them.
     pub fn add_all(&mut self, others: &SessionCounts)
-        requires { (before : List ends.SessionEnd) × (more : List ends.SessionEnd) × AreCounts self.old before × AreCounts others.now more
-            × (length before + length more < 2 ^ 32) }
+        requires { CanAdd self.old others.now }
         ensures { (before : List ends.SessionEnd) (more : List ends.SessionEnd) → AreCounts self.old before → AreCounts others.now more
             → AreCounts self.new (before ++ more) }
     {

@@ -48,7 +48,7 @@ fn serve_crew<N: Listener, B: TreeObject, K: Clock>(
 }
 
 // All workers serve their shares, each in a thread of its own where one can be made.
-fn serve_all<R: Threads + Sync, N: Listener + Send, B: TreeObject + Send, K: Clock + Sync>(
+fn serve_crews<R: Threads + Sync, N: Listener + Send, B: TreeObject + Send, K: Clock + Sync>(
     rt: &R,
     alloc: Global,
     sessions: u32,
@@ -113,6 +113,6 @@ where
         (link_view N.Conn.left N.Conn.taken N.Conn.read_faults N.Conn.write_faults) (K.second clock.now)
         sessions at_once crews.old crews.new result }
 {
-    serve_all(rt, alloc, sessions, at_once, crews, clock);
+    serve_crews(rt, alloc, sessions, at_once, crews, clock);
     all_counts(crews)
 }

@@ -15,10 +15,11 @@ use Rattle.chunk_journal.proofs.Found.{opening_keeps, stays_found, opened_alike}
 use Rattle.pending_files.specs.Laid.{CanWait, LookAlike, laid}
 use Rattle.pending_files.proofs.Laying.{none_waits}
 use Rattle.tree_model.specs.Rows.{Content, bad_size, Rows}
+use Rattle.tree_model.specs.Step.{node_limit}
 use Rattle.tree_history.specs.History.{Origin}
 use Rattle.clear_tree.specs.Walk.{Sealing, Node}
 use Rattle.clear_tree.specs.Places.{entry_at}
-use Rattle.clear_tree.specs.Kept.{KeptTree, IsKept, TellsRows, is_absent, long_in, long_by, tree_rows}
+use Rattle.clear_tree.specs.Kept.{KeptNode, KeptTree, IsKept, TellsRows, is_absent, long_in, long_by, rows_from, tree_rows}
 use Rattle.clear_tree.specs.Rows.{IsClear}
 use Rattle.clear_tree.proofs.Keeping.{keeping_tells_rows}
 use Rattle.directory_scan.specs.Format.{sealing_of}
@@ -84,6 +85,11 @@ recovered_tree : (disk found : Disk) → IsTree disk → RecoversTo disk found �
 recovered_tree disk found tree (inl shut) = subst IsTree (sym shut.1) tree
 recovered_tree disk found tree (inr (deeds, held, run)) = tree_run (in_order deeds) disk found tree run
 
+-- a row for each node that is kept
+count_rows : (contents : ℕ → Content) (unlocked number : ℕ) (nodes : List KeptNode) → length (rows_from contents unlocked number nodes) ≡ length nodes
+count_rows contents unlocked number [] = refl
+count_rows contents unlocked number (node ∷ nodes) = ap suc (count_rows contents unlocked (suc number) nodes)
+
 -- ---- what was loaded
 
 reopenable : (disk : Disk) → IsSoundlyFound disk → IsReopenable disk
@@ -92,7 +98,7 @@ reopenable disk sound = record { repeatable = sound.repeatable; no_folder = λ i
 pub stays_soundly : (old new : Log) → StaysOpening old new → IsSoundlyFound (now old) → StaysFound old new
 stays_soundly old new stays sound = stays_found old new stays (reopenable (now old) sound)
 
-module _ (unlocked : ℕ) (kept : KeptTree) (store : StoreView) (live_is : store.live ≡ loaded_tree unlocked kept) (claimed : AreClaimsOf (sealing_of store.keys) store.live store.claims) (idle : store.waiting ≡ []) where
+module _ (unlocked : ℕ) (kept : KeptTree) (store : StoreView) (live_is : store.live ≡ loaded_tree unlocked kept) (claimed : AreClaimsOf (sealing_of store.keys) store.live store.claims) (idle : store.waiting ≡ []) (few : length kept.nodes ≤ node_limit) where
   abbrev s : Sealing
   s = sealing_of store.keys
 
@@ -174,6 +180,7 @@ module _ (unlocked : ℕ) (kept : KeptTree) (store : StoreView) (live_is : store
           found = opened.disk;
           recovers = opened.recovers;
           clear = clear_beside s (now new) opened.disk unlocked (rows_of tells.contents) (tells.clear unlocked) host found (λ q not_journal not_new. sym (opened.alike q not_journal not_new));
+          few = subst (λ (n : ℕ). n ≤ node_limit) (sym (count_rows tells.contents unlocked 0 kept.nodes)) few;
         };
         stands = λ origin at. record {
           state = λ opened_at from. subst (λ (w : List PlainDeed). IsRunning Shows opened_at (rows_of tells.contents) [] w new) (sym idle) (running origin at opened_at from);
@@ -215,12 +222,12 @@ module _ (unlocked : ℕ) (kept : KeptTree) (store : StoreView) (live_is : store
 
 opened_own : (before after : FolderView) (unlocked : ℕ) (kept : KeptTree) (store : StoreView) → HasBeenOpened before store.keys unlocked kept store after → IsOpened before store.keys unlocked store after
 opened_own before after unlocked kept store is =
-    let begun = begins_told unlocked kept store is.live is.claims is.idle before.log after.log is.opened is.any_moment is.loaded in
+    let begun = begins_told unlocked kept store is.live is.claims is.idle is.few before.log after.log is.opened is.any_moment is.loaded in
     record {
       keys_are = refl;
       rows = begun.rows;
       clear = begun.clear;
-      stands = λ origin faults at. begins_store unlocked kept store is.live is.claims is.idle before after begun is.opened is.running is.none origin faults at;
+      stands = λ origin faults at. begins_store unlocked kept store is.live is.claims is.idle is.few before after begun is.opened is.running is.none origin faults at;
     }
 
 pub openings_stand : OpeningsStand

@@ -1,5 +1,5 @@
 -- How a store's history begins, and what its end leaves.
-use Rattle.std.specs.Prelude.{◌≡◌, ℕ, ◌≤◌, List, [], Option, IsNone}
+use Rattle.std.specs.Prelude.{◌≡◌, ℕ, ◌≤◌, List, [], length, Option, IsNone}
 use Rattle.outside.specs.Calls.{Changes, Told}
 use Rattle.outside.specs.Disk.{Disk}
 use Rattle.outside.specs.Images.{Log, log_at, now}
@@ -8,6 +8,7 @@ use Rattle.siv_mode.specs.Keys.{KeyPair}
 use Rattle.chunk_journal.specs.Journal.{AnyMoment, RecoversTo}
 use Rattle.chunk_journal.specs.Opening.{HasOpened, IsOpening, StaysOpening}
 use Rattle.tree_model.specs.Rows.{Rows}
+use Rattle.tree_model.specs.Step.{node_limit}
 use Rattle.tree_history.specs.History.{Entry, Origin, tally_of}
 use Rattle.clear_tree.specs.Kept.{KeptTree, IsKept}
 use Rattle.directory_scan.specs.Format.{sealing_of}
@@ -18,11 +19,12 @@ use Rattle.stop_history.specs.Prefix.{StopsRecover, BeginningRecovers, IsWhole}
 use Rattle.stop_history.specs.Opening.{IsSoundlyFound, OpeningRecovers}
 use Rattle.store_history.specs.Store.{StoreView, ArePlaced, IsSaidFrom, IsStoreOf, LogGoesOn, moment_of, shows_under}
 
--- the rows of what a found disk recovers to, of a vault that is unlocked at this second
+-- the rows of what a found disk recovers to, of a vault that is unlocked at this second; there are no more of them than a tree may have nodes
 pub record IsFoundClear (keys : KeyPair) (disk : Disk) (unlocked : ℕ) (rows : Rows) : Type 0 where
   pub found : Disk
   pub recovers : RecoversTo disk found
   pub clear : IsClear keys found unlocked rows
+  pub few : length rows.nodes ≤ node_limit
 
 -- A store as it was opened over a folder: it stands for no entries yet, from the rows on of what the folder recovers to, and from any counts on
 -- that are no higher than its folder's and at its moment.
@@ -44,6 +46,7 @@ pub record HasBeenOpened (before : FolderView) (keys : KeyPair) (unlocked : ℕ)
   pub opened : Changes before.log after.log HasOpened
   pub any_moment : Changes before.log after.log IsOpening
   pub loaded : Told after.log (λ log. IsKept (sealing_of keys) (now log) kept)
+  pub few : length kept.nodes ≤ node_limit
 
 abbrev pub OpeningsStand : Type 0
 OpeningsStand = (before after : FolderView) (keys : KeyPair) (unlocked : ℕ) (kept : KeptTree) (store : StoreView)

@@ -42,10 +42,7 @@ pub fn open_masterkey_file(
     let Some(bytes) = file_bytes(found) else {
         return Err(UnlockErr::NoMasterkeyFile);
     };
-    match masterkey_file::read(alloc, bytes, password) {
-        Ok(keys) => Ok(keys),
-        Err(error) => Err(UnlockErr::from(error)),
-    }
+    Ok(masterkey_file::read(alloc, bytes, password)?)
 }
 
 /// The keys with the threshold that the vault file says under them. The errors are `NoVaultFile`, `VaultFile` and `Memory`.

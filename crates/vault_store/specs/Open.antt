@@ -1,8 +1,9 @@
 -- An open vault as clauses see it.
-use Rattle.std.specs.Prelude.{◌≡◌, ℕ, ◌≤◌, suc, List, [], Option, Some, None, IsNone}
+use Rattle.std.specs.Prelude.{◌≡◌, ℕ, ◌≤◌, suc, List, [], length, Option, Some, None, IsNone}
 use Rattle.outside.specs.Calls.{Told}
 use Rattle.outside.specs.Images.{Log, now}
 use Rattle.deeds.specs.Deeds.{PlainDeed}
+use Rattle.tree_model.specs.Step.{node_limit}
 use Rattle.siv_mode.specs.Keys.{KeyPair}
 use Rattle.clear_tree.specs.Kept.{KeptTree, IsKept}
 use Rattle.directory_scan.specs.Format.{sealing_of}
@@ -26,7 +27,7 @@ view_of tree waiting entries stopped = record { keys = tree.keys; live = tree.li
 abbrev pub running : KeyPair → HeldTree → List (List ℕ × ℕ) → ℕ → StoreView
 running keys live claims entries = record { keys = keys; live = live; claims = claims; waiting = []; entries = entries; stopped = None }
 
--- what was kept of a disk, in memory
+-- what was kept of a disk, which has no more nodes than a tree may have, in memory
 pub record IsLoadedTree (keys : KeyPair) (unlocked threshold : ℕ) (log : Option Log) (tree : VaultTree) : Type 0 where
   pub keys_are : tree.keys ≡ keys
   pub threshold_is : tree.threshold ≡ threshold
@@ -34,6 +35,7 @@ pub record IsLoadedTree (keys : KeyPair) (unlocked threshold : ℕ) (log : Optio
   pub live : tree.live ≡ loaded_tree unlocked kept
   pub claims : AreClaimsOf (sealing_of keys) tree.live tree.claims
   pub loaded : Told log (λ log. IsKept (sealing_of keys) (now log) kept)
+  pub few : length kept.nodes ≤ node_limit
 
 -- a vault whose names have places by this threshold, and that is at rest between requests, until a commit fails
 pub record IsResting (log : Option Log) (threshold : ℕ) (store : StoreView) : Type 0 where

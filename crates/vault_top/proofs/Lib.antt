@@ -16,3 +16,5 @@ pub mod SoundMaking
 pub mod Demonstrations
 pub mod SoundDemo
 pub mod SoundWords
+pub mod SoundServing
+pub mod SoundStatus

@@ -26,13 +26,11 @@ use Rattle.vault_causes.specs.Causes.{of_refusal, of_unlock}
 use Rattle.vault_causes.specs.declared.cause.Cause.{Cause}
 use Rattle.vault_causes.specs.declared.cause.Cause.TheVariants.{Memory}
 use Rattle.vault_top.specs.Words.{Ask, kind_of}
-use Rattle.vault_top.specs.Span.{Course, SourceView, SinkView, Views, Span, span_of, Given, IsOnlyRead}
+use Rattle.vault_top.specs.Span.{Views, Span, Given, IsOnlyRead}
 use Rattle.vault_top.specs.Served.{Share, HasHistory}
 use Rattle.vault_top.specs.Opening.{IsLocked, IsClosedBy, FailsToUnlock, FailsToOpen, of_opening}
-use Rattle.vault_top.specs.Ending.{Ending, refused, usage_said, version_said, made, no_memory_to_serve, served, listener_fault, closing_fault, no_memory_to_report, demonstrated, FailsAtTheEnd, IsRefused, HasReason, status_of, stopped_in}
-use Rattle.vault_top.specs.Sound.{IsVaultFor, IsSound, IsSoundRun, IsFaultless, IsServedOrFull}
-use Rattle.shared_sessions.specs.declared.workers.Worker.{Worker}
-use Rattle.vault_top.specs.declared.program.Ended.{Ended}
+use Rattle.vault_top.specs.Ending.{Ending, refused, usage_said, version_said, made, no_memory_to_serve, served, listener_fault, closing_fault, no_memory_to_report, demonstrated, FailsAtTheEnd, IsRefused, HasReason, stopped_in}
+use Rattle.vault_top.specs.Sound.{IsVaultFor, IsSound, IsFaultless, IsServedOrFull}
 use Rattle.vault_top.proofs.Asked.{one_job, not_refused}
 use Rattle.vault_top.proofs.Faults.{faults_rise, rose_within, stopped_rose}
 
@@ -168,28 +166,3 @@ sound views span (closing_fault ends) is faultless h =
 sound views span (no_memory_to_report ends) is faultless h = tt
 sound views span (demonstrated text) is faultless h =
     let e : demo h.demonstration ≡ serve is.serving = one_job span.words (serve is.serving) (demo h.demonstration) is.words h.words.asks in absurd cc
-
--- ---- the status
-
--- that of a vault that was served is 0, and where memory ran out it is 5
-status_in : (ending : Ending) → IsServedOrFull ending → (status_of ending ≡ 0) ⊎ (status_of ending ≡ 5)
-status_in (refused cause) h = inr (subst (λ (c : Cause). status_of (refused c) ≡ 5) (sym h) refl)
-status_in usage_said h = absurd h
-status_in version_said h = absurd h
-status_in made h = absurd h
-status_in no_memory_to_serve h = inr refl
-status_in (served ends) h = inl refl
-status_in (listener_fault ends) h = absurd h
-status_in (closing_fault ends) h = absurd h
-status_in (no_memory_to_report ends) h = inr refl
-status_in (demonstrated text) h = absurd h
-
-pub sound_status : {D N C E : Type 0} (views : Views D N C E) (words : List Text) (secret : Course SourceView) (second : Option ℕ) (folder : D) (workers workers' : List (Worker N E)) (sink : Course SinkView) (ended : Ended D)
-    → IsSoundRun views words secret second folder workers workers' sink ended → (ended.status ≡ 0) ⊎ (ended.status ≡ 5)
-sound_status views words secret second folder workers workers' sink ended is =
-    let span = span_of views words secret second folder is.run.kept workers workers' in
-    let good = status_in is.run.ending (sound views span is.run.ending is.sound is.faultless is.run.reason) in
-    elim is.run.reported [
-      | inl whole ↦ subst (λ (s : ℕ). (s ≡ 0) ⊎ (s ≡ 5)) (sym whole.0) good
-      | inr part ↦ absurd (is.written part.0)
-    ]

@@ -1,15 +1,24 @@
--- What the program is given that is sound, and that nothing failed. To serve, the words ask for it, and secret and disk are told, of which
+-- What the program is given that is sound, that nothing failed, and what it comes to. To serve, the words ask for it, and secret and disk are told, of which
 -- the one unlocks the other; to make, the words ask for it, and the secret has a password and the folder is empty, both told.
 use Rattle.std.specs.Prelude.{◌≡◌, ◌⊎◌, ℕ, List, [], ◌∷◌, Option, Some, Ok, IsSome, IsSomeAnd, ⊤}
+use Rattle.std.specs.List.{AllByRecursion}
 use Rattle.outside.specs.Calls.{Rose}
 use Rattle.outside.specs.Disk.{Disk, IsFolder}
 use Rattle.outside.specs.Images.{now, disk_in}
+use Rattle.outside.specs.Views.{LinkView}
+use Rattle.siv_mode.specs.Keys.{KeyPair}
+use Rattle.tree_history.specs.Laws.{AreStepped}
+use Rattle.session_server.specs.declared.ending.SessionEnd.{SessionEnd}
+use Rattle.session_server.specs.declared.ending.SessionEnd.TheVariants as ends
+use Rattle.session_server.specs.Served.{ServedLink}
+use Rattle.session_server.specs.Whole.{IsWhole}
+use Rattle.session_server.specs.Whole as links
 use Rattle.clap.specs.Words.{Text}
 use Rattle.masterkey_file.specs.Password.{password_of}
 use Rattle.vault_keys.specs.Unlock.{UnlockedVault}
 use Rattle.vault_unlock.specs.Unlock.{unlock_on}
 use Rattle.vault_unlock.specs.declared.unlocking.SecretKind.{SecretKind}
-use Rattle.vault_words.specs.Jobs.{Serving, serve, make}
+use Rattle.vault_words.specs.Jobs.{Serving, Demonstration, serve, make, demo}
 use Rattle.chunk_journal.specs.Journal.{IsAlike, RecoversTo}
 use Rattle.chunk_journal.specs.Opening.{IsDamagedAt, LeavesFolder}
 use Rattle.vault_make.specs.Vault.{IsEmpty}
@@ -17,7 +26,8 @@ use Rattle.tree_loading.specs.Clear.{HasTooMany, root_folder}
 use Rattle.vault_causes.specs.declared.cause.Cause.TheVariants.{Words, Memory}
 use Rattle.vault_top.specs.Words.{Ask, kind_of}
 use Rattle.vault_top.specs.Span.{Course, SourceView, SinkView, Views, WorkerSpan, Span, span_of}
-use Rattle.vault_top.specs.Ending.{Ending, refused, usage_said, version_said, made, no_memory_to_serve, served, listener_fault, closing_fault, no_memory_to_report, demonstrated, SomeFailed, HasRun}
+use Rattle.vault_top.specs.Served.{Share, HasHistory}
+use Rattle.vault_top.specs.Ending.{Ending, refused, usage_said, version_said, made, no_memory_to_serve, served, listener_fault, closing_fault, no_memory_to_report, demonstrated, SomeFailed, HasReason, HasRun}
 use Rattle.shared_sessions.specs.declared.workers.Worker.{Worker}
 use Rattle.vault_top.specs.declared.program.Ended.{Ended}
 
@@ -54,13 +64,6 @@ IsServedOrFull (listener_fault ends) = ⊥
 IsServedOrFull (closing_fault ends) = ⊥
 IsServedOrFull (no_memory_to_report ends) = ⊤
 IsServedOrFull (demonstrated text) = ⊥
-
--- a run over a sound vault, in which nothing failed, the sink neither
-pub record IsSoundRun {D N C E : Type 0} (views : Views D N C E) (words : List (List ℕ)) (secret : Course SourceView) (second : Option ℕ) (folder : D) (workers workers' : List (Worker N E)) (sink : Course SinkView) (ended : Ended D) : Type 0 where
-  pub run : HasRun views words secret second folder workers workers' sink ended
-  pub sound : IsSound (span_of views words secret second folder run.kept workers workers')
-  pub faultless : IsFaultless (span_of views words secret second folder run.kept workers workers')
-  pub written : Rose sink.before.faults sink.after.faults → ⊥
 
 -- ---- making
 
@@ -103,6 +106,19 @@ IsHeldOrFull (closing_fault ends) = ⊥
 IsHeldOrFull (no_memory_to_report ends) = ⊥
 IsHeldOrFull (demonstrated text) = ⊤
 
+-- ---- a whole run
+
+-- the job is sound: a vault is served that is, one is made in an empty folder by random sources that don't fail, or a demonstration is held
+abbrev pub IsSoundJob : {C : Type 0} → Span C → Type 0
+IsSoundJob span = IsSound span ⊎ (IsSoundToMake span × ¬ (SomeRandomFailed span.workers)) ⊎ ((demonstration : Demonstration) × Ask span.words (demo demonstration))
+
+-- a run with a sound job, in which nothing failed, the sink neither
+pub record IsSoundRun {D N C E : Type 0} (views : Views D N C E) (words : List (List ℕ)) (secret : Course SourceView) (second : Option ℕ) (folder : D) (workers workers' : List (Worker N E)) (sink : Course SinkView) (ended : Ended D) : Type 0 where
+  pub run : HasRun views words secret second folder workers workers' sink ended
+  pub sound : IsSoundJob (span_of views words secret second folder run.kept workers workers')
+  pub faultless : IsFaultless (span_of views words secret second folder run.kept workers workers')
+  pub written : Rose sink.before.faults sink.after.faults → ⊥
+
 -- ---- words that are refused
 
 -- the words were bad, or memory ran out
@@ -117,3 +133,30 @@ IsBadOrFull (listener_fault ends) = ⊥
 IsBadOrFull (closing_fault ends) = ⊥
 IsBadOrFull (no_memory_to_report ends) = ⊥
 IsBadOrFull (demonstrated text) = ⊥
+
+-- ---- sessions and replies
+
+-- where the input of a link is whole messages and no call of it failed, its session is done and nothing is left, or memory ran out before a byte was read
+abbrev pub IsDoneOrFull : LinkView → LinkView → SessionEnd → Type 0
+IsDoneOrFull before after end = ((end ≡ ends.Done) × (after.left ≡ Some [])) ⊎ ((end ≡ ends.Memory) × (after.left ≡ before.left))
+
+abbrev pub IsServedOut : {C : Type 0} → (C → LinkView) → ServedLink C → Type 0
+IsServedOut view link = IsWhole (view link.came).left → links.IsFaultless (view link.came) (view link.given) → IsDoneOrFull (view link.came) (view link.given) link.end
+
+-- each request was answered as the step says, or that its place is taken, or that memory ran out where it may; and each session was served out
+pub record IsServedSoundly {C : Type 0} (view : C → LinkView) {span : Span C} {keys : KeyPair} {shares : List (Share C)} (history : HasHistory span keys shares) : Type 0 where
+  pub stepped : AreStepped history.rows history.origin history.entries
+  pub sessions : AllByRecursion (λ share. AllByRecursion (IsServedOut view) share.links) shares
+
+-- of a run that served a vault, whatever became of its report
+abbrev pub HasServedSoundly : {D N C E : Type 0} (views : Views D N C E) (span : Span C) (ending : Ending) → HasReason views span ending → Type 0
+HasServedSoundly views span (refused cause) reason = ⊤
+HasServedSoundly views span usage_said reason = ⊤
+HasServedSoundly views span version_said reason = ⊤
+HasServedSoundly views span made reason = ⊤
+HasServedSoundly views span no_memory_to_serve reason = ⊤
+HasServedSoundly views span (served ends) reason = IsServedSoundly views.link reason.0.sessions.history
+HasServedSoundly views span (listener_fault ends) reason = ⊤
+HasServedSoundly views span (closing_fault ends) reason = ⊤
+HasServedSoundly views span (no_memory_to_report ends) reason = IsServedSoundly views.link reason.0.sessions.history
+HasServedSoundly views span (demonstrated text) reason = ⊤

@@ -1,11 +1,11 @@
-ghost use Rattle.std.specs.Prelude.{◌≡◌, ◌⊎◌, ℕ, List, Option};
+ghost use Rattle.std.specs.Prelude.{◌≡◌, ◌⊎◌, ℕ, List, Option, IsSome};
 ghost use Rattle.shared_sessions.specs.declared.workers.Worker.{Worker};
 ghost use Rattle.vault_top.specs.declared.program.Ended.{Ended};
 ghost use Rattle.vault_top.specs.Span.{Course, SourceView, SinkView, Views, Span};
 ghost use Rattle.vault_top.specs.Ending.{Ending, HasReason};
 ghost use Rattle.vault_words.specs.Jobs.{Demonstration, demo};
 ghost use Rattle.vault_top.specs.Words.{Ask, AreRefused};
-ghost use Rattle.vault_top.specs.Sound.{IsSound, IsSoundRun, IsSoundToMake, IsFaultless, IsServedOrFull, IsMadeOrFull, IsHeldOrFull, IsBadOrFull, SomeRandomFailed};
+ghost use Rattle.vault_top.specs.Sound.{IsSound, IsSoundRun, IsSoundToMake, IsFaultless, IsServedOrFull, IsMadeOrFull, IsHeldOrFull, IsBadOrFull, SomeRandomFailed, HasServedSoundly};
 
 use outside::{Entropy, Folder, Listener};
 
@@ -16,11 +16,19 @@ pub fn a_sound_vault_is_served<D: Folder, N: Listener, E: Entropy>()
         → HasReason views span ending → IsServedOrFull ending }
 {}
 
-/// A run over a sound vault, in which nothing failed, the sink neither, ends with the status 0 or 5.
+/// A run with a sound job, be it to serve a sound vault, to make one in an empty folder or to hold a demonstration, in which nothing failed,
+/// the sink neither, ends with the status 0 or 5.
 pub fn a_sound_run_ends_with_0_or_5<D: Folder, N: Listener, E: Entropy>()
     ensures { (views : Views D N N.Conn E) (words : List (List ℕ)) (secret : Course SourceView) (second : Option ℕ) (folder : D)
         (workers workers' : List (Worker N E)) (sink : Course SinkView) (ended : Ended D)
         → IsSoundRun views words secret second folder workers workers' sink ended → (ended.status ≡ 0) ⊎ (ended.status ≡ 5) }
+{}
+
+/// Where a vault was served, the folder tells and nothing failed, each request was answered as the step says, unless a place is taken or memory
+/// runs out where it may; and each session of whole messages, over a link that never failed, was done, or memory ran out before it read anything.
+pub fn a_sound_run_answers_as_the_step<D: Folder, N: Listener, E: Entropy>()
+    ensures { (views : Views D N N.Conn E) (span : Span N.Conn) (ending : Ending) (reason : HasReason views span ending)
+        → IsSome span.given.folder.before.log → IsFaultless span → (SomeRandomFailed span.workers → ⊥) → HasServedSoundly views span ending reason }
 {}
 
 /// In an empty folder, where the words ask for making a vault, the secret has a password and nothing failed, the program's ending is that

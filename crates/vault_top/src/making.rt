@@ -23,12 +23,6 @@ pub(crate) fn make_vault<D: Folder, E: Entropy, S: Source>(
         (given_of (folder_view D.log D.faults D.changes) (course (source_view S.left S.faults) secret.old secret.new) second folder.old folder.new)
         (course (entropy_view E.drawn E.faults) entropy.old entropy.new) cause) }
 {
-    let password = match read_password(alloc, secret) {
-        Ok(password) => password,
-        Err(error) => return Err(Cause::from(error)),
-    };
-    match make(alloc, folder, password.as_bytes(), entropy) {
-        Ok(()) => Ok(()),
-        Err(error) => Err(Cause::from(error)),
-    }
+    let password = read_password(alloc, secret)?;
+    Ok(make(alloc, folder, password.as_bytes(), entropy)?)
 }

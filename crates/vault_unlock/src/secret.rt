@@ -67,10 +67,7 @@ pub fn read_password<S: Source>(alloc: Global, secret: &mut S) -> Result<String,
 {
     let mut line = [0u8; LINE_LIMIT];
     let count = read_line(secret, &mut line)?;
-    match password(alloc, &line[..count]) {
-        Ok(password) => Ok(password),
-        Err(error) => Err(SecretErr::from(error)),
-    }
+    Ok(password(alloc, &line[..count])?)
 }
 
 /// Reads the keys from the first line of the secret, which holds 128 hexadecimal digits: the encryption key and then the MAC key. It reads

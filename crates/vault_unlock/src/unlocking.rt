@@ -84,10 +84,7 @@ fn unlock_files<D: Folder>(
     let masterkey = find(alloc, folder, &masterkey_path())?;
     let keys = masterkey_keys(alloc, password, &masterkey)?;
     let config = find(alloc, folder, &config_path())?;
-    match vault_unlocked(alloc, keys, &config) {
-        Ok(unlocked) => Ok(unlocked),
-        Err(error) => Err(Refusal::from(error)),
-    }
+    Ok(vault_unlocked(alloc, keys, &config)?)
 }
 
 // The keys that a password opens in the masterkey file that was found.

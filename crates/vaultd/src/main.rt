@@ -30,6 +30,9 @@ use std::{env, fs, io};
 use vault_top::{Worker, run};
 use vault_words::places;
 
+/// The status of a fault of the outside.
+const FAULT: u8 = 4;
+
 /// Why the program doesn't come to its job.
 #[derive(Clone, Copy, Debug, PartialEq, Eq)]
 enum StartErr {
@@ -294,14 +297,21 @@ fn may_serve_streams<R: Env>(rt: &R) -> bool {
     false
 }
 
-// Takes the lowest descriptor that is free.
-fn placeholder<R: Files>(rt: &R) -> io::Result<R::File> {
-    File::open(rt, "/dev/null")
+// Takes the three lowest descriptors that are free.
+fn placeholders<R: Files>(rt: &R) -> io::Result<[R::File; 3]> {
+    let null = "/dev/null";
+    Ok([
+        File::open(rt, null)?,
+        File::open(rt, null)?,
+        File::open(rt, null)?,
+    ])
 }
 
 fn main(rt: HostRuntime) -> ExitCode {
     // Where the program was started without one of the descriptors 0 to 2, no file of the vault is to be given it.
-    let _placeholders = [placeholder(&rt), placeholder(&rt), placeholder(&rt)];
+    let Ok(_placeholders) = placeholders(&rt) else {
+        return ExitCode::from(FAULT);
+    };
     let started = match env::args(&rt) {
         Ok(args) => args
             .collect::<Vec<_>>(rt.alloc())

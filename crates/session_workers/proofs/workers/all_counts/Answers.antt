@@ -17,13 +17,13 @@ add_all-requires g c =
     let whole = ap length one.more in
     let parts = length-append (all_ends (take i shares)) (ends_of one.share) in
     let below = all_ends-take (suc i) shares in
-    let few = c.requires.few.2 in (
-      all_ends (take i shares),
-      ends_of one.share,
-      c.loop-crew.invariant.counted shares c.requires.few.1,
-      subst (λ crew. AreCounts crew.counts (ends_of one.share)) (sym c.crew-item.is) one.counted,
-      omega arith,
-    )
+    let few = c.requires.few.2 in record {
+      ends = all_ends (take i shares);
+      other_ends = ends_of one.share;
+      counted = c.loop-crew.invariant.counted shares c.requires.few.1;
+      others_counted = subst (λ crew. AreCounts crew.counts (ends_of one.share)) (sym c.crew-item.is) one.counted;
+      few = omega arith;
+    }
 
 pub loop-crew-preserved : goal.loop-crew-preserved
 loop-crew-preserved g c =

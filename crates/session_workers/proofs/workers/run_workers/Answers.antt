@@ -4,13 +4,13 @@ use Rattle.session_workers.proofs.workers.run_workers.Goals as goal
 
 pub all_counts-requires : goal.all_counts-requires
 all_counts-requires g c =
-    let all = all_served _ _ _ _ _ _ _ _ c.serve_all.ensures.same c.serve_all.ensures.served in
+    let all = all_served _ _ _ _ _ _ _ _ c.serve_crews.ensures.same c.serve_crews.ensures.served in
     let few = few_of _ _ _ _ _ _ _ _ all.0 all.1 in
     let most = c.ranges.sessions.fits in
     record { few = (all.0, counts_of _ _ _ _ _ _ 0 _ _ all.0 all.1, omega arith) }
 
 pub returns : goal.returns
 returns g c =
-    let all = all_served _ _ _ _ _ _ _ _ c.serve_all.ensures.same c.serve_all.ensures.served in record {
+    let all = all_served _ _ _ _ _ _ _ _ c.serve_crews.ensures.same c.serve_crews.ensures.served in record {
       served = have_served _ _ _ _ _ _ _ _ all.0 c.all_counts.result all.1 (c.all_counts.ensures.counted all.0 (counts_of _ _ _ _ _ _ 0 _ _ all.0 all.1)) c.all_counts.ensures.none c.all_counts.ensures.some;
     }

@@ -1,4 +1,4 @@
-use Rattle.vault_top.proofs.Soundness.{sound_status}
+use Rattle.vault_top.proofs.SoundStatus.{sound_status}
 use Rattle.vault_top.proofs.laws.a_sound_run_ends_with_0_or_5.Goals as goal
 
 pub returns : goal.returns

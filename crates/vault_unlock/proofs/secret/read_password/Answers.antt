@@ -11,24 +11,25 @@ returns-in_err-count-clause-bad g c =
     let p = err_from_is_err_and c.from_residual.result c.from_residual.ensures.1 in
     rw (p.1, p.2) (λ bad. told_long (g.S.Source.left c.args.secret.now) (c.in_err-count.ensures.long (same_error _ _ bad)))
 
-pub returns-in-Ok-clause-password : goal.returns-in-Ok-clause-password
-returns-in-Ok-clause-password g c =
-    told_password (g.S.Source.left c.args.secret.now) (g.S.Source.left c.read_line.new.secret) (take c.in_ok-count.count c.read_line.new.line) (Some (string_bytes c.in-Ok.password))
-    c.in_ok-count.ensures.line c.in-Ok.ensures.password
+pub returns-clause-password : goal.returns-clause-password
+returns-clause-password g c =
+    told_password (g.S.Source.left c.args.secret.now) (g.S.Source.left c.read_line.new.secret) (take c.in_ok-count.count c.read_line.new.line) (Some (string_bytes c.in_ok-password.field-0))
+    c.in_ok-count.ensures.line c.in_ok-password.ensures.password
 
-pub returns-in-Err-clause-bad : goal.returns-in-Err-clause-bad
-returns-in-Err-clause-bad g c =
-    rw c.from.ensures (λ bad. told_password (g.S.Source.left c.args.secret.now) (g.S.Source.left c.read_line.new.secret) (take c.in_ok-count.count c.read_line.new.line) None
-    c.in_ok-count.ensures.line (c.in-Err.ensures.bad (bad_password _ bad)))
+pub returns-in_err-password-clause-bad : goal.returns-in_err-password-clause-bad
+returns-in_err-password-clause-bad g c =
+    let p = err_from_is_err_and c.from_residual-in_err-password.result c.from_residual-in_err-password.ensures.1 in
+    rw (p.1, p.2) (λ bad. told_password (g.S.Source.left c.args.secret.now) (g.S.Source.left c.read_line.new.secret) (take c.in_ok-count.count c.read_line.new.line) None
+    c.in_ok-count.ensures.line (c.in_err-password.ensures.bad (bad_password _ bad)))
 
-pub returns-in-Err-clause-begun : goal.returns-in-Err-clause-begun
-returns-in-Err-clause-begun g c =
+pub returns-in_err-password-clause-begun : goal.returns-in_err-password-clause-begun
+returns-in_err-password-clause-begun g c =
     let line = take c.in_ok-count.count c.read_line.new.line in
     let few : length line ≤ 1024 = omega (arith, length-take c.in_ok-count.count c.read_line.new.line, c.in_ok-count.ensures.count) in
     begun_line (g.S.Source.left c.args.secret.now) (g.S.Source.left c.read_line.new.secret) 1024 line few c.in_ok-count.ensures.line
 
-pub returns-in-Ok-clause-begun : goal.returns-in-Ok-clause-begun
-returns-in-Ok-clause-begun g c =
+pub returns-clause-begun : goal.returns-clause-begun
+returns-clause-begun g c =
     let line = take c.in_ok-count.count c.read_line.new.line in
     let few : length line ≤ 1024 = omega (arith, length-take c.in_ok-count.count c.read_line.new.line, c.in_ok-count.ensures.count) in
     begun_line (g.S.Source.left c.args.secret.now) (g.S.Source.left c.read_line.new.secret) 1024 line few c.in_ok-count.ensures.line

@@ -22,15 +22,16 @@ returns-in_err-config-clause-refused g c =
     let p = err_from_is_err_and c.from_residual-in_err-config.result c.from_residual-in_err-config.ensures.1 in
     rw (p.1, p.2) (find_refused c.in_err-config.field-0.0 c.args.password.now (disk_in (g.D.Reads.log c.args.folder.now)))
 
-pub returns-in-Ok-clause-unlocked : goal.returns-in-Ok-clause-unlocked
-returns-in-Ok-clause-unlocked g c =
+pub returns-clause-unlocked : goal.returns-clause-unlocked
+returns-clause-unlocked g c =
     config_seen (g.D.Reads.log c.args.folder.now) (g.D.Reads.log c.find.new.folder) c.args.password.now c.in_ok-keys.keys c.in_ok-masterkey.masterkey c.in_ok-config.config
-    (λ found. found ≡ Ok (unlocked_data c.in-Ok.unlocked)) c.find.ensures.log (rw c.masterkey_path.ensures at c.in_ok-masterkey.ensures.found) (rw c.config_path.ensures at c.in_ok-config.ensures.found)
-    c.in_ok-keys.ensures.keys c.in-Ok.ensures.unlocked
+    (λ found. found ≡ Ok (unlocked_data c.in_ok-vault_unlocked.field-0)) c.find.ensures.log (rw c.masterkey_path.ensures at c.in_ok-masterkey.ensures.found) (rw c.config_path.ensures at c.in_ok-config.ensures.found)
+    c.in_ok-keys.ensures.keys c.in_ok-vault_unlocked.ensures.unlocked
 
-pub returns-clause-refused : goal.returns-clause-refused
-returns-clause-refused g c =
-    rw c.from.ensures
+pub returns-in_err-vault_unlocked-clause-refused : goal.returns-in_err-vault_unlocked-clause-refused
+returns-in_err-vault_unlocked-clause-refused g c =
+    let p = err_from_is_err_and c.from_residual-in_err-vault_unlocked.result c.from_residual-in_err-vault_unlocked.ensures.1 in
+    rw (p.1, p.2)
     (config_seen (g.D.Reads.log c.args.folder.now) (g.D.Reads.log c.find.new.folder) c.args.password.now c.in_ok-keys.keys c.in_ok-masterkey.masterkey c.in_ok-config.config
-    (IsCause c.in-Err.error) c.find.ensures.log (rw c.masterkey_path.ensures at c.in_ok-masterkey.ensures.found) (rw c.config_path.ensures at c.in_ok-config.ensures.found)
-    c.in_ok-keys.ensures.keys c.in-Err.ensures.cause)
+    (IsCause c.in_err-vault_unlocked.field-0.0) c.find.ensures.log (rw c.masterkey_path.ensures at c.in_ok-masterkey.ensures.found) (rw c.config_path.ensures at c.in_ok-config.ensures.found)
+    c.in_ok-keys.ensures.keys c.in_err-vault_unlocked.ensures.cause)
