@@ -2,7 +2,7 @@
 
 ghost use Rattle.std.specs.Prelude.{None};
 
-use crate::table::Message;
+use crate::table::{Message, is_refused};
 use outside::{Failed, Link, Listener};
 use std::alloc::Global;
 use std::sync::atomic::{AtomicU64, Ordering};
@@ -10,6 +10,22 @@ use std::thread;
 
 /// How often a link looks for the replies before its message at most.
 const PATIENCE: u32 = 10_000_000;
+
+/// How often a client sends a message.
+#[derive(Clone, Copy, Debug, PartialEq, Eq)]
+pub(crate) enum Asking {
+    Once,
+    /// Once more where it is told that something failed, unless its fid is gone by then.
+    Again,
+}
+
+/// What has become of a message: its reply isn't whole, or it is answered, or it is sent once more.
+#[derive(Clone, Copy, Debug, PartialEq, Eq)]
+enum Outcome {
+    Open,
+    Answered,
+    Again,
+}
 
 /// The message that is given, or a place in the order before it, and how much of it was given.
 #[derive(Clone, Copy, Debug, PartialEq, Eq)]
@@ -25,6 +41,9 @@ pub(crate) struct OrderedLink<'a> {
     // How many of them were answered.
     answered: &'a AtomicU64,
     client: usize,
+    asking: Asking,
+    // Whether the message under way is sent once more.
+    is_again: bool,
     place: Place,
     taken: Vec<u8>,
     // Where in what was taken the reply under way begins.
@@ -85,11 +104,14 @@ impl<'a> OrderedLink<'a> {
         messages: &'a [Message],
         answered: &'a AtomicU64,
         client: usize,
+        asking: Asking,
     ) -> OrderedLink<'a> {
         OrderedLink {
             messages,
             answered,
             client,
+            asking,
+            is_again: false,
             place: Place { next: 0, at: 0 },
             taken: Vec::new(alloc),
             reply_at: 0,
@@ -98,11 +120,30 @@ impl<'a> OrderedLink<'a> {
         }
     }
 
-    // Whether what was taken ends with a whole reply that isn't counted yet.
-    fn has_reply(&self) -> bool {
-        match self.taken.get(self.reply_at..) {
-            Some(reply) => is_whole(reply),
+    // Whether the message that was sent last, which has this reply, is sent once more.
+    fn asks_again(&self, reply: &[u8]) -> bool {
+        match self.messages.get(self.place.next.saturating_sub(1)) {
+            Some(message) => {
+                self.asking == Asking::Again
+                    && !self.is_again
+                    && is_refused(reply, "device fault")
+                    && !message.frees_fid()
+            }
             None => false,
+        }
+    }
+
+    // What has become of the message that was sent last.
+    fn outcome(&self) -> Outcome {
+        match self.taken.get(self.reply_at..) {
+            Some(reply) if is_whole(reply) => {
+                if self.asks_again(reply) {
+                    Outcome::Again
+                } else {
+                    Outcome::Answered
+                }
+            }
+            _ => Outcome::Open,
         }
     }
 }
@@ -140,9 +181,18 @@ impl<'a> Link for OrderedLink<'a> {
             self.write_faults = self.write_faults.saturating_add(1);
             return Err(Failed);
         }
-        if self.has_reply() {
-            self.reply_at = self.taken.len();
-            self.answered.fetch_add(1, Ordering::SeqCst);
+        match self.outcome() {
+            Outcome::Open => {}
+            Outcome::Answered => {
+                self.reply_at = self.taken.len();
+                self.is_again = false;
+                self.answered.fetch_add(1, Ordering::SeqCst);
+            }
+            Outcome::Again => {
+                self.reply_at = self.taken.len();
+                self.is_again = true;
+                self.place.next = self.place.next.saturating_sub(1);
+            }
         }
         Ok(piece.len())
     }

@@ -72,8 +72,8 @@ impl Looks {
         })
     }
 
-    // The number of the state of the vault in a folder.
-    fn state_in<R: Threads + Wait + Sync>(
+    /// The number of the state of the vault in a folder.
+    pub(crate) fn state_in<R: Threads + Wait + Sync>(
         &self,
         rt: &R,
         alloc: Global,

@@ -1,5 +1,6 @@
 // Two clients whose messages come in one order: where nothing fails, and where a commit does.
 
+use crate::link::Asking;
 use crate::look::Looks;
 use crate::serving::{Ending, Served, serve};
 use crate::table::Message;
@@ -37,16 +38,22 @@ pub(crate) fn serve_soundly<R: Alloc + Files + Threads + Wait + Sync>(
     parts: &str,
     messages: &[Message],
 ) -> Result<MemFolder, RowErr> {
-    let served = serve(rt, alloc, messages, bare_vault(rt, alloc, parts)?)?;
-    told_folder(served, Ending::Done)
+    let folder = bare_vault(rt, alloc, parts)?;
+    let served = serve(rt, alloc, messages, folder, Asking::Once)?;
+    told_folder(alloc, messages, served, Ending::Done)
 }
 
 // The folder that is left, where the run ended so and the replies are the wanted ones.
-fn told_folder(served: Served, ending: Ending) -> Result<MemFolder, RowErr> {
+fn told_folder(
+    alloc: Global,
+    messages: &[Message],
+    served: Served,
+    ending: Ending,
+) -> Result<MemFolder, RowErr> {
     if served.ending != ending {
         return Err(RowErr::Differs("report"));
     }
-    if !served.as_told {
+    if !served.is_as_told(alloc, messages)? {
         return Err(RowErr::Differs("replies"));
     }
     Ok(served.folder)
@@ -96,7 +103,7 @@ fn serve_failing<R: Alloc + Files + Threads + Wait + Sync>(
 ) -> Result<Served, RowErr> {
     let failing = vec![in alloc; call]?;
     let folder = bare_vault(rt, alloc, parts)?.failing_at(failing);
-    serve(rt, alloc, messages, folder)
+    serve(rt, alloc, messages, folder, Asking::Once)
 }
 
 // What messages leave where the first call of the folder fails that breaks a commit with so many changes.
@@ -131,6 +138,7 @@ pub(crate) fn check_commit<R: Alloc + Files + Threads + Wait + Sync>(
     let mut breaks = calls_before(rt, alloc, parts, before)?;
     breaks.changes = breaks.changes.saturating_add(count);
     let served = serve_breaking(rt, alloc, parts, messages, breaks)?;
-    let folder = told_folder(served, Ending::Broken)?.failing_at(Vec::new(alloc));
+    let folder = told_folder(alloc, messages, served, Ending::Broken)?;
+    let folder = folder.failing_at(Vec::new(alloc));
     looks.check(rt, alloc, folder, last_state(before), last_state(messages))
 }

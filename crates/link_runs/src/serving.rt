@@ -1,6 +1,6 @@
 // Serving two clients whose messages come in one order.
 
-use crate::link::{OrderedLink, OrderedListener};
+use crate::link::{Asking, OrderedLink, OrderedListener};
 use crate::look::zero_keys;
 use crate::table::{Message, replies_to};
 use outside_mem::{MemFolder, MemSink, MemSource, OpenGate, SeedEntropy, SetClock};
@@ -36,8 +36,8 @@ pub(crate) enum Ending {
 pub(crate) struct Served {
     pub ending: Ending,
     pub folder: MemFolder,
-    /// Whether each client was sent the replies to its messages, and nothing else.
-    pub as_told: bool,
+    /// What each client was sent; nothing where its link wasn't given back.
+    pub sent: Vec<Vec<u8>>,
 }
 
 // A worker for each client.
@@ -45,10 +45,11 @@ fn workers_of<'a>(
     alloc: Global,
     messages: &'a [Message],
     answered: &'a AtomicU64,
+    asking: Asking,
 ) -> Result<Vec<Worker<OrderedListener<'a>, SeedEntropy>>, AllocError> {
     let mut workers = Vec::new(alloc);
     for client in 0..CLIENTS {
-        let link = OrderedLink::new(alloc, messages, answered, client);
+        let link = OrderedLink::new(alloc, messages, answered, client, asking);
         workers.push(Worker {
             listener: OrderedListener::new(link),
             entropy: SeedEntropy::from_seed(alloc, [client as u8; 32]),
@@ -57,19 +58,33 @@ fn workers_of<'a>(
     Ok(workers)
 }
 
-// Whether each client was sent the replies to its messages.
-fn are_told(
+// What each client was sent.
+fn sent_by(
     alloc: Global,
-    messages: &[Message],
     workers: &[Worker<OrderedListener<'_>, SeedEntropy>],
-) -> Result<bool, AllocError> {
-    for (client, worker) in workers.iter().enumerate() {
-        let replies = replies_to(alloc, messages, client)?;
-        if worker.listener.taken() != Some(replies.as_slice()) {
-            return Ok(false);
-        }
+) -> Result<Vec<Vec<u8>>, AllocError> {
+    let mut sent = Vec::new(alloc);
+    for worker in workers {
+        sent.push(Vec::from_slice(alloc, worker.listener.taken().unwrap_or(&[]))?)?;
     }
-    Ok(true)
+    Ok(sent)
+}
+
+impl Served {
+    /// Whether each client was sent the replies to its messages, and nothing else.
+    pub(crate) fn is_as_told(
+        &self,
+        alloc: Global,
+        messages: &[Message],
+    ) -> Result<bool, AllocError> {
+        for (client, sent) in self.sent.iter().enumerate() {
+            let replies = replies_to(alloc, messages, client)?;
+            if sent.as_slice() != replies.as_slice() {
+                return Ok(false);
+            }
+        }
+        Ok(true)
+    }
 }
 
 // How the program ended, by its status and its report.
@@ -131,11 +146,10 @@ fn run_workers<R: Threads + Wait + Sync>(
     run_words(rt, alloc, &words, folder, workers, secret)
 }
 
-// Serves messages to their end.
+// Serves workers' links to their end.
 fn served_by<R: Threads + Wait + Sync>(
     rt: &R,
     alloc: Global,
-    messages: &[Message],
     folder: MemFolder,
     workers: &mut Vec<Worker<OrderedListener<'_>, SeedEntropy>>,
 ) -> Result<Served, RowErr> {
@@ -143,7 +157,7 @@ fn served_by<R: Threads + Wait + Sync>(
     Ok(Served {
         ending,
         folder,
-        as_told: are_told(alloc, messages, workers)?,
+        sent: sent_by(alloc, workers)?,
     })
 }
 
@@ -153,8 +167,9 @@ pub(crate) fn serve<R: Threads + Wait + Sync>(
     alloc: Global,
     messages: &[Message],
     folder: MemFolder,
+    asking: Asking,
 ) -> Result<Served, RowErr> {
     let answered = AtomicU64::new(0);
-    let mut workers = workers_of(alloc, messages, &answered)?;
-    served_by(rt, alloc, messages, folder, &mut workers)
+    let mut workers = workers_of(alloc, messages, &answered, asking)?;
+    served_by(rt, alloc, folder, &mut workers)
 }

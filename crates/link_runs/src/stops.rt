@@ -1,7 +1,8 @@
 // What each stop of a run may leave.
 
+use crate::link::Asking;
 use crate::look::Looks;
-use crate::orders::{bare_vault, calls_before, last_state};
+use crate::orders::{Calls, bare_vault, calls_before, last_state};
 use crate::serving::serve;
 use crate::table::Message;
 use crate::tally::Tally;
@@ -18,10 +19,11 @@ const MOST_IMAGES: usize = 64;
 /// More calls than a run makes behind the one at which it is stopped.
 const MOST_CALLS: u64 = 256;
 
-/// From which number of the folder's calls on no stop undoes a state.
+/// From which number of the folder's calls on no stop undoes a state, and at which one the message is answered that leaves it.
 #[derive(Clone, Copy, Debug, PartialEq, Eq)]
 struct Moment {
-    calls: u64,
+    lasts: u64,
+    answered: u64,
     state: usize,
 }
 
@@ -33,7 +35,27 @@ struct Kept {
     most: usize,
 }
 
-// The moments at which a message was answered that no stop undoes.
+// From which number of the folder's calls on the journal's gate is open and flushed, where the changing call opens it that is the so many-th
+// since some calls.
+fn opened_at<R: Alloc + Files + Threads + Wait + Sync>(
+    rt: &R,
+    alloc: Global,
+    parts: &str,
+    messages: &[Message],
+    since: Calls,
+    change: u64,
+) -> Result<u64, RowErr> {
+    for call in since.all..since.all.saturating_add(MOST_CALLS) {
+        // (the call at which it is stopped is counted)
+        let folder = serve_stopped(rt, alloc, parts, messages, call, false)?;
+        if folder.change_count() >= since.changes.saturating_add(change) {
+            return Ok(call.saturating_add(2));
+        }
+    }
+    Err(RowErr::Line)
+}
+
+// The moments of the messages that no stop undoes.
 fn moments_of<R: Alloc + Files + Threads + Wait + Sync>(
     rt: &R,
     alloc: Global,
@@ -41,13 +63,21 @@ fn moments_of<R: Alloc + Files + Threads + Wait + Sync>(
     messages: &[Message],
 ) -> Result<Vec<Moment>, RowErr> {
     let mut moments = Vec::new(alloc);
+    let mut since = Calls { all: 0, changes: 0 };
     for (index, message) in messages.iter().enumerate() {
         if message.stable {
             let begun = messages.get(..=index).ok_or(RowErr::Line)?;
+            let answered = calls_before(rt, alloc, parts, begun)?;
+            let lasts = match message.opens {
+                Some(change) => opened_at(rt, alloc, parts, begun, since, change)?,
+                None => answered.all,
+            };
             moments.push(Moment {
-                calls: calls_before(rt, alloc, parts, begun)?.all,
+                lasts,
+                answered: answered.all,
                 state: message.leaves,
             })?;
+            since = answered;
         }
     }
     Ok(moments)
@@ -57,11 +87,21 @@ fn moments_of<R: Alloc + Files + Threads + Wait + Sync>(
 fn kept_after(moments: &[Moment], calls: u64) -> usize {
     let mut state = 0;
     for moment in moments {
-        if moment.calls <= calls {
+        if moment.lasts <= calls {
             state = moment.state;
         }
     }
     state
+}
+
+// The last state that the messages leave which were begun after so many calls: that of the next one that no stop undoes, or of all.
+fn begun_after(moments: &[Moment], calls: u64, messages: &[Message]) -> usize {
+    for moment in moments {
+        if calls < moment.answered {
+            return moment.state;
+        }
+    }
+    last_state(messages)
 }
 
 // A folder that is stopped at a call, before it does anything or after a part of it.
@@ -92,7 +132,7 @@ fn serve_stopped<R: Alloc + Files + Threads + Wait + Sync>(
     breaks: bool,
 ) -> Result<MemFolder, RowErr> {
     let folder = stopped_at(alloc, bare_vault(rt, alloc, parts)?, call, breaks)?;
-    Ok(serve(rt, alloc, messages, folder)?.folder)
+    Ok(serve(rt, alloc, messages, folder, Asking::Once)?.folder)
 }
 
 // Looks at each image of a folder that was stopped at a call.
@@ -111,8 +151,8 @@ fn look_at_images<R: Threads + Wait + Sync>(
     Ok(())
 }
 
-// The first call of the folder of a run, and how many it has had in the end.
-fn calls_of<R: Alloc + Files + Threads + Wait + Sync>(
+/// The first call of the folder of a run, and how many it has had in the end.
+pub(crate) fn calls_of<R: Alloc + Files + Threads + Wait + Sync>(
     rt: &R,
     alloc: Global,
     parts: &str,
@@ -140,7 +180,8 @@ fn look_at_stop<R: Alloc + Files + Threads + Wait + Sync>(
     Ok(())
 }
 
-/// Stops a run at each call of the folder, and behind the last: each image has the state that no stop undoes at that moment, or a later one.
+/// Stops a run at each call of the folder, and behind the last: each image has the state that no stop undoes at that moment, or a later one, up
+/// to that of the next message that no stop undoes.
 pub(crate) fn look_at_stops<R: Alloc + Files + Threads + Wait + Sync>(
     rt: &R,
     alloc: Global,
@@ -155,7 +196,7 @@ pub(crate) fn look_at_stops<R: Alloc + Files + Threads + Wait + Sync>(
         let kept = Kept {
             call,
             least: kept_after(&moments, call),
-            most: last_state(messages),
+            most: begun_after(&moments, call, messages),
         };
         look_at_stop(rt, alloc, parts, messages, looks, kept, tally)?;
     }

@@ -14,18 +14,28 @@ pub(crate) struct Message {
     pub leaves: usize,
     /// Whether no stop undoes it once it is answered, nor what came before it.
     pub stable: bool,
+    /// Which of its changing calls of the folder opens the journal's gate: behind the next call, which flushes that, no stop undoes it either.
+    pub opens: Option<u64>,
 }
+
+/// The types of messages (intro(5)).
+const RERROR: u8 = 107;
+
+const TCLUNK: u8 = 120;
+
+const TREMOVE: u8 = 122;
 
 /// What fails in the runs of a block.
 #[derive(Clone, Copy, Debug, PartialEq, Eq)]
 pub(crate) enum Faults {
-    Nothing,
     /// The changing call of the folder that is the so many-th from a message on.
     Change { from: usize, count: u64 },
     /// All calls of the folder from some number on: it is stopped.
     Stops,
     /// A read or a write of the link.
     LinkCalls,
+    /// A call of the folder.
+    FolderCalls,
 }
 
 /// Messages in one order: each is sent once the ones before it were answered.
@@ -33,7 +43,8 @@ pub(crate) enum Faults {
 pub(crate) struct Order<'a> {
     pub name: &'a str,
     pub messages: Vec<Message>,
-    pub faults: Faults,
+    /// What fails in its runs, of each kind; nothing does where there are none.
+    pub faults: Vec<Faults>,
 }
 
 /// A table: what a client sends that looks at a vault, what it is sent in each state, and the orders.
@@ -42,6 +53,33 @@ pub(crate) struct Table<'a> {
     pub looking: Vec<u8>,
     pub states: Vec<Vec<u8>>,
     pub orders: Vec<Order<'a>>,
+}
+
+// The type of a message.
+fn kind_of(message: &[u8]) -> Option<u8> {
+    message.get(4).copied()
+}
+
+/// Whether a reply is an error.
+pub(crate) fn is_error(reply: &[u8]) -> bool {
+    kind_of(reply) == Some(RERROR)
+}
+
+/// Whether a reply is an error of this text.
+pub(crate) fn is_refused(reply: &[u8], text: &str) -> bool {
+    is_error(reply) && reply.get(9..) == Some(text.as_bytes())
+}
+
+impl Message {
+    /// Whether its fid is gone whatever the reply is.
+    pub(crate) fn frees_fid(&self) -> bool {
+        kind_of(&self.sends) == Some(TREMOVE) || self.is_clunk()
+    }
+
+    /// Whether it asks nothing of the vault.
+    pub(crate) fn is_clunk(&self) -> bool {
+        kind_of(&self.sends) == Some(TCLUNK)
+    }
 }
 
 // A field as a number of something in memory.
@@ -60,7 +98,7 @@ impl<'a> Order<'a> {
         Order {
             name,
             messages: Vec::new(alloc),
-            faults: Faults::Nothing,
+            faults: Vec::new(alloc),
         }
     }
 
@@ -86,6 +124,7 @@ impl<'a> Order<'a> {
             is_sent: Vec::new(alloc),
             leaves: self.state(),
             stable: false,
+            opens: None,
         };
         self.messages.push(message)?;
         Ok(())
@@ -98,14 +137,17 @@ impl<'a> Order<'a> {
             "<" => push_bytes(alloc, &mut self.message()?.is_sent, value)?,
             "=" => self.message()?.leaves = index(value)?,
             "stable" => self.message()?.stable = true,
+            "opens" => self.message()?.opens = Some(number(value)?),
             "fails" => {
-                self.faults = Faults::Change {
+                let change = Faults::Change {
                     from: self.messages.len(),
                     count: number(value)?,
-                }
+                };
+                self.faults.push(change)?;
             }
-            "stops" => self.faults = Faults::Stops,
-            "link-calls" => self.faults = Faults::LinkCalls,
+            "stops" => self.faults.push(Faults::Stops)?,
+            "link-calls" => self.faults.push(Faults::LinkCalls)?,
+            "folder-calls" => self.faults.push(Faults::FolderCalls)?,
             _ => return Err(RowErr::Line),
         }
         Ok(())

@@ -48,6 +48,8 @@ pub struct Row<'a> {
     pub changed: bool,
     /// Whether it is run again with each call of the folder failing.
     pub each_call: bool,
+    /// How many calls the folder has in the run, where that is said.
+    pub calls: Option<u64>,
 }
 
 impl Client {
@@ -114,6 +116,7 @@ impl<'a> Row<'a> {
             holds: None,
             changed: false,
             each_call: false,
+            calls: None,
         }
     }
 
@@ -175,6 +178,7 @@ impl<'a> Row<'a> {
             "holds" => self.holds = Some(value),
             "changed" => self.changed = true,
             "each-call" => self.each_call = true,
+            "calls" => self.calls = Some(number(value)?),
             _ => return Err(RowErr::Line),
         }
         Ok(())

@@ -117,6 +117,9 @@ fn compared<R: Files + Alloc>(
     first: u64,
 ) -> Result<Passed, RowErr> {
     let end = call_count(ran);
+    if row.calls.unwrap_or(end.saturating_sub(first)) != end.saturating_sub(first) {
+        return Err(RowErr::Differs("number of calls"));
+    }
     Ok(Passed {
         folder: check_run(rt, alloc, parts, row, ran)?,
         first,

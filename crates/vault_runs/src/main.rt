@@ -6,7 +6,7 @@
 //! the folder's parts (`-` for none, `=` for the folder that the run before has left), the words, the secret's lines, the workers with their
 //! clients' messages (`>` to the program, `<` to the client), which calls fail, and at the end the status, the report's lines and the parts of which
 //! the folder then consists, where they are others, or `changed`, where random bytes are in it: a run over it then shows what it holds.
-//! `left` is how many bytes of the secret aren't taken. With `each-call` a run is repeated with each call of the
+//! `left` is how many bytes of the secret aren't taken, and `calls` how many calls the folder has. With `each-call` a run is repeated with each call of the
 //! folder failing, before it does anything and after a part of it. Every other run is repeated with one byte at a time.
 //!
 //! `data/tree-parts.txt` and `data/tree-runs.txt` are such tables for the vaults of `data/trees`, which another implementation made: each node is
