@@ -1,5 +1,6 @@
 // Each call of the folder failing once.
 
+use crate::failing::failing_from;
 use crate::link::Asking;
 use crate::look::Looks;
 use crate::orders::{bare_vault, last_state};
@@ -7,9 +8,8 @@ use crate::serving::{Ending, Served, serve};
 use crate::stops::calls_of;
 use crate::table::{Message, is_error, is_refused};
 use crate::tally::Tally;
-use outside_mem::MemFolder;
 use run_tables::RowErr;
-use std::alloc::{AllocError, Global};
+use std::alloc::Global;
 use std::rt::Files;
 use std::sync::Wait;
 use std::thread::Threads;
@@ -167,20 +167,6 @@ fn compare(
     }
 }
 
-// A folder of which a call fails, before it does anything or after a part of it.
-fn failing_at(
-    alloc: Global,
-    folder: MemFolder,
-    call: u64,
-    breaks: bool,
-) -> Result<MemFolder, AllocError> {
-    let folder = folder.failing_at(vec![in alloc; call]?);
-    if breaks {
-        return Ok(folder.breaking_at(vec![in alloc; call]?));
-    }
-    Ok(folder)
-}
-
 // Serves messages with a call of the folder failing, and looks at the vault.
 fn check_call<R: Alloc + Files + Threads + Wait + Sync>(
     rt: &R,
@@ -191,7 +177,7 @@ fn check_call<R: Alloc + Files + Threads + Wait + Sync>(
     call: u64,
     breaks: bool,
 ) -> Result<(), RowErr> {
-    let folder = failing_at(alloc, bare_vault(rt, alloc, parts)?, call, breaks)?;
+    let folder = failing_from(alloc, bare_vault(rt, alloc, parts)?, call, 1, breaks)?;
     let Served {
         ending,
         folder,

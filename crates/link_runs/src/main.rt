@@ -19,6 +19,7 @@
 //! It is printed how many runs there were of each kind, and each that differs. The status is 1 if something differs or can't be read.
 #![tactic(auto)]
 
+mod failing;
 mod folder_calls;
 mod link;
 mod link_calls;

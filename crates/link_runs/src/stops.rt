@@ -1,5 +1,6 @@
 // What each stop of a run may leave.
 
+use crate::failing::failing_from;
 use crate::link::Asking;
 use crate::look::Looks;
 use crate::orders::{Calls, bare_vault, calls_before, last_state};
@@ -8,7 +9,7 @@ use crate::table::Message;
 use crate::tally::Tally;
 use outside_mem::MemFolder;
 use run_tables::RowErr;
-use std::alloc::{AllocError, Global};
+use std::alloc::Global;
 use std::rt::Files;
 use std::sync::Wait;
 use std::thread::Threads;
@@ -104,24 +105,6 @@ fn begun_after(moments: &[Moment], calls: u64, messages: &[Message]) -> usize {
     last_state(messages)
 }
 
-// A folder that is stopped at a call, before it does anything or after a part of it.
-fn stopped_at(
-    alloc: Global,
-    folder: MemFolder,
-    call: u64,
-    breaks: bool,
-) -> Result<MemFolder, AllocError> {
-    let mut failing = Vec::new(alloc);
-    for further in 0..MOST_CALLS {
-        failing.push(call.saturating_add(further))?;
-    }
-    let folder = folder.failing_at(failing);
-    if breaks {
-        return Ok(folder.breaking_at(vec![in alloc; call]?));
-    }
-    Ok(folder)
-}
-
 // The folder that messages leave where it is stopped at a call.
 fn serve_stopped<R: Alloc + Files + Threads + Wait + Sync>(
     rt: &R,
@@ -131,7 +114,13 @@ fn serve_stopped<R: Alloc + Files + Threads + Wait + Sync>(
     call: u64,
     breaks: bool,
 ) -> Result<MemFolder, RowErr> {
-    let folder = stopped_at(alloc, bare_vault(rt, alloc, parts)?, call, breaks)?;
+    let folder = failing_from(
+        alloc,
+        bare_vault(rt, alloc, parts)?,
+        call,
+        MOST_CALLS,
+        breaks,
+    )?;
     Ok(serve(rt, alloc, messages, folder, Asking::Once)?.folder)
 }
 
