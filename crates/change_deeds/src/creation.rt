@@ -7,7 +7,8 @@ ghost use Rattle.tree_changes.specs.Deeds as changes;
 ghost use Rattle.change_deeds.specs.Made.{IsHostPlace, place_at};
 
 use crate::known::{CONTENTS, DIR, NAME};
-use crate::place::{Place, entry_of, folder_of, inner_of, two_of};
+use crate::place::{Place, entry_of, inner_of};
+use clear_tree::{host_folder, host_two};
 use deeds::Deed;
 use std::alloc::{AllocError, Global};
 
@@ -84,8 +85,8 @@ fn dir_creation(
     let bytes = Vec::from_slice(alloc, identifier)?;
     if !place.long {
         let deeds = vec![in alloc;
-            Deed::MakeDir(two_of(own)),
-            Deed::MakeDir(folder_of(own)),
+            Deed::MakeDir(host_two(own)),
+            Deed::MakeDir(host_folder(own)),
             Deed::MakeDir(entry_of(place)),
             Deed::Put(inner_of(place, DIR), bytes),
         ]?;
@@ -93,8 +94,8 @@ fn dir_creation(
     }
     let name = Vec::from_slice(alloc, text)?;
     let deeds = vec![in alloc;
-        Deed::MakeDir(two_of(own)),
-        Deed::MakeDir(folder_of(own)),
+        Deed::MakeDir(host_two(own)),
+        Deed::MakeDir(host_folder(own)),
         Deed::MakeDir(entry_of(place)),
         Deed::Put(inner_of(place, NAME), name),
         Deed::Put(inner_of(place, DIR), bytes),

@@ -9,8 +9,8 @@ ghost use Rattle.tree_changes.specs.Deeds.{remove_node_at, remove_dir_at};
 ghost use Rattle.change_deeds.specs.Made.{IsHostPlace, place_at};
 
 use crate::known::{CONTENTS, DIR, DIRID, NAME, SYMLINK};
-use crate::place::{Place, entry_of, folder_of, inner_of, joined};
-use clear_tree::What;
+use crate::place::{Place, entry_of, inner_of};
+use clear_tree::{What, host_folder};
 use deeds::Deed;
 use std::alloc::{AllocError, Global};
 
@@ -68,8 +68,8 @@ fn dir_removal(alloc: Global, place: &Place, own: &[u8; 32]) -> Result<Vec<Deed>
     ensures { IfOk result (λ deeds. plains deeds.items
         ≡ remove_dir_at (place_at place.now).long (place_at place.now).folder (place_at place.now).entry own.now) }
 {
-    let folder = folder_of(own);
-    let copy = joined(&folder, DIRID);
+    let folder = host_folder(own);
+    let copy = folder.joined(DIRID);
     if !place.long {
         let deeds = vec![in alloc;
             Deed::Remove(inner_of(place, DIR)),

@@ -1,25 +1,14 @@
 ghost use Rattle.std.specs.Prelude.{◌≡◌};
 ghost use Rattle.std.specs.Option.{option_copied};
-ghost use Rattle.tree_model.specs.Rows.{mode_of, owner, qid_of};
+ghost use Rattle.tree_model.specs.Rows.{owner, qid_of};
 ghost use Rattle.tree_model.specs.Asked.{plain_change};
 ghost use Rattle.tree_model.specs.Step.{is_other, is_other_qid, is_other_text, touches_fixed};
-ghost use Rattle.clear_tree.specs.Kept.{kind_of};
-ghost use Rattle.clear_tree.specs.Built.{kept_what};
 ghost use Rattle.change_plans.specs.Deciding.{bare_row};
 
 use clear_tree::What;
 use live_tree::LiveNode;
+use tree_answers::{OWNER, mode};
 use tree_model::{Qid, StatChange};
-
-// Who owns each node.
-const OWNER: &str = "vault";
-
-// The modes of a directory, of a file, and of what can only be read: DMDIR, and the permissions of stat(5).
-const DIRECTORY_MODE: u32 = 0x8000_01ED;
-
-const FILE_MODE: u32 = 0x1A4;
-
-const READ_ONLY_MODE: u32 = 0x124;
 
 /// Whether a field other than name, length and mtime is touched and isn't as it is.
 pub(crate) fn touches_fixed(number: u64, node: &LiveNode, change: &StatChange<'_>) -> bool
@@ -87,16 +76,5 @@ fn qid(number: u64, node: &LiveNode) -> Qid
         kind,
         version: node.version(),
         path: number,
-    }
-}
-
-// The permissions of a node.
-fn mode(what: &What) -> u32
-    ensures { result ≡ mode_of (kind_of (kept_what what.now)) }
-{
-    match what {
-        What::Dir { .. } => DIRECTORY_MODE,
-        What::File { .. } => FILE_MODE,
-        What::Link { .. } | What::Bad { .. } => READ_ONLY_MODE,
     }
 }

@@ -2,13 +2,13 @@ ghost use Rattle.std.specs.Prelude.{◌≡◌, ◌==◌, ◌||◌, IfOk};
 ghost use Rattle.std.specs.List.{list_any};
 ghost use Rattle.tree_model.specs.Names.{clear_name};
 ghost use Rattle.tree_model.specs.Step.{raw_name_refusal};
-ghost use Rattle.tree_answers.specs.Walk.{bad_name_refusal};
 ghost use Rattle.change_plans.specs.Deciding.{has_name, name_or_refusal};
 
 use live_tree::LiveNode;
-use name_cipher::{BadName, Name, clear_name};
+use name_cipher::{Name, clear_name};
 use nfc_text::nfc;
 use std::alloc::{AllocError, Global};
+use tree_answers::name_refusal;
 use tree_model::Refusal;
 
 /// Whether the form NFC of a name is the node's own name.
@@ -47,18 +47,5 @@ pub(crate) fn checked_name(alloc: Global, name: &str) -> Result<Result<Name, Ref
             Some(refusal) => Ok(Err(refusal)),
             None => Err(AllocError),
         },
-    }
-}
-
-// What refuses a text that is no name, unless memory ran out.
-fn name_refusal(fault: BadName) -> Option<Refusal>
-    ensures { result ≡ bad_name_refusal fault }
-{
-    match fault {
-        BadName::NotUtf8 | BadName::Empty | BadName::Dots | BadName::Forbidden => {
-            Some(Refusal::BadName)
-        }
-        BadName::TooLong(_) => Some(Refusal::NameTooLong),
-        BadName::Memory => None,
     }
 }

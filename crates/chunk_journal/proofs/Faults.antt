@@ -1,5 +1,5 @@
 -- Why a step failed, and when it can be made.
-use Rattle.std.proofs.Common.{◌≡◌, ◌⊎◌, ℕ, ◌≤◌, List, Option, Some, None, Err, refl, inl, inr, arith}
+use Rattle.std.proofs.Common.{◌≡◌, ◌⊎◌, ℕ, List, Option, Some, None, Err, refl, inl, inr}
 use Rattle.std.specs.Prelude.{IsErrOf, IsNone}
 use Rattle.outside.specs.declared.folder.FolderErr.{FolderErr}
 use Rattle.outside.specs.declared.folder.FolderErr.TheVariants as errors
@@ -25,13 +25,6 @@ pub sync_cause : {T : Type 0} (error : FolderErr) (a b : ℕ) (F : Type 0) → H
 sync_cause errors.Failed a b F cause unfit memory = record { later = cause.later; rose = λ _. cause.rose refl }
 sync_cause errors.Unfit a b F cause unfit memory = absurd (unfit refl)
 sync_cause errors.Memory a b F cause unfit memory = absurd (memory refl)
-
-pub rose_before : (a b c : ℕ) → a ≤ b → Rose b c → Rose a c
-rose_before a b c le (inl lt) = inl (omega arith)
-rose_before a b c le (inr end) = inr end
-
-pub cause_then : (a b c : ℕ) (F : Type 0) → a ≤ b → HasCause b c F → HasCause a c F
-cause_then a b c F le cause = record { later = omega (arith, cause.later); rose = λ failed. rose_before a b c le (cause.rose failed) }
 
 -- where no folder stands, a file can be put
 pub free_put : (o : Option Node) → (o ≡ Some folder → ⊥) → IsNone o ⊎ ((bytes : List ℕ) × (o ≡ Some (file bytes)))

@@ -1,11 +1,10 @@
-ghost use Rattle.std.specs.Prelude.{◌≡◌, ◌≤◌, ◌+◌, ◌<◌, ◌^◌, ◌-◌, ℕ, get_or, Some, MatchOption, ⊤, IfOk, IfErr, IsErrOf, length};
+ghost use Rattle.std.specs.Prelude.{◌≡◌, ◌≤◌, ◌+◌, ◌<◌, ◌^◌, ◌-◌, ℕ, get_or, Some, MatchOption, ⊤, IfOk, IfErr, IsErrOf};
 ghost use Rattle.outside.specs.Calls.{HasCause, Told};
-ghost use Rattle.outside.specs.Disk.{IsFolder};
 ghost use Rattle.outside.specs.Images.{now};
 ghost use Rattle.deeds.specs.Grammar.{IsBatch};
 ghost use Rattle.deeds.specs.Plain.{plains};
 ghost use Rattle.chunk_journal.specs.Journal.{journal_file, new_file, HoldsBatch, IsClosed};
-ghost use Rattle.chunk_journal.specs.Opening.{said_len, HasFolder, HasLen, Says, OfLen, IsCutAt, IsUnreadAt, IsBadBehindGate, IsDamagedAt, IfDamaged};
+ghost use Rattle.chunk_journal.specs.Opening.{said_len, HasFolder, HasLen, Says, OfLen, IsBadBehindGate, IsDamagedAt, IfDamaged};
 
 use crate::fault::JournalErr;
 use crate::steps::{GATE, OPEN};

@@ -1,6 +1,6 @@
-ghost use Rattle.std.specs.Prelude.{◌≡◌, ◌∷◌, [], ℕ, List, Some, OnOk, IfOk, IsErr, IsTrue};
+ghost use Rattle.std.specs.Prelude.{◌≡◌, Some, OnOk, IfOk, IsErr, IsTrue};
 ghost use Rattle.outside.specs.Calls.{HasCause, Told, Changes};
-ghost use Rattle.outside.specs.Disk.{Disk, file, node_at};
+ghost use Rattle.outside.specs.Disk.{Disk};
 ghost use Rattle.outside.specs.Images.{now, IsSteady};
 ghost use Rattle.deeds.specs.Deeds.{DoesAll, StaysAmid, in_order};
 ghost use Rattle.deeds.specs.Grammar.{IsBatch};
@@ -26,10 +26,7 @@ pub fn do_deeds<D: Folder>(folder: &mut D, deeds: &[Deed]) -> Result<(), Device>
     ensures amid { Changes (D.log folder.old) (D.log folder.new) (StaysAmid (in_order (plains deeds.now))) }
     ensures cause { HasCause (D.faults folder.old) (D.faults folder.new) (IsErr result) }
 {
-    match do_batch(folder, deeds) {
-        Ok(()) => Ok(()),
-        Err(_) => Err(Device),
-    }
+    do_batch(folder, deeds).map_err(|_| Device)
 }
 
 /// Commits a batch to a journal that is there: the batch is put behind the closed gate, the gate is opened, the deeds are

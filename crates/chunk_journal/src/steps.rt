@@ -1,4 +1,4 @@
-ghost use Rattle.std.specs.Prelude.{◌≡◌, OnOk, OnErr, IsErr};
+ghost use Rattle.std.specs.Prelude.{OnOk, IsErr};
 ghost use Rattle.outside.specs.Calls.{HasCause, Told, Changes};
 ghost use Rattle.outside.specs.Changes.{Put, Write, Move, CanDo, IsPartOf};
 ghost use Rattle.outside.specs.Images.{now, IsSteady, HasKept, LeavesOnly};

@@ -26,18 +26,18 @@ less_is Less h = refl
 less_is Equal h = absurd h
 less_is Greater h = absurd h
 
-first_true : (a b : Bool) → T (a && b) → T a
+pub first_true : (a b : Bool) → T (a && b) → T a
 first_true true b h = tt
 first_true false b h = h
 
-second_true : (a b : Bool) → T (a && b) → T b
+pub second_true : (a b : Bool) → T (a && b) → T b
 second_true true b h = h
 second_true false b h = absurd h
 
 abbrev Entry : Type 0
 Entry = Path × Node
 
-below_at : (p : Path) (es : List Entry) (k : ℕ) (e : Entry) → T (below_all walk_cmp p es) → slice_get es k ≡ Some e → walk_cmp p e.0 ≡ Less
+pub below_at : (p : Path) (es : List Entry) (k : ℕ) (e : Entry) → T (below_all walk_cmp p es) → slice_get es k ≡ Some e → walk_cmp p e.0 ≡ Less
 below_at p [] k e h g = absurd (cc)
 below_at p (f ∷ es) zero e h g = let is : f ≡ e = cc in subst (λ (z : Entry). walk_cmp p z.0 ≡ Less) is (less_is _ (first_true _ _ h))
 below_at p (f ∷ es) (suc k) e h g = below_at p es k e (second_true _ _ h) g
@@ -79,6 +79,31 @@ number_at (e ∷ es) p x h = go (walk_cmp p e.0) refl h (number_at es p x)
     go Less is y rest = apart (tied (λ z. cc)) y rest
     go Equal is y rest = there (walk_equal p e.0 is) y
     go Greater is y rest = apart (tied (λ z. cc)) y rest
+
+-- in a sorted list the number of an entry's path is that of the entry
+pub number_is : (es : List Entry) (k : ℕ) (e : Entry) → T (is_sorted walk_cmp es) → slice_get es k ≡ Some e → rows.number_of es e.0 ≡ k
+number_is [] k e h g = absurd (cc)
+number_is (f ∷ es) zero e h g =
+    let is : f ≡ e = cc in
+    ap (λ (b : Bool). cond b 0 (suc (rows.number_of es e.0))) (same_path-from f.0 e.0 (ap (λ (z : Entry). z.0) is))
+number_is (f ∷ es) (suc k) e h g = go (same_path f.0 e.0) refl (number_is es k e (second_true _ _ h) g)
+  where
+    less : walk_cmp f.0 e.0 ≡ Less
+    less = below_at f.0 es k e (first_true _ _ h) g
+
+    go : (b : Bool) → same_path f.0 e.0 ≡ b → rows.number_of es e.0 ≡ k → cond b 0 (suc (rows.number_of es e.0)) ≡ suc k
+    go false is ih = ap suc ih
+    go true is ih = let z : Less ≡ Equal = sym less ∙ ap (λ (q : Path). walk_cmp q e.0) (same_path-true f.0 e.0 is) ∙ walk_itself e.0 in absurd (cc)
+
+none_before_root : (p : Path) → walk_cmp p [] ≢ Less
+none_before_root [] e = cc
+none_before_root (m ∷ p) e = cc
+
+-- the root comes first
+pub first_zero : (es : List Entry) (k : ℕ) (x : Node) → T (is_sorted walk_cmp es) → slice_get es k ≡ Some ([], x) → k ≡ 0
+first_zero [] k x h at = absurd (cc)
+first_zero (f ∷ es) zero x h at = refl
+first_zero (f ∷ es) (suc k) x h at = absurd (none_before_root f.0 (below_at f.0 es k ([], x) (first_true _ _ h) at))
 
 -- ---- rows
 

@@ -11,6 +11,7 @@
 //! Its functions that stand alone are laws: they do nothing, and their clauses hold.
 #![tactic(auto)]
 
+mod host_paths;
 mod node;
 mod tree;
 
@@ -18,6 +19,7 @@ ghost use Rattle.clear_tree.specs.Kept.{KeepingTellsRows};
 ghost use Rattle.clear_tree.specs.Loading.{LoadingEnds};
 ghost use Rattle.clear_tree.specs.Laws.{EmptyVaultIsClear, OneDirectoryIsMade, OneDirectoryIsRemoved, OnePlaceChanges, OneTree, RowsAreDetermined, WalkEnds, WalkGoesOn};
 
+pub use host_paths::{host_entry, host_folder, host_inner, host_two};
 pub use node::{Node, What};
 pub use tree::{Tree, TreeNodes};
 

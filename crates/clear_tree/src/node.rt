@@ -1,8 +1,8 @@
-ghost use Rattle.std.specs.Prelude.{◌≡◌, ◌≤◌, [], false, length, IfOk, IfSome, IsTrue};
+ghost use Rattle.std.specs.Prelude.{◌≡◌, ◌≤◌, false, length, IfOk, IfSome, IsTrue};
 ghost use Rattle.std.specs.Option.{option_copied};
 ghost use Rattle.std.specs.Str.{IsUtf8};
 ghost use Rattle.vault_path.specs.Parts.{is_path};
-ghost use Rattle.tree_model.specs.Names.{IsClearName};
+ghost use Rattle.tree_model.specs.Names.{IsClearName, name_limit};
 ghost use Rattle.tree_model.specs.Rows.{root};
 ghost use Rattle.clear_tree.specs.Places.{host_folder};
 ghost use Rattle.clear_tree.specs.Kept.{folder_in};
@@ -113,7 +113,7 @@ impl Node {
     pub fn name(&self) -> &[u8]
         ensures bytes { result.now ≡ self.now.name }
         ensures text { IsUtf8 self.now.name }
-        ensures short { length self.now.name ≤ 1024 }
+        ensures short { length self.now.name ≤ name_limit }
     {
         self.name.as_bytes()
     }
@@ -122,7 +122,7 @@ impl Node {
     pub fn name_text(&self) -> &Text
         ensures bytes { result.now ≡ self.now.name }
         ensures text { IsUtf8 self.now.name }
-        ensures short { length self.now.name ≤ 1024 }
+        ensures short { length self.now.name ≤ name_limit }
     {
         &self.name
     }

@@ -1,10 +1,11 @@
-ghost use Rattle.std.specs.Prelude.{◌≡◌, ◌≢◌, ◌<◌, ◌≤◌, ℕ, [], ◌∷◌, ◌++◌, length, true, false, IsTrue, Some, None, IfSome, IfNone, IsSomeAnd, IfOk, OnOk, OnErr, slice_get};
+ghost use Rattle.std.specs.Prelude.{◌≡◌, ◌≢◌, ◌<◌, ◌≤◌, ℕ, ◌∷◌, length, true, false, IsTrue, Some, None, IfSome, IfNone, IsSomeAnd, IfOk, OnOk, OnErr, slice_get};
 ghost use Rattle.std.specs.Option.{option_copied};
 ghost use Rattle.vault_path.specs.Parts.{is_part, is_path};
 ghost use Rattle.clear_tree.specs.Places.{host_folder, host_entry, host_inner};
 ghost use Rattle.clear_tree.specs.Kept.{KeptNode, IsNamed, IsNext, IsNoNext, IsTree, folder_in, node_of, path_of, size_of};
 ghost use Rattle.clear_tree.specs.Built.{AreInOrder, place_of, is_past, FitsBehind, root_alone, with_node, with_foreign, with_twice};
 
+use crate::host_paths::{host_entry, host_inner};
 use crate::node::{Node, What};
 use std::alloc::{AllocError, Global};
 use std::marker::Model;
@@ -155,9 +156,9 @@ impl Tree {
         let node = self.node(number)?;
         let folder = self.node(node.parent())?.folder()?;
         match node.what() {
-            What::File { .. } if node.is_long() => Some(inner_path(folder, node.entry(), CONTENTS)),
-            What::File { .. } => Some(entry_path(folder, node.entry())),
-            What::Link { .. } => Some(inner_path(folder, node.entry(), SYMLINK)),
+            What::File { .. } if node.is_long() => Some(host_inner(folder, node.entry(), CONTENTS)),
+            What::File { .. } => Some(host_entry(folder, node.entry())),
+            What::Link { .. } => Some(host_inner(folder, node.entry(), SYMLINK)),
             _ => None,
         }
     }
@@ -194,36 +195,4 @@ fn first_past(nodes: &[Node], parent: u64, last: Option<&[u8]>) -> usize
         → is_past parent (option_copied last.entry) (place_of node) ≡ true }
 {
     nodes.partition_point(|node| !node.is_past(parent, last))
-}
-
-// The path of an entry in a directory's folder.
-fn entry_path(folder: &[u8; 32], entry: &[u8]) -> VaultPath
-    requires folder { IsTrue (is_path (host_folder folder.now)) }
-    requires entry { IsTrue (is_part entry.now) }
-    ensures { result ≡ host_entry folder.now entry.now }
-{
-    let (two, rest) = folder.split_at(2);
-    let above = joined(&joined(&VaultPath::root(), b"d"), two);
-    joined(&joined(&above, rest), entry)
-}
-
-// The path of a file in a node folder.
-fn inner_path(folder: &[u8; 32], entry: &[u8], file: &[u8]) -> VaultPath
-    requires folder { IsTrue (is_path (host_folder folder.now)) }
-    requires entry { IsTrue (is_part entry.now) }
-    requires file { IsTrue (is_part file.now) }
-    ensures { result ≡ host_inner folder.now entry.now file.now }
-{
-    joined(&entry_path(folder, entry), file)
-}
-
-// The path one good part further.
-fn joined(path: &VaultPath, part: &[u8]) -> VaultPath
-    requires { IsTrue (is_path (path.now ++ part.now ∷ [])) }
-    ensures { result ≡ path.now ++ part.now ∷ [] }
-{
-    match path.join(part) {
-        Ok(further) => further,
-        Err(_) => unreachable!(),
-    }
 }

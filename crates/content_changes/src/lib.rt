@@ -4,7 +4,7 @@
 //! ```
 //! // For its clause: a write is made of a host file by sealing anew just the chunks that it meets.
 //! written_content();
-//! seal_write(&mut folder, &keys, &file, at, bytes, &mut entropy)?;
+//! writer.seal_write(&mut folder, &keys, &file, at, bytes, &mut entropy)?;
 //! ```
 #![tactic(auto)]
 

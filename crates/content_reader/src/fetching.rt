@@ -6,6 +6,8 @@ ghost use Rattle.file_chunks.specs.File.{IsKey, content_of};
 ghost use Rattle.outside.specs.Calls.{Told};
 ghost use Rattle.outside.specs.Images.{disk_in};
 ghost use Rattle.file_chunks.specs.Header.{header_opens};
+ghost use Rattle.file_chunks.specs.declared.size.TheConstants.{CHUNK_LENGTH, HEADER_LENGTH, SEALED_LENGTH};
+ghost use Rattle.content_reader.specs.declared.reader.TheConstants.{SPAN_LIMIT};
 ghost use Rattle.content_reader.specs.Reading.{Ends, RoseUntold, HasHeader, Meets, IsWithin};
 
 use crate::error::ReadErr;
@@ -23,7 +25,7 @@ pub(crate) fn header_of<R: Reads>(
     path: &VaultPath,
 ) -> Result<Header, ReadErr>
     ensures opened { Told (disk_in (R.log folder.old)) (λ d. (bytes : List ℕ) → HasHeader d path.now bytes →
-        Ends (header_opens keys.now (take 68 bytes)) (R.faults folder.old) (R.faults folder.new) result) }
+        Ends (header_opens keys.now (take HEADER_LENGTH bytes)) (R.faults folder.old) (R.faults folder.new) result) }
     ensures log { R.log folder.new ≡ R.log folder.old }
     ensures changes { R.changes folder.new ≡ R.changes folder.old }
     ensures later { R.faults folder.old ≤ R.faults folder.new }
@@ -42,8 +44,8 @@ pub(crate) fn few_chunks(at: u64, count: u64) -> (u64, u64)
     requires few { count ≤ count_limit }
     requires small { at + count < 2 ^ 64 }
     ensures chunks { Meets at count result.0 result.1 }
-    ensures first { result.0 ≡ at / 32768 }
-    ensures few { result.1 ≤ 3 }
+    ensures first { result.0 ≡ at / CHUNK_LENGTH }
+    ensures few { result.1 ≤ SPAN_LIMIT }
 {
     span(at, count)
 }
@@ -62,9 +64,9 @@ pub(crate) fn fill<R: Reads>(
     requires some { 0 < slice.count }
     requires few { slice.count ≤ count_limit }
     requires small { slice.at + slice.count < 2 ^ 64 }
-    requires place { 68 + 32796 * (slice.at / 32768) < 2 ^ 64 }
-    requires sealed { length sealed.old ≡ 98388 }
-    requires clear { length clear.old ≡ 32768 }
+    requires place { HEADER_LENGTH + SEALED_LENGTH * (slice.at / CHUNK_LENGTH) < 2 ^ 64 }
+    requires sealed { length sealed.old ≡ SPAN_LIMIT * SEALED_LENGTH }
+    requires clear { length clear.old ≡ CHUNK_LENGTH }
     requires room { slice.count ≤ length out.old }
     ensures bytes { Told (disk_in (R.log folder.old)) (λ d. (bytes : List ℕ) → IsWithin d path.now slice.at slice.count bytes →
         Ends (slice_of (content_of keys.now bytes) slice.at slice.count) (R.faults folder.old) (R.faults folder.new)

@@ -44,13 +44,15 @@ pub struct ContentReader {
 }
 
 impl Model for ContentReader {
-    ghost use Rattle.std.specs.Prelude.{◌≡◌, vec_len};
+    ghost use Rattle.std.specs.Prelude.{◌≡◌, ◌*◌, vec_len};
+    ghost use Rattle.file_chunks.specs.declared.size.TheConstants.{CHUNK_LENGTH, SEALED_LENGTH};
+    ghost use Rattle.content_reader.specs.declared.reader.TheConstants.{COUNT_LIMIT, SPAN_LIMIT};
 
     ghost Value = { Unit {0} };
 
     ghost view = { λ r. tt };
 
-    ghost invariant = { λ r. (vec_len r.sealed ≡ 98388) × (vec_len r.clear ≡ 32768) × (vec_len r.gathered ≡ 65536) };
+    ghost invariant = { λ r. (vec_len r.sealed ≡ SPAN_LIMIT * SEALED_LENGTH) × (vec_len r.clear ≡ CHUNK_LENGTH) × (vec_len r.gathered ≡ COUNT_LIMIT) };
 }
 
 impl ContentReader {

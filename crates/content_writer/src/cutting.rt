@@ -1,5 +1,5 @@
 ghost use Rattle.std.specs.Prelude.{◌≡◌, ◌≤◌, ◌^◌, ℕ, Some, None, OnOk, OnErr, IsErrOf};
-ghost use Rattle.outside.specs.Calls.{Rose, Changes, Extends};
+ghost use Rattle.outside.specs.Calls.{Rose, Extends};
 ghost use Rattle.outside.specs.Images.{disk_in};
 ghost use Rattle.tree_model.specs.Contents.{resized};
 ghost use Rattle.file_chunks.specs.File.{clear_length, content_of};

@@ -1,4 +1,4 @@
-ghost use Rattle.std.specs.Prelude.{◌≡◌, ◌≤◌, ◌*◌, ◌+◌, ◌^◌, ◌<◌, ℕ, List, Some, IfOk, OnOk, IsErrOf};
+ghost use Rattle.std.specs.Prelude.{◌≡◌, ◌≤◌, ◌*◌, ◌^◌, ◌<◌, ℕ, List, Some, IfOk, OnOk, IsErrOf};
 ghost use Rattle.outside.specs.Calls.{Told};
 ghost use Rattle.outside.specs.Images.{disk_in};
 ghost use Rattle.file_chunks.specs.File.{IsKey, clear_length};
@@ -59,7 +59,7 @@ pub(crate) fn fetch<R: Reads>(
     index: u64,
     plaintext: &mut Plaintext,
 ) -> Result<(), WriteErr>
-    requires place { index < 2 ^ 40 }
+    requires index { index < 2 ^ 40 }
     ensures old { OnOk result (IsOldPlaintext (disk_in (R.log folder.old)) path.now content.now.header content.now.length index plaintext.new) }
     ensures damaged { IsErrOf result WriteErr.Damaged → IsDamagedChunk (disk_in (R.log folder.old)) path.now content.now.header content.now.length index }
     ensures device { IsErrOf result WriteErr.Device → HasFaulted (disk_in (R.log folder.old)) path.now (R.faults folder.old) (R.faults folder.new) }

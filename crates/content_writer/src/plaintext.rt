@@ -1,4 +1,4 @@
-ghost use Rattle.std.specs.Prelude.{◌≡◌, ◌≤◌, ◌<◌, ◌+◌, ◌-◌, ◌*◌, ◌^◌, ◌++◌, ℕ, List, [], length, take, drop, replicate, max, Some, None, IfOk, IfErr, OnOk, OnErr, IsErrOf};
+ghost use Rattle.std.specs.Prelude.{◌≡◌, ◌≤◌, ◌<◌, ◌+◌, ◌-◌, ◌*◌, ◌^◌, ◌++◌, ℕ, List, [], length, take, drop, replicate, max, Some, None, OnOk, IsErrOf};
 ghost use Rattle.outside.specs.Calls.{Told};
 ghost use Rattle.outside.specs.Disk.{node_at, file};
 ghost use Rattle.outside.specs.Images.{disk_in};

@@ -1,4 +1,4 @@
-ghost use Rattle.std.specs.Prelude.{◌≡◌, ◌≤◌, ◌<◌, ◌+◌, ◌-◌, ◌/◌, ◌*◌, ◌^◌, ℕ, List, length, min, OnOk, OnErr, IsErrOf};
+ghost use Rattle.std.specs.Prelude.{◌≡◌, ◌≤◌, ◌<◌, ◌+◌, ◌/◌, ◌*◌, ◌^◌, length, min, OnOk, OnErr, IsErrOf};
 ghost use Rattle.std.specs.Int.{div_ceil};
 ghost use Rattle.outside.specs.Calls.{Rose, Changes, Extends};
 ghost use Rattle.outside.specs.Images.{disk_in};

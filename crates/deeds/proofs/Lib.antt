@@ -2,6 +2,7 @@ pub mod Again
 pub mod Fronts
 pub mod Amid
 pub mod Frame
+pub mod Overwritten
 pub mod Reshape
 pub mod Doing
 pub mod Phases

@@ -1,4 +1,4 @@
-ghost use Rattle.std.specs.Prelude.{◌≡◌, ◌≤◌, ◌<◌, ◌-◌, ◌++◌, ◌+◌, ◌^◌, length, take, drop, min, IfOk, IfErr, OnOk, IsErrOf};
+ghost use Rattle.std.specs.Prelude.{◌≡◌, ◌≤◌, ◌-◌, ◌++◌, ◌+◌, length, take, drop, min, IfOk, IfErr, OnOk, IsErrOf};
 ghost use Rattle.outside.specs.Calls.{Told, Changes, HasCause};
 ghost use Rattle.outside.specs.Images.{now, IsSteady};
 ghost use Rattle.deeds.specs.Deeds.{DoesAll, StaysAmid, in_order, IsRefusal, IsRefusedAt, IfUnfit};

@@ -1,4 +1,4 @@
-ghost use Rattle.std.specs.Prelude.{◌≡◌, ◌↔◌, [], ◌∷◌, ◌++◌, IfOk, IfErr, OnOk, OnErr, IsErrOf, IsTrue};
+ghost use Rattle.std.specs.Prelude.{◌≡◌, ◌↔◌, [], ◌∷◌, IfOk, IfErr, OnOk, IsErrOf, IsTrue};
 ghost use Rattle.outside.specs.Calls.{HasCause, Told, Changes, IsUnfit};
 ghost use Rattle.outside.specs.Disk.{Disk};
 ghost use Rattle.outside.specs.Images.{now, IsSteady};
@@ -186,8 +186,5 @@ pub fn do_phase<F: Folder>(folder: &mut F, deeds: &[Deed], phase: Phase) -> Resu
     ensures cause { HasCause (F.faults folder.old) (F.faults folder.new) (IsErrOf result DeedErr.Failed) }
 {
     do_deeds(folder, deeds, phase)?;
-    match folder.sync() {
-        Ok(()) => Ok(()),
-        Err(_) => Err(DeedErr::Failed),
-    }
+    folder.sync().map_err(|_| DeedErr::Failed)
 }

@@ -36,7 +36,7 @@ mod writes;
 mod writing;
 
 ghost use Rattle.std.specs.Prelude.{List, ℕ, [], ◌∷◌};
-ghost use Rattle.outside.specs.Disk.{Disk, Path, IsTree, IsFolder};
+ghost use Rattle.outside.specs.Disk.{Disk, IsTree, IsFolder};
 ghost use Rattle.deeds.specs.Deeds.{PlainDeed, DoesAll, AreApart, IsAmid, IsSameDisk, IsOneOf, IsAlikeBut, Unnamed, IsPartOfDeed};
 
 pub use batch::{do_batch, len_before, read_batch, write_batch};

@@ -7,7 +7,7 @@ ghost use Rattle.deeds.specs.Reading.{Gives, byte_at, number_at, bytes_at, short
 use crate::deed::Deed;
 use crate::writes::Range;
 use std::alloc::{AllocError, AllocFailed, Global};
-use vault_path::VaultPath;
+use vault_path::{BadPart, VaultPath};
 
 /// Why no deed was read.
 #[derive(Clone, Copy, Debug, PartialEq, Eq)]
@@ -26,6 +26,17 @@ impl From<AllocError> for ReadErr {
 
     fn from(_error: AllocError) -> ReadErr {
         ReadErr::Memory
+    }
+}
+
+impl From<BadPart> for ReadErr {
+    ghost use Rattle.std.specs.Prelude.{◌≡◌};
+    ghost use Rattle.deeds.specs.declared.reading.ReadErr.TheVariants.{Bad};
+
+    ghost from_gives = { λ _ e. e ≡ Bad };
+
+    fn from(_error: BadPart) -> ReadErr {
+        ReadErr::Bad
     }
 }
 
@@ -100,10 +111,7 @@ fn parts_of(count: u8, bytes: &[u8]) -> Result<(VaultPath, &[u8]), ReadErr>
     let mut rest = bytes;
     for _ in 0..count {
         let (part, after) = short_of(rest)?;
-        path = match path.join(part) {
-            Ok(longer) => longer,
-            Err(_) => return Err(ReadErr::Bad),
-        };
+        path = path.join(part)?;
         rest = after;
     }
     Ok((path, rest))

@@ -1,4 +1,4 @@
-ghost use Rattle.std.specs.Prelude.{◌≡◌, ◌↔◌, ◌≢◌, ◌≤◌, IsTrue, length, drop};
+ghost use Rattle.std.specs.Prelude.{◌≡◌, ◌↔◌, ◌≢◌, IsTrue};
 ghost use Rattle.deeds.specs.Deeds.{names, NotIn, NoneIn, Unnamed, ApartFrom, AreApart};
 ghost use Rattle.deeds.specs.Plain.{plain, plains};
 ghost use Rattle.deeds.specs.Repeatable.{journal_file, new_file, IsRepeatable};

@@ -1,5 +1,4 @@
-ghost use Rattle.std.specs.Prelude.{◌≡◌, ◌≤◌, ◌<◌, ◌^◌, ◌++◌, ◌∷◌, [], length};
-ghost use Rattle.std.specs.Int.{w32, w64, to_be_bytes};
+ghost use Rattle.std.specs.Prelude.{◌≤◌, length};
 
 /// A window of a text that is written from its beginning: how many bytes come before it, and how many of it are filled.
 #[derive(Clone, Copy, Debug, PartialEq, Eq)]

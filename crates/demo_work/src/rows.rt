@@ -1,6 +1,6 @@
 //! The line that sums a demonstration up.
 
-ghost use Rattle.std.specs.Prelude.{◌≡◌, ◌<◌, ◌^◌, ◌++◌, IfOk, OnOk, codes, decimal, map, sum_by};
+ghost use Rattle.std.specs.Prelude.{◌≡◌, ◌++◌, IfOk, OnOk, decimal, map, sum_by};
 ghost use Rattle.std.specs.List.{flat_map};
 ghost use Rattle.hex.specs.Hex.{encode_lower};
 ghost use Rattle.demo_work.specs.Summary.{bytes_in, plain_row, row_line, summary_line};

@@ -1,4 +1,4 @@
-ghost use Rattle.std.specs.Prelude.{◌≡◌, ◌≢◌, ℕ, List, [], ◌∷◌, ◌++◌, true, false, IsTrue, IfOk, IfSome, IsErrOf, MatchOption};
+ghost use Rattle.std.specs.Prelude.{◌≡◌, ◌≢◌, true, false, IsTrue, IfOk, IfSome, IsErrOf, MatchOption};
 ghost use Rattle.vault_path.specs.Parts.{is_part};
 ghost use Rattle.outside.specs.Disk.{IsFolder};
 ghost use Rattle.outside.specs.Calls.{HasCause, Told};
@@ -6,7 +6,7 @@ ghost use Rattle.outside.specs.Images.{disk_in};
 ghost use Rattle.clear_tree.specs.Places.{host_entry, host_folder, text_dirid};
 ghost use Rattle.directory_scan.specs.Format.{sealing_of};
 ghost use Rattle.directory_scan.specs.Ciphers.{is_long_entry};
-ghost use Rattle.directory_scan.specs.Entries.{IsEntry, IsLongName, IsNoLongName, IsOpened, IsReadable, IsThere};
+ghost use Rattle.directory_scan.specs.Entries.{IsLongName, IsNoLongName, IsReadable};
 
 use crate::fault::ScanErr;
 use crate::found::FoundNode;

@@ -8,10 +8,9 @@ ghost use Rattle.file_chunks.specs.File.{IsKey, KeepsLength, clear_length, conte
 
 use crate::size::{CHUNK_LENGTH, HEADER_LENGTH, SEALING_LENGTH};
 
-/// What reading a host file's content amounts to, for each pair of keys, all bytes of a file and
-/// each slice: which sizes are bad, how long the content is, and what the slice is by the chunk
-/// that holds its first byte. A slice past that chunk is read as two, one after the other. It does
-/// nothing.
+/// A law of the content of host files, for each pair of keys, all bytes of a file and each slice:
+/// which sizes are bad, how long the content is, and which bytes of which chunk the slice has. A
+/// slice past its first chunk is two, one behind the other. It does nothing.
 pub fn reads_are_slices()
     // What GCM opens under AES-256 is as long as its ciphertext.
     ensures keeps { KeepsLength }

@@ -12,6 +12,7 @@ use Rattle.tree_changes.specs.Deeds.{place_of}
 use Rattle.tree_changes.proofs.Maps.{get_with}
 use Rattle.live_tree.specs.Held.{HeldNode, HeldTree, IsNamed, IsFree, IsChildless, IsDirectory, IsTree}
 use Rattle.live_tree.specs.Changes.{new_node, appended, changed, edited, renamed_node, sized_node, dated, dated_node, AgreeBut}
+use Rattle.live_tree.proofs.Held.{still_named}
 use Rattle.held_changes.specs.Holds.{IsAt, Holds, AreHeldContents}
 use Rattle.held_changes.specs.Writing.{with_file}
 use Rattle.held_changes.specs.Contents.{MakingKeepsContents, RemovingKeepsContents, RenamingKeepsContents, WritingKeepsContents, DatingKeepsContents}
@@ -46,7 +47,7 @@ module _ (s : Sealing) (tree : Tree) (live : HeldTree) (p : Path) (parent : ℕ)
   apart e = let low = trees.parent_below live ok new up free refl in omega (arith, low, e)
 
   back : (q : Path) (y : ℕ) → IsAt (appended live new) q y → (IsAt live q y × (n ∷ p ≢ q)) ⊎ ((n ∷ p ≡ q) × (y ≡ live.next))
-  back = paths.more_back live ok (appended live new) p parent live.next n at_p free (trees.more_forth live ok new up free refl) (trees.more_back live ok new up free refl)
+  back = paths.more_back live ok (appended live new) p parent live.next n at_p free (still_named live new ok.numbers) (trees.more_back live ok new up free refl)
       (trees.next_none live ok new up free refl) apart (trees.more_named live ok new up free refl)
 
   old_number : (q : Path) (y : ℕ) → IsAt live q y → y ≢ live.next

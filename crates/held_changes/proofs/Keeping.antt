@@ -8,11 +8,11 @@ use Rattle.tree_changes.specs.Trees.{Tree}
 use Rattle.tree_changes.proofs.Seeing.{some_there}
 use Rattle.live_tree.specs.Held.{HeldNode, HeldTree, node_of, IsNamed, IsFree, IsChildless, IsTree}
 use Rattle.live_tree.specs.Changes.{changed, changed_node}
-use Rattle.live_tree.proofs.After.{IsAlike, lookup_edit, picked, by_pick}
+use Rattle.live_tree.proofs.After.{IsAlike, forth, lookup_edit, picked, by_pick}
 use Rattle.held_changes.specs.Holds.{IsAt, IsPlaced, IsHeldAs, Holds}
 use Rattle.held_changes.specs.Laws.{FreeNamesAreFree, ChildlessHaveNoChild}
 use Rattle.held_changes.proofs.Paths.{one_number}
-use Rattle.held_changes.proofs.Trees.{forth, tree_edited, edited_forth, edited_back}
+use Rattle.held_changes.proofs.Trees.{tree_edited, edited_forth, edited_back}
 
 -- ---- names and children
 
@@ -102,7 +102,7 @@ module _ (live : HeldTree) (is : IsTree live) (k now : ℕ) where
   pub changed_kept : (x : ℕ) (held : HeldNode) → node_of live x ≡ Some held → IsKeptIn (changed live k now) x held
   changed_kept x held there = record {
     node = picked k (changed_node now) x held;
-    there = forth live (changed live k now) is (picked k (changed_node now)) (λ q. lookup q) refl
+    there = forth live (changed live k now) (picked k (changed_node now)) (λ q. lookup q)
         (λ q n h. by_pick (λ n'. IsAlike n n') k (changed_node now) q n (λ e. record { parent = refl; folder = refl }) (record { parent = refl; folder = refl })) x held there;
     same = by_pick (λ n'. n'.kept ≡ held.kept) k (changed_node now) x held (λ e. refl) refl;
   }

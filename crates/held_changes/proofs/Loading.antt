@@ -1,25 +1,23 @@
 -- A tree as it was loaded holds the tree of its disk.
 use Rattle.std.specs.Prelude.{T, is_some}
-use Rattle.std.proofs.Common.{◌≡◌, ◌≢◌, ◌↔◌, ◌<◌, ◌+◌, ◌&&◌, ℕ, zero, suc, Bool, true, false, List, [], ◌∷◌, length, Option, Some, None, IsTrue, slice_get, refl, sym, ap, ap₂, ◌∙◌, subst, arith, true≢false}
+use Rattle.std.proofs.Common.{◌≡◌, ◌≢◌, ◌↔◌, ◌<◌, ℕ, zero, suc, List, [], ◌∷◌, length, Option, Some, None, IsTrue, slice_get, refl, sym, ap, ap₂, ◌∙◌, subst, arith, true≢false}
 use Rattle.std.proofs.lemmas.Option.{slice_get_within}
 use Rattle.std.specs.Cmp.{nat_cmp_is}
-use Rattle.std.specs.declared.cmp.Ordering.{Ordering}
 use Rattle.std.specs.declared.cmp.Ordering.TheVariants.{Less, Equal, Greater}
-use Rattle.std.specs.Ordering.{nat_cmp, is_lt, ordering_reverse}
+use Rattle.std.specs.Ordering.{nat_cmp, ordering_reverse}
 use Rattle.std.specs.Option.{option_map, option_and_then}
 use Rattle.std.specs.FinMap.{get, entries, get-entries, entries_sorted}
 use Rattle.std.specs.FinMap.Entries.{is_sorted, below_all}
 use Rattle.std.specs.List.{AllByRecursion}
 use Rattle.std.specs.List.Sorted.{IsStrictlySortedBy}
-use Rattle.std.specs.Map.{lookup, keys_of}
-use Rattle.std.specs.BTreeMap.{is_at}
+use Rattle.std.specs.Map.{keys_of}
 use Rattle.outside.specs.Disk.{Disk, Node as Thing, IsTree as IsDiskTree}
 use Rattle.tree_model.specs.Rows.{Content, root}
 use Rattle.clear_tree.specs.Walk.{Path, walk_cmp, Sealing, Node, Dir, node_at}
 use Rattle.clear_tree.specs.Places.{folders_of, entry_at}
 use Rattle.clear_tree.specs.Rows.{number_of}
 use Rattle.clear_tree.specs.Kept.{KeptNode, KeptTree, IsKept, kept_node, is_absent, long_in, long_by, entry_in, folder_in, path_in, size_in, AreContents, path_of as kept_path, size_of as kept_size, parent_folder as kept_folder}
-use Rattle.clear_tree.proofs.Keeping.{find_at, number_at, kept_at}
+use Rattle.clear_tree.proofs.Keeping.{first_true, second_true, below_at, find_at, number_at, number_is, first_zero, kept_at}
 use Rattle.clear_tree.proofs.Paths.{walk_itself}
 use Rattle.clear_tree.proofs.Unique.{walk_antisymm}
 use Rattle.tree_changes.specs.Trees.{Tree, IsTreeOf}
@@ -27,7 +25,7 @@ use Rattle.tree_changes.proofs.Exact.{parent_there}
 use Rattle.tree_changes.proofs.Held.{entries_are_of_places}
 use Rattle.tree_changes.proofs.Seeing.{some_there}
 use Rattle.live_tree.specs.Held.{HeldNode, HeldTree, node_of, unchanged_node, numbered, path_of, size_of, parent_folder, IsNamed, IsTree, HasParent}
-use Rattle.live_tree.proofs.Held.{at_true, at_false}
+use Rattle.live_tree.proofs.Loading.{numbered_at}
 use Rattle.held_changes.specs.Holds.{IsAt, IsHeldAs, Holds}
 use Rattle.held_changes.specs.Found.{AreLiveContents}
 use Rattle.held_changes.specs.Loading.{loaded_tree, IsLoaded, LoadingHolds}
@@ -37,24 +35,6 @@ abbrev Entry : Type 0
 Entry = Path × Node
 
 -- ---- numbers in a sorted list
-
-less_is : (o : Ordering) → T (is_lt o) → o ≡ Less
-less_is Less h = refl
-less_is Equal h = absurd h
-less_is Greater h = absurd h
-
-first_true : (a b : Bool) → T (a && b) → T a
-first_true true b h = tt
-first_true false b h = h
-
-second_true : (a b : Bool) → T (a && b) → T b
-second_true true b h = h
-second_true false b h = absurd h
-
-below_at : (p : Path) (es : List Entry) (k : ℕ) (e : Entry) → T (below_all walk_cmp p es) → slice_get es k ≡ Some e → walk_cmp p e.0 ≡ Less
-below_at p [] k e h g = absurd (cc)
-below_at p (f ∷ es) zero e h g = let is : f ≡ e = cc in subst (λ (z : Entry). walk_cmp p z.0 ≡ Less) is (less_is _ (first_true _ _ h))
-below_at p (f ∷ es) (suc k) e h g = below_at p es k e (second_true _ _ h) g
 
 -- what is before in the walk's order has a lower number
 lower : (es : List Entry) (i j : ℕ) (a b : Entry) → T (is_sorted walk_cmp es) → slice_get es i ≡ Some a → slice_get es j ≡ Some b → walk_cmp a.0 b.0 ≡ Less → i < j
@@ -75,22 +55,7 @@ parent_first : (n : List ℕ) (p : Path) → walk_cmp p (n ∷ p) ≡ Less
 parent_first n [] = refl
 parent_first n (m ∷ p) = rw (parent_first m p) refl
 
-none_before_root : (p : Path) → walk_cmp p [] ≢ Less
-none_before_root [] e = cc
-none_before_root (m ∷ p) e = cc
-
-first_zero : (es : List Entry) (k : ℕ) (x : Node) → T (is_sorted walk_cmp es) → slice_get es k ≡ Some ([], x) → k ≡ 0
-first_zero [] k x h at = absurd (cc)
-first_zero (f ∷ es) zero x h at = refl
-first_zero (f ∷ es) (suc k) x h at = absurd (none_before_root f.0 (below_at f.0 es k ([], x) (first_true _ _ h) at))
-
 -- ---- nodes that were numbered
-
-numbered_at : (unlocked from k q : ℕ) (ns : List KeptNode) → q ≡ from + k → lookup (is_at (nat_cmp q)) (numbered unlocked from ns) ≡ option_map (unchanged_node unlocked) (slice_get ns k)
-numbered_at unlocked from k q [] e = refl
-numbered_at unlocked from zero q (y ∷ ns) e = rw (at_true q from (omega (arith, e))) refl
-numbered_at unlocked from (suc k) q (y ∷ ns) e =
-    rw (at_false q from (λ same. omega (arith, e, same))) (numbered_at unlocked (suc from) k q ns (omega (arith, e)))
 
 all_above : (unlocked low from : ℕ) (ns : List KeptNode) → low < from → AllByRecursion (λ (y : ℕ). nat_cmp low y ≡ Less) (keys_of (numbered unlocked from ns))
 all_above unlocked low from [] less = tt
@@ -157,24 +122,6 @@ module _ (s : Sealing) (d : Disk) (kept : KeptTree) (unlocked : ℕ) (is : IsKep
   number_got : (p : Path) (x : Node) → get is.nodes p ≡ Some x → slice_get es (number_of es p) ≡ Some (p, x)
   number_got p x h = number_at es p x (sym (get-entries is.nodes p) ∙ h)
 
-  -- an entry's number is that of its path
-  number_is : (k : ℕ) (e : Entry) → slice_get es k ≡ Some e → number_of es e.0 ≡ k
-  number_is k e h = one (number_of es e.0) k e (number_got e.0 e.1 (got k e h)) h
-    where
-      less : (a b : ℕ) (fs : List Entry) (f : Entry) → T (is_sorted walk_cmp fs) → slice_get fs a ≡ Some f → slice_get fs b ≡ Some f → a ≡ b
-      less a b [] f srt x y = absurd (cc)
-      less zero zero (g ∷ fs) f srt x y = refl
-      less zero (suc b) (g ∷ fs) f srt x y =
-          let same : g ≡ f = cc in
-          let both : Less ≡ Equal = sym (below_at g.0 fs b f (first_true _ _ srt) y) ∙ ap (λ (w : Entry). walk_cmp w.0 f.0) same ∙ walk_itself f.0 in absurd (cc)
-      less (suc a) zero (g ∷ fs) f srt x y =
-          let same : g ≡ f = cc in
-          let both : Less ≡ Equal = sym (below_at g.0 fs a f (first_true _ _ srt) x) ∙ ap (λ (w : Entry). walk_cmp w.0 f.0) same ∙ walk_itself f.0 in absurd (cc)
-      less (suc a) (suc b) (g ∷ fs) f srt x y = ap suc (less a b fs f (second_true _ _ srt) x y)
-
-      one : (a b : ℕ) (f : Entry) → slice_get es a ≡ Some f → slice_get es b ≡ Some f → a ≡ b
-      one a b f x y = less a b es f sorted x y
-
   one_path : (p q : Path) (x y : Node) → get is.nodes p ≡ Some x → get is.nodes q ≡ Some y → number_of es p ≡ number_of es q → p ≡ q
   one_path p q x y hp hq e =
       let w : ◌≡◌ {A = Option Entry} (Some (p, x)) (Some (q, y)) = sym (number_got p x hp) ∙ ap (slice_get es) e ∙ number_got q y hq in
@@ -204,7 +151,7 @@ module _ (s : Sealing) (d : Disk) (kept : KeptTree) (unlocked : ℕ) (is : IsKep
   child k held below there = go (entry_of_node k held there)
     where
       go : (e : Entry) × (slice_get es k ≡ Some e) × (held ≡ held_of e) → Child k held
-      go (([], x), at, form) = absurd (below (sym (number_is k ([], x) at) ∙ root_number))
+      go (([], x), at, form) = absurd (below (sym (number_is es k ([], x) sorted at) ∙ root_number))
       go ((n ∷ q, x), at, form) = record { name = n; above = q; node = x; at = at; form = form }
 
   parents : (k : ℕ) (held : HeldNode) → node_of live k ≡ Some held → k ≢ root → HasParent live k held
@@ -236,7 +183,7 @@ module _ (s : Sealing) (d : Disk) (kept : KeptTree) (unlocked : ℕ) (is : IsKep
       ap (λ (z : HeldNode). z.kept.parent) (sym c.form) ∙ h.child.inside ∙ sym g.child.inside ∙ ap (λ (z : HeldNode). z.kept.parent) e.form in
       let above : c.above ≡ e.above = one_path c.above e.above (Dir up.0) (Dir up'.0) up.1 up'.1 numbers in
       let name : c.name ≡ e.name = ap (λ (z : HeldNode). z.kept.name) (sym c.form) ∙ h.named ∙ sym g.named ∙ ap (λ (z : HeldNode). z.kept.name) e.form in
-      sym (number_is x (c.name ∷ c.above, c.node) c.at) ∙ ap₂ (λ (m : List ℕ) (q : Path). number_of es (m ∷ q)) name above ∙ number_is y (e.name ∷ e.above, e.node) e.at
+      sym (number_is es x (c.name ∷ c.above, c.node) sorted c.at) ∙ ap₂ (λ (m : List ℕ) (q : Path). number_of es (m ∷ q)) name above ∙ number_is es y (e.name ∷ e.above, e.node) sorted e.at
 
   root_entry : slice_get es root ≡ Some ([], Dir [])
   root_entry = ap (slice_get es) (sym root_number) ∙ number_got [] (Dir []) root_there
@@ -276,7 +223,7 @@ module _ (s : Sealing) (d : Disk) (kept : KeptTree) (unlocked : ℕ) (is : IsKep
       let up = from_number q h.0 h.1 in
       let c = child k h.2.node h.2.child.below h.2.child.there in
       let above = parent_dir c.name c.above c.node (got k (c.name ∷ c.above, c.node) c.at) in
-      let numbers : number_of es c.above ≡ number_of es q = ap (λ (z : HeldNode). z.kept.parent) (sym c.form) ∙ h.2.child.inside ∙ sym (number_is h.0 (q, up.0) up.2) in
+      let numbers : number_of es c.above ≡ number_of es q = ap (λ (z : HeldNode). z.kept.parent) (sym c.form) ∙ h.2.child.inside ∙ sym (number_is es h.0 (q, up.0) sorted up.2) in
       let eq : c.above ≡ q = one_path c.above q (Dir above.0) up.0 above.1 up.1 numbers in
       let name : c.name ≡ n = ap (λ (z : HeldNode). z.kept.name) (sym c.form) ∙ h.2.named in
       let path : c.name ∷ c.above ≡ n ∷ q = ap₂ (λ (m : List ℕ) (w : Path). m ∷ w) name eq in

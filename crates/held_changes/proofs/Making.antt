@@ -14,6 +14,7 @@ use Rattle.tree_changes.proofs.Seeing.{some_there}
 use Rattle.tree_changes.proofs.Maps.{get_with}
 use Rattle.live_tree.specs.Held.{HeldNode, HeldTree, IsFree, IsDirectory, IsTree}
 use Rattle.live_tree.specs.Changes.{new_node, appended}
+use Rattle.live_tree.proofs.Held.{still, still_named, last_there}
 use Rattle.held_changes.specs.Holds.{IsAt, IsPlaced, IsHeldPlace, IsHeldAs, HoldsAt, HasNumber, Holds}
 use Rattle.held_changes.specs.Laws.{MakingHolds}
 use Rattle.held_changes.proofs.Paths as paths
@@ -53,11 +54,11 @@ module _ (s : Sealing) (d : Disk) (tree : Tree) (live : HeldTree) (p : Path) (pa
   apart e = let low = trees.parent_below live ok new up free refl in omega (arith, low, e)
 
   pub forth : (q : Path) (y : ℕ) → IsAt live q y → IsAt live' q y
-  forth = paths.more_forth live ok live' p parent live.next n at_p free (trees.more_forth live ok new up free refl) (trees.more_back live ok new up free refl)
+  forth = paths.more_forth live ok live' p parent live.next n at_p free (still_named live new ok.numbers) (trees.more_back live ok new up free refl)
       (trees.next_none live ok new up free refl) apart (trees.more_named live ok new up free refl)
 
   pub back : (q : Path) (y : ℕ) → IsAt live' q y → (IsAt live q y × (n ∷ p ≢ q)) ⊎ ((n ∷ p ≡ q) × (y ≡ live.next))
-  back = paths.more_back live ok live' p parent live.next n at_p free (trees.more_forth live ok new up free refl) (trees.more_back live ok new up free refl)
+  back = paths.more_back live ok live' p parent live.next n at_p free (still_named live new ok.numbers) (trees.more_back live ok new up free refl)
       (trees.next_none live ok new up free refl) apart (trees.more_named live ok new up free refl)
 
   none : get tree.nodes (n ∷ p) ≡ None
@@ -113,11 +114,11 @@ module _ (s : Sealing) (d : Disk) (tree : Tree) (live : HeldTree) (p : Path) (pa
             node = it.node;
             held = it.held;
             at = other q was.1 ∙ it.at;
-            there = trees.more_still live ok new up free refl y it.held it.there;
+            there = still live new ok.numbers y it.held it.there;
             is = still_as q y it.node it.held was.0 was.1 it.is;
           }
       nodes q y (inr e) = subst (λ (z : Path). HoldsAt s tree' live' z y) e.0 (subst (λ (z : ℕ). HoldsAt s tree' live' (n ∷ p) z) (sym e.1)
-          (record { node = x; held = new; at = here; there = trees.more_last live ok new up free refl; is = new_as }))
+          (record { node = x; held = new; at = here; there = last_there live new ok.numbers; is = new_as }))
 
       numbers : (q : Path) (z : Node) → get tree'.nodes q ≡ Some z → ((same_path (n ∷ p) q ≡ true) × (n ∷ p ≡ q)) ⊎ ((same_path (n ∷ p) q ≡ false) × (n ∷ p ≢ q)) → HasNumber live' q
       numbers q z at (inl e) = subst (λ (w : Path). HasNumber live' w) e.1 (record { number = live.next; at = (parent, forth p parent at_p, trees.more_named live ok new up free refl) })

@@ -1,15 +1,8 @@
 -- The rows of a tree in memory, by path.
-use Rattle.std.proofs.Common.{◌≡◌, ◌≢◌, ◌<◌, ℕ, zero, suc, Bool, true, false, cond, List, [], ◌∷◌, Option, Some, None, IsSome, ◌==◌, refl, sym, ap, ap₂, ◌∙◌, subst, arith, true≢false, inl, inr}
+use Rattle.std.proofs.Common.{◌≡◌, ◌≢◌, ◌<◌, ℕ, zero, suc, Bool, true, false, List, [], ◌∷◌, Option, Some, None, IsSome, ◌==◌, refl, sym, ap, ap₂, ◌∙◌, subst, arith, true≢false}
 use Rattle.std.proofs.lemmas.Bool.{eqb-true, eq-eqb}
-use Rattle.std.proofs.lemmas.Cmp.{tied_itself, nat_cmp_total}
 use Rattle.std.specs.FinMap.{get}
-use Rattle.std.specs.Ordering.{nat_cmp}
-use Rattle.std.specs.declared.cmp.Ordering.TheVariants.{Less, Equal}
 use Rattle.std.specs.Option.{option_map, option_and_then}
-use Rattle.std.specs.List.{AllByRecursion}
-use Rattle.std.specs.List.Sorted.{IsStrictlySortedBy}
-use Rattle.std.specs.Map.{lookup, keys_of}
-use Rattle.std.specs.BTreeMap.{is_at}
 use Rattle.tree_model.specs.Rows.{Content, Row, Rows, root}
 use Rattle.clear_tree.specs.Walk.{Path, Sealing, Node, File, Link, Dir, Bad}
 use Rattle.clear_tree.specs.Queue.{In}
@@ -19,42 +12,12 @@ use Rattle.tree_changes.specs.Trees.{Tree}
 use Rattle.tree_changes.specs.Shapes.{IsRowIn, IsRowAt, AreNumbered, IsShown, HasShape}
 use Rattle.tree_changes.proofs.Rows.{in_map, map_in}
 use Rattle.live_tree.specs.Held.{HeldNode, HeldTree, node_of, live_row, live_rows, IsNamed, IsTree}
-use Rattle.live_tree.proofs.Held.{at_true, at_false, number_from}
+use Rattle.live_tree.proofs.Held.{in_found, found_in}
 use Rattle.live_tree.proofs.Rows.{row_is, has_node}
 use Rattle.held_changes.specs.Holds.{IsAt, IsHeldAs, Holds, AreHeldContents}
 use Rattle.held_changes.specs.Found.{NodesHaveRows, RowsAreOfNodes, HeldRowsHaveShape}
 use Rattle.held_changes.proofs.Paths.{one_held}
 use Rattle.held_changes.proofs.Keeping.{one_node}
-
-abbrev Entry : Type 0
-Entry = ℕ × HeldNode
-
--- ---- entries of a list in order
-
-in_keys : (P : ℕ → Type 0) (es : List Entry) (k : ℕ) (v : HeldNode) → AllByRecursion P (keys_of es) → In (k, v) es → P k
-in_keys P [] k v all h = absurd h
-in_keys P (e ∷ es) k v all (inl z) = subst P (sym (ap (λ (y : Entry). y.0) z)) all.0
-in_keys P (e ∷ es) k v all (inr h) = in_keys P es k v all.1 h
-
-in_found : (es : List Entry) (k : ℕ) (v : HeldNode) → IsStrictlySortedBy nat_cmp (keys_of es) → In (k, v) es → lookup (is_at (nat_cmp k)) es ≡ Some v
-unfolding IsStrictlySortedBy
-in_found [] k v sorted h = absurd h
-in_found (e ∷ es) k v sorted (inl z) =
-    ap (λ b. cond b (Some e.1) (lookup (is_at (nat_cmp k)) es)) (at_true k e.0 (ap (λ (y : Entry). y.0) z)) ∙ ap Some (sym (ap (λ (y : Entry). y.1) z))
-in_found (e ∷ es) k v sorted (inr h) =
-    let less : nat_cmp e.0 k ≡ Less = in_keys (λ (y : ℕ). nat_cmp e.0 y ≡ Less) es k v sorted.0 h in
-    let apart : k ≢ e.0 = (λ z. let both : Less ≡ Equal = sym less ∙ ap (nat_cmp e.0) z ∙ tied_itself nat_cmp_total e.0 in cc) in
-    ap (λ b. cond b (Some e.1) (lookup (is_at (nat_cmp k)) es)) (at_false k e.0 apart) ∙ in_found es k v sorted.1 h
-
-found_in : (es : List Entry) (k : ℕ) (v : HeldNode) → lookup (is_at (nat_cmp k)) es ≡ Some v → In (k, v) es
-found_in [] k v h = absurd cc
-found_in (e ∷ es) k v h = go (is_at (nat_cmp k) e.0) refl h (found_in es k v)
-  where
-    go : (b : Bool) → is_at (nat_cmp k) e.0 ≡ b → cond b (Some e.1) (lookup (is_at (nat_cmp k)) es) ≡ Some v → (lookup (is_at (nat_cmp k)) es ≡ Some v → In (k, v) es) → In (k, v) (e ∷ es)
-    go true is f rest =
-        let value : e.1 ≡ v = cc in
-        inl (ap₂ (λ (a : ℕ) (n : HeldNode). (a, n)) (number_from k e.0 is) (sym value))
-    go false is f rest = inr (rest f)
 
 -- ---- a path leads to each number
 

@@ -10,6 +10,7 @@ use Rattle.tree_changes.proofs.Seeing.{some_there}
 use Rattle.tree_changes.proofs.Maps.{get_without}
 use Rattle.live_tree.specs.Held.{HeldNode, HeldTree, IsNamed, IsChildless, IsTree}
 use Rattle.live_tree.specs.Changes.{changed, dropped}
+use Rattle.live_tree.proofs.Dropped.{still}
 use Rattle.held_changes.specs.Holds.{IsAt, IsPlaced, IsHeldAs, Holds}
 use Rattle.held_changes.specs.Laws.{RemovingHolds}
 use Rattle.held_changes.proofs.Paths as paths
@@ -67,7 +68,7 @@ module _ (s : Sealing) (tree : Tree) (live : HeldTree) (p : Path) (parent number
           node = it.node;
           held = it.held;
           at = other q was.1 ∙ it.at;
-          there = trees.less_still live ok number below childless x it.held (λ e. was.1 (paths.one_path live ok (n ∷ p) q number at_it (subst (λ (z : ℕ). IsAt live q z) e was.0))) it.there;
+          there = still live number x it.held (λ e. was.1 (paths.one_path live ok (n ∷ p) q number at_it (subst (λ (z : ℕ). IsAt live q z) e was.0))) it.there;
           is = still_as q it.node it.held it.is;
         };
     numbers_of = λ q z at. let was = was_there q z at in let has = holds.numbers_of q z was.0 in record { number = has.number; at = forth q has.number has.at was.1 };

@@ -9,11 +9,11 @@ use Rattle.tree_changes.specs.Trees.{Tree}
 use Rattle.tree_changes.proofs.Maps.{get_with}
 use Rattle.live_tree.specs.Held.{HeldNode, HeldTree, node_of, IsTree}
 use Rattle.live_tree.specs.Changes.{edited, sized_node, dated, dated_node}
-use Rattle.live_tree.proofs.After.{IsAlike, picked, by_pick}
+use Rattle.live_tree.proofs.After.{IsAlike, forth, picked, by_pick}
 use Rattle.held_changes.specs.Holds.{IsAt, IsPlaced, HoldsAt, HasNumber, Holds}
 use Rattle.held_changes.specs.Writing.{with_file, WritingHolds, DatingHolds}
 use Rattle.held_changes.proofs.Paths.{one_held, one_number, one_path}
-use Rattle.held_changes.proofs.Trees.{forth, edit_at, edit_alike, tree_edited, edited_forth, edited_back}
+use Rattle.held_changes.proofs.Trees.{edit_at, edit_alike, tree_edited, edited_forth, edited_back}
 use Rattle.held_changes.proofs.Keeping.{one_node, leads_on, IsKeptIn, holds_kept, holds_changed}
 
 -- ---- a node dated
@@ -38,7 +38,7 @@ dating_holds s tree live number modified holds =
     kept : (x : ℕ) (held : HeldNode) → node_of live x ≡ Some held → IsKeptIn (dated live number modified) x held
     kept x held there = record {
       node = picked number (dated_node modified) x held;
-      there = forth live (dated live number modified) ok (picked number (dated_node modified)) (edit_at live ok number (dated_node modified) alike named versions) refl
+      there = forth live (dated live number modified) (picked number (dated_node modified)) (edit_at live ok number (dated_node modified) alike named versions)
           (edit_alike live ok number (dated_node modified) alike named versions) x held there;
       same = by_pick (λ n'. n'.kept ≡ held.kept) number (dated_node modified) x held (λ e. refl) refl;
     }
@@ -85,7 +85,7 @@ module _ (s : Sealing) (tree : Tree) (live : HeldTree) (p : Path) (number : ℕ)
   from = leads_on live' live (edited_back live ok number f alike named versions)
 
   there_after : (x : ℕ) (held : HeldNode) → node_of live x ≡ Some held → node_of live' x ≡ Some (picked number f x held)
-  there_after = forth live live' ok (picked number f) (edit_at live ok number f alike named versions) refl (edit_alike live ok number f alike named versions)
+  there_after = forth live live' (picked number f) (edit_at live ok number f alike named versions) (edit_alike live ok number f alike named versions)
 
   picked_here : (held : HeldNode) → picked number f number held ≡ f held
   picked_here held = ap (λ b. if b then f held else held) (eq-eqb number number refl)

@@ -11,14 +11,11 @@
 //! (`1e400`) or with an unpaired surrogate (`"\ud800"`), in whatever member, isn't read, though RFC 8259's grammar has it.
 #![tactic(auto)]
 
-ghost use Rattle.std.specs.Prelude.{◌≡◌, ◌&&◌, pos, Some, None, IfOk, IsErrOf, option_map, if◌then◌else◌};
-ghost use Rattle.std.specs.Float.{two_to, float_to_unsigned, binary64};
-ghost use Rattle.std.specs.Float.Ieee.{of_int, lt as float_lt, eq as float_eq};
-ghost use Rattle.std.specs.Int.{w64};
+ghost use Rattle.std.specs.Prelude.{◌≡◌, ◌&&◌, Some, None, IfOk, IsErrOf, option_map};
 ghost use Rattle.serde_json.specs.Data.{float};
 ghost use Rattle.serde_json.specs.Read.{read as value_of};
 ghost use Rattle.serde_json.specs.View.{number_view, view as data_of};
-ghost use Rattle.json_members.specs.Members.{object_of, only_object, text_at, integer_at, integer_of};
+ghost use Rattle.json_members.specs.Members.{object_of, text_at, integer_at, integer_of};
 
 use serde_json::{Number, Value};
 use std::alloc::Global;

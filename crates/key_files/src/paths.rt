@@ -1,4 +1,4 @@
-ghost use Rattle.std.specs.Prelude.{◌≡◌, [], ◌∷◌, ◌++◌, IsTrue};
+ghost use Rattle.std.specs.Prelude.{◌≡◌, [], ◌∷◌, IsTrue};
 ghost use Rattle.vault_path.specs.Parts.{is_path};
 ghost use Rattle.key_files.specs.Files.{config_place, masterkey_place, new_config_place};
 

@@ -1,4 +1,4 @@
-ghost use Rattle.std.specs.Prelude.{◌≡◌, ◌↔◌, ℕ, List, length, Some};
+ghost use Rattle.std.specs.Prelude.{◌≡◌, ℕ, List, length, Some};
 ghost use Rattle.aes_block.specs.Aes.{aes, inverse_aes};
 ghost use Rattle.aes_block.specs.Bytes.{AreBytes};
 ghost use Rattle.key_wrap.specs.Wrap.{unwrapped, wrapped};

@@ -8,7 +8,7 @@ use Rattle.std.specs.Map.{lookup, keys_of}
 use Rattle.std.specs.BTreeMap.{is_at}
 use Rattle.tree_model.specs.Rows.{root}
 use Rattle.clear_tree.specs.Kept.{What, KeptFile, KeptLink, KeptDir, KeptBad, folder_in}
-use Rattle.live_tree.specs.Held.{HeldNode, HeldTree, node_of, IsNamed, IsFree, HasParent}
+use Rattle.live_tree.specs.Held.{HeldNode, HeldTree, node_of, IsNamed, IsFree, IsRoot, HasParent}
 use Rattle.live_tree.specs.Index.{Names, number_at, has_names, is_place, IsSet, IsHeld}
 use Rattle.clear_tree.specs.Built.{IsFile}
 use Rattle.live_tree.specs.Changes.{edited_nodes, edited, changed_node, renamed_node, sized_node, dated_node}
@@ -47,13 +47,20 @@ pub came_from : (tree : HeldTree) (q : ℕ) (g : HeldNode → HeldNode) (n' : He
 came_from tree q g n' None e h = absurd cc
 came_from tree q g n' (Some node) e h = record { node = node; there = e; is = cc }
 
-module _ (names : Names) (tree tree' : HeldTree) (held : IsHeld names tree) (g : ℕ → HeldNode → HeldNode) (at : (q : ℕ) → node_of tree' q ≡ option_map (g q) (node_of tree q))
-    (next : tree'.next ≡ tree.next) (alike : (q : ℕ) (n : HeldNode) → node_of tree q ≡ Some n → IsAlike n (g q n)) where
-  forth : (q : ℕ) (n : HeldNode) → node_of tree q ≡ Some n → node_of tree' q ≡ Some (g q n)
+module _ (tree tree' : HeldTree) (g : ℕ → HeldNode → HeldNode) (at : (q : ℕ) → node_of tree' q ≡ option_map (g q) (node_of tree q))
+    (alike : (q : ℕ) (n : HeldNode) → node_of tree q ≡ Some n → IsAlike n (g q n)) where
+  pub forth : (q : ℕ) (n : HeldNode) → node_of tree q ≡ Some n → node_of tree' q ≡ Some (g q n)
   forth q n there = at q ∙ ap (option_map (g q)) there
 
-  came : (q : ℕ) (n' : HeldNode) → node_of tree' q ≡ Some n' → Came tree q (g q) n'
+  pub came : (q : ℕ) (n' : HeldNode) → node_of tree' q ≡ Some n' → Came tree q (g q) n'
   came q n' there = came_from tree q (g q) n' (node_of tree q) refl (sym (at q) ∙ there)
+
+  pub root_forth : (node : HeldNode) → IsRoot tree node → IsRoot tree' (g root node)
+  root_forth node is = record {
+    there = forth root node is.there;
+    own = (alike root node is.there).parent ∙ is.own;
+    folder = subst IsSome (sym (alike root node is.there).folder) is.folder;
+  }
 
   folder_forth : (parent : ℕ) → IsSome (option_and_then (λ (p : HeldNode). folder_in p.kept.what) (node_of tree parent))
       → IsSome (option_and_then (λ (p : HeldNode). folder_in p.kept.what) (node_of tree' parent))
@@ -61,9 +68,11 @@ module _ (names : Names) (tree tree' : HeldTree) (held : IsHeld names tree) (g :
       folder_there (node_of tree parent) (node_of tree' parent)
       (λ p e folder. folder_some (node_of tree' parent) (g parent p) (forth parent p e) (subst IsSome (sym (alike parent p e).folder) folder)) is
 
-  parents_at : (q : ℕ) (n' : HeldNode) → q ≢ root → Came tree q (g q) n' → HasParent tree' q n'
-  parents_at q n' below from =
-      let old = held.parents q from.node from.there below in
+  pub parents_forth : ((q : ℕ) (n : HeldNode) → node_of tree q ≡ Some n → q ≢ root → HasParent tree q n)
+      → (q : ℕ) (n' : HeldNode) → node_of tree' q ≡ Some n' → q ≢ root → HasParent tree' q n'
+  parents_forth parents q n' there below =
+      let from = came q n' there in
+      let old = parents q from.node from.there below in
       let up : n'.kept.parent ≡ from.node.kept.parent = ap (λ (n : HeldNode). n.kept.parent) from.is ∙ (alike q from.node from.there).parent in
       let before = old.before in
       record {
@@ -71,32 +80,11 @@ module _ (names : Names) (tree tree' : HeldTree) (held : IsHeld names tree) (g :
         folder = rw up (folder_forth from.node.kept.parent old.folder);
       }
 
-  pub held_by : (names' : Names) → ((q : ℕ) → has_names names q ≡ true → has_names names' q ≡ true)
-      → ((parent : ℕ) (name : List ℕ) (number : ℕ) → number_at names' parent name ≡ Some number → IsNamed tree' parent name number)
-      → ((parent : ℕ) (name : List ℕ) (number : ℕ) → IsNamed tree' parent name number → number_at names' parent name ≡ Some number)
-      → IsStrictlySortedBy nat_cmp (keys_of tree'.nodes) → ((q : ℕ) (n : HeldNode) → node_of tree q ≡ Some n → (g q n).version < 2 ^ 32) → IsHeld names' tree'
-  held_by names' grown named found ordered versions = record {
-    ordered = ordered;
-    first = (
-      g root held.first.0,
-      record {
-        there = forth root held.first.0 held.first.1.there;
-        own = (alike root held.first.0 held.first.1.there).parent ∙ held.first.1.own;
-        folder = subst IsSome (sym (alike root held.first.0 held.first.1.there).folder) held.first.1.folder;
-      },
-    );
-    parents = λ q n' there below. parents_at q n' below (came q n' there);
-    numbers = λ q n' there. let from = came q n' there in let low = held.numbers q from.node from.there in omega (arith, low, next);
-    versions = λ q n' there. let from = came q n' there in subst (λ (n : HeldNode). n.version < 2 ^ 32) (sym from.is) (versions q from.node from.there);
-    directories = λ q n' there folder.
-        let from = came q n' there in
-        grown q (held.directories q from.node from.there (subst IsSome (ap (λ (n : HeldNode). folder_in n.kept.what) from.is ∙ (alike q from.node from.there).folder) folder));
-    named = named;
-    found = found;
-  }
+  pub versions_forth : ((q : ℕ) (n : HeldNode) → node_of tree q ≡ Some n → (g q n).version < 2 ^ 32) → (q : ℕ) (n' : HeldNode) → node_of tree' q ≡ Some n' → n'.version < 2 ^ 32
+  versions_forth versions q n' there = let from = came q n' there in subst (λ (n : HeldNode). n.version < 2 ^ 32) (sym from.is) (versions q from.node from.there)
 
   module _ (same_name : (q : ℕ) (n : HeldNode) → node_of tree q ≡ Some n → (g q n).kept.name ≡ n.kept.name) where
-    named_forth : (parent : ℕ) (name : List ℕ) (number : ℕ) → IsNamed tree parent name number → IsNamed tree' parent name number
+    pub named_forth : (parent : ℕ) (name : List ℕ) (number : ℕ) → IsNamed tree parent name number → IsNamed tree' parent name number
     named_forth parent name number is = record {
       node = g number is.node;
       child = record {
@@ -107,7 +95,7 @@ module _ (names : Names) (tree tree' : HeldTree) (held : IsHeld names tree) (g :
       named = same_name number is.node is.child.there ∙ is.named;
     }
 
-    named_back : (parent : ℕ) (name : List ℕ) (number : ℕ) → IsNamed tree' parent name number → IsNamed tree parent name number
+    pub named_back : (parent : ℕ) (name : List ℕ) (number : ℕ) → IsNamed tree' parent name number → IsNamed tree parent name number
     named_back parent name number is =
         let from = came number is.node is.child.there in
         record {
@@ -120,10 +108,31 @@ module _ (names : Names) (tree tree' : HeldTree) (held : IsHeld names tree) (g :
           named = sym (same_name number from.node from.there) ∙ ap (λ (n : HeldNode). n.kept.name) (sym from.is) ∙ is.named;
         }
 
-    pub held_alike : IsStrictlySortedBy nat_cmp (keys_of tree'.nodes) → ((q : ℕ) (n : HeldNode) → node_of tree q ≡ Some n → (g q n).version < 2 ^ 32) → IsHeld names tree'
-    held_alike ordered versions =
-        held_by names (λ q there. there) (λ parent name number found. named_forth parent name number (held.named parent name number found))
-        (λ parent name number is. held.found parent name number (named_back parent name number is)) ordered versions
+module _ (names : Names) (tree tree' : HeldTree) (held : IsHeld names tree) (g : ℕ → HeldNode → HeldNode) (at : (q : ℕ) → node_of tree' q ≡ option_map (g q) (node_of tree q))
+    (next : tree'.next ≡ tree.next) (alike : (q : ℕ) (n : HeldNode) → node_of tree q ≡ Some n → IsAlike n (g q n)) where
+  pub held_by : (names' : Names) → ((q : ℕ) → has_names names q ≡ true → has_names names' q ≡ true)
+      → ((parent : ℕ) (name : List ℕ) (number : ℕ) → number_at names' parent name ≡ Some number → IsNamed tree' parent name number)
+      → ((parent : ℕ) (name : List ℕ) (number : ℕ) → IsNamed tree' parent name number → number_at names' parent name ≡ Some number)
+      → IsStrictlySortedBy nat_cmp (keys_of tree'.nodes) → ((q : ℕ) (n : HeldNode) → node_of tree q ≡ Some n → (g q n).version < 2 ^ 32) → IsHeld names' tree'
+  held_by names' grown named found ordered versions = record {
+    ordered = ordered;
+    first = (g root held.first.0, root_forth tree tree' g at alike held.first.0 held.first.1);
+    parents = parents_forth tree tree' g at alike held.parents;
+    numbers = λ q n' there. let from = came tree tree' g at alike q n' there in let low = held.numbers q from.node from.there in omega (arith, low, next);
+    versions = versions_forth tree tree' g at alike versions;
+    directories = λ q n' there folder.
+        let from = came tree tree' g at alike q n' there in
+        grown q (held.directories q from.node from.there (subst IsSome (ap (λ (n : HeldNode). folder_in n.kept.what) from.is ∙ (alike q from.node from.there).folder) folder));
+    named = named;
+    found = found;
+  }
+
+  pub held_alike : ((q : ℕ) (n : HeldNode) → node_of tree q ≡ Some n → (g q n).kept.name ≡ n.kept.name) → IsStrictlySortedBy nat_cmp (keys_of tree'.nodes)
+      → ((q : ℕ) (n : HeldNode) → node_of tree q ≡ Some n → (g q n).version < 2 ^ 32) → IsHeld names tree'
+  held_alike same_name ordered versions =
+      held_by names (λ q there. there)
+      (λ parent name number found. named_forth tree tree' g at alike same_name parent name number (held.named parent name number found))
+      (λ parent name number is. held.found parent name number (named_back tree tree' g at alike same_name parent name number is)) ordered versions
 
 -- the node of a number as it is changed
 abbrev pub picked : ℕ → (HeldNode → HeldNode) → ℕ → HeldNode → HeldNode
@@ -136,7 +145,7 @@ by_pick P number f q n here other = step (q == number) refl
     step true b = rw b (here (eqb-true q number b))
     step false b = rw b other
 
-sorted_edit : (tree : HeldTree) (number : ℕ) (f : HeldNode → HeldNode) → IsStrictlySortedBy nat_cmp (keys_of tree.nodes) → IsStrictlySortedBy nat_cmp (keys_of (edited_nodes tree.nodes number f))
+pub sorted_edit : (tree : HeldTree) (number : ℕ) (f : HeldNode → HeldNode) → IsStrictlySortedBy nat_cmp (keys_of tree.nodes) → IsStrictlySortedBy nat_cmp (keys_of (edited_nodes tree.nodes number f))
 sorted_edit tree number f sorted = subst (IsStrictlySortedBy nat_cmp) (sym (keys_edit number f tree.nodes)) sorted
 
 -- a node that keeps its directory, its name and what it is

@@ -58,7 +58,7 @@ numbered_append unlocked from n [] x e = let same : from ≡ n = omega (arith, e
 numbered_append unlocked from n (y ∷ xs) x e =
     ap (λ (zs : List (ℕ × HeldNode)). (from, unchanged_node unlocked y) ∷ zs) (numbered_append unlocked (suc from) n xs x (omega (arith, e)))
 
-numbered_at : (unlocked from k q : ℕ) (ns : List KeptNode) → q ≡ from + k → lookup (is_at (nat_cmp q)) (numbered unlocked from ns) ≡ option_map (unchanged_node unlocked) (slice_get ns k)
+pub numbered_at : (unlocked from k q : ℕ) (ns : List KeptNode) → q ≡ from + k → lookup (is_at (nat_cmp q)) (numbered unlocked from ns) ≡ option_map (unchanged_node unlocked) (slice_get ns k)
 numbered_at unlocked from k q [] e = refl
 numbered_at unlocked from zero q (y ∷ ns) e = rw (at_true q from (omega (arith, e))) refl
 numbered_at unlocked from (suc k) q (y ∷ ns) e =

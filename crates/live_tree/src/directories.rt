@@ -1,4 +1,4 @@
-ghost use Rattle.std.specs.Prelude.{◌≡◌, ℕ, List, true, false, IsTrue, IfOk, IfSome, IfNone, OnOk, OnErr, Some, None};
+ghost use Rattle.std.specs.Prelude.{◌≡◌, ℕ, List, true, IfOk, IfSome, IfNone, OnOk, OnErr, Some, None};
 ghost use Rattle.std.specs.Option.{option_copied};
 ghost use Rattle.clear_tree.specs.Kept.{IsBehind};
 ghost use Rattle.live_tree.specs.Index.{number_at, has_names, IsSet, IsSame, IsGrown, IsClosed, IsNameless, IsNextName};

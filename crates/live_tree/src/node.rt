@@ -2,7 +2,7 @@ ghost use Rattle.std.specs.Prelude.{◌≡◌, ◌≤◌, length, IsTrue, IfOk, 
 ghost use Rattle.std.specs.Option.{option_copied};
 ghost use Rattle.std.specs.Str.{IsUtf8};
 ghost use Rattle.vault_path.specs.Parts.{is_part, is_path};
-ghost use Rattle.tree_model.specs.Names.{IsClearName};
+ghost use Rattle.tree_model.specs.Names.{IsClearName, name_limit};
 ghost use Rattle.clear_tree.specs.Places.{host_folder};
 ghost use Rattle.clear_tree.specs.Kept.{folder_in};
 ghost use Rattle.clear_tree.specs.Built.{kept_what, HasHostFolder, IsFile};
@@ -83,7 +83,7 @@ impl LiveNode {
     pub fn name(&self) -> &Text
         ensures bytes { result.now ≡ self.now.kept.name }
         ensures text { IsUtf8 self.now.kept.name }
-        ensures short { length self.now.kept.name ≤ 1024 }
+        ensures short { length self.now.kept.name ≤ name_limit }
     {
         self.kept.name_text()
     }

@@ -1,12 +1,12 @@
-ghost use Rattle.std.specs.Prelude.{◌≡◌, ◌≢◌, ◌<◌, ◌≤◌, ℕ, suc, List, ◌∷◌, ◌++◌, [], length, take, true, false, IsTrue, IsSome, IfSome, IfNone, IfOk, OnOk, OnErr, Some, None};
+ghost use Rattle.std.specs.Prelude.{◌≡◌, ◌≢◌, ◌<◌, ℕ, ◌∷◌, [], length, take, true, IsTrue, IsSome, IfSome, IfNone, IfOk, OnOk, OnErr, Some, None};
 ghost use Rattle.std.specs.Option.{option_copied};
 ghost use Rattle.std.specs.Ordering.{nat_cmp};
 ghost use Rattle.std.specs.List.Sorted.{IsStrictlySortedBy};
 ghost use Rattle.std.specs.Map.{keys_of};
-ghost use Rattle.vault_path.specs.Parts.{is_part, is_path};
+ghost use Rattle.vault_path.specs.Parts.{is_part};
 ghost use Rattle.tree_model.specs.Names.{IsClearName};
 ghost use Rattle.tree_model.specs.Rows.{Content, root, is_dir};
-ghost use Rattle.clear_tree.specs.Places.{host_folder, host_entry, host_inner};
+ghost use Rattle.clear_tree.specs.Places.{host_entry, host_inner};
 ghost use Rattle.clear_tree.specs.Kept.{folder_in, kind_of, tree_rows};
 ghost use Rattle.clear_tree.specs.Built.{kept_what, HasHostFolder, IsFile};
 ghost use Rattle.live_tree.specs.Held.{HeldNode, node_of, path_of, size_of, live_rows, loaded, IsNamed, IsFree, IsNext, IsNoNext, IsChildless, IsDirectory, IsTree};
@@ -17,7 +17,7 @@ use crate::directories::{
     Names, close_directory, copied, next_name, number_at, open_directory, put, take,
 };
 use crate::node::LiveNode;
-use clear_tree::{Node, Tree, TreeNodes, What};
+use clear_tree::{Node, Tree, TreeNodes, What, host_entry, host_inner};
 use std::alloc::{AllocError, Global};
 use std::collections::BTreeMap;
 use std::marker::Model;
@@ -122,9 +122,9 @@ impl LiveTree {
         let node = self.node(number)?;
         let folder = self.node(node.parent())?.folder()?;
         match node.what() {
-            What::File { .. } if node.is_long() => Some(inner_path(folder, node.entry(), CONTENTS)),
-            What::File { .. } => Some(entry_path(folder, node.entry())),
-            What::Link { .. } => Some(inner_path(folder, node.entry(), SYMLINK)),
+            What::File { .. } if node.is_long() => Some(host_inner(folder, node.entry(), CONTENTS)),
+            What::File { .. } => Some(host_entry(folder, node.entry())),
+            What::Link { .. } => Some(host_inner(folder, node.entry(), SYMLINK)),
             _ => None,
         }
     }
@@ -331,37 +331,5 @@ impl LiveTree {
         };
         take(&mut self.names, node.parent(), node.name());
         close_directory(&mut self.names, number);
-    }
-}
-
-// The path of an entry in a directory's folder.
-fn entry_path(folder: &[u8; 32], entry: &[u8]) -> VaultPath
-    requires folder { IsTrue (is_path (host_folder folder.now)) }
-    requires entry { IsTrue (is_part entry.now) }
-    ensures { result ≡ host_entry folder.now entry.now }
-{
-    let (two, rest) = folder.split_at(2);
-    let above = joined(&joined(&VaultPath::root(), b"d"), two);
-    joined(&joined(&above, rest), entry)
-}
-
-// The path of a file in a node folder.
-fn inner_path(folder: &[u8; 32], entry: &[u8], file: &[u8]) -> VaultPath
-    requires folder { IsTrue (is_path (host_folder folder.now)) }
-    requires entry { IsTrue (is_part entry.now) }
-    requires file { IsTrue (is_part file.now) }
-    ensures { result ≡ host_inner folder.now entry.now file.now }
-{
-    joined(&entry_path(folder, entry), file)
-}
-
-// The path one good part further.
-fn joined(path: &VaultPath, part: &[u8]) -> VaultPath
-    requires { IsTrue (is_path (path.now ++ part.now ∷ [])) }
-    ensures { result ≡ path.now ++ part.now ∷ [] }
-{
-    match path.join(part) {
-        Ok(further) => further,
-        Err(_) => unreachable!(),
     }
 }

@@ -1,16 +1,15 @@
 -- What is written: its text, and that it reads back.
-use Rattle.std.proofs.Common.{◌≡◌, ℕ, ◌+◌, ◌*◌, ◌/◌, ◌%◌, ◌≤◌, nat_lt, Bool, true, false, cond, List, [], ◌∷◌, length, replicate, Option, Some, Ok, inl, inr, decimal, refl, sym, ap, subst, ◌∙◌, arith, lit<}
+use Rattle.std.proofs.Common.{◌≡◌, ℕ, ◌+◌, ◌*◌, ◌≤◌, true, List, length, replicate, Option, Some, Ok, inl, inr, decimal, refl, ap, subst, ◌∙◌, arith, lit<}
 use Rattle.std.proofs.lemmas.List.{length-append, length-replicate}
 use Rattle.std.proofs.lemmas.Bool.{le-ltb}
 use Rattle.std.proofs.lemmas.Fmt.{length-decimal-le}
-use Rattle.std.specs.Char.{digit_char}
 use Rattle.std.specs.Option.{ok_or}
 use Rattle.std.specs.Str.{IsUtf8}
 use Rattle.base64.specs.GeneralPurpose.{encode_of, decode_of}
 use Rattle.base64.specs.Engines.{standard}
 use Rattle.base64.specs.Rfc4648.{encode_symbols, padding_len}
 use Rattle.base64.proofs.RoundTrip.{length-encode_symbols}
-use Rattle.json.specs.Print.{escape, escape_byte, escape_letter}
+use Rattle.json.specs.Print.{escape_byte}
 use Rattle.serde_json.specs.Data.{Data}
 use Rattle.serde_json.specs.Read.{read}
 use Rattle.serde_json.specs.Written.{compact_text}
@@ -19,6 +18,7 @@ use Rattle.key_wrap.specs.Wrap.{wrapped, unwrapped}
 use Rattle.scrypt_kdf.specs.Scrypt.{IsCost, scrypt}
 use Rattle.siv_mode.specs.Keys.{KeyPair}
 use Rattle.json_members.specs.Members.{object_of, only_object}
+use Rattle.json_members.proofs.Escaped.{length-escape-le}
 use Rattle.json_members.proofs.Objects.{object_of-read}
 use Rattle.json_members.specs.Steps.{result_and_then}
 use Rattle.masterkey_file.specs.KeyFile.{Fields, fields_in, is_good_cost, key_file, keys_in, keys_of, new_block_size, new_cost, new_parallelization, not_json, version_mac}
@@ -60,19 +60,6 @@ key_file-texts keys password salt kek mac enc salted version key m e s v =
 length-encode_of-le : (bytes : List ℕ) → length (encode_of standard bytes) ≤ 2 * length bytes + 4
 length-encode_of-le bytes =
     omega (arith, length-append (encode_symbols standard.encode_table bytes) (replicate (padding_len (length bytes)) 61), length-encode_symbols standard.encode_table bytes, length-replicate {A = ℕ} (padding_len (length bytes)) 61)
-
-length-escape_byte-le : (b : ℕ) → length (escape_byte b) ≤ 6
-unfolding escape_byte
-length-escape_byte-le b = cases (nat_lt 0 (escape_letter b)) (nat_lt b 32)
-  where
-    cases : (x y : Bool) → length (cond x (92 ∷ escape_letter b ∷ []) (cond y (92 ∷ 117 ∷ 48 ∷ 48 ∷ digit_char (b / 16) ∷ digit_char (b % 16) ∷ []) (b ∷ []))) ≤ 6
-    cases true y = omega arith
-    cases false true = omega arith
-    cases false false = omega arith
-
-length-escape-le : (s : List ℕ) → length (escape s) ≤ 6 * length s
-length-escape-le [] = omega arith
-length-escape-le (b ∷ s) = omega (arith, length-append (escape_byte b) (escape s), length-escape_byte-le b, length-escape-le s)
 
 length-texts-le : (mac enc salted version : List ℕ) → length mac ≤ 100 → length enc ≤ 100 → length salted ≤ 100 → length version ≤ 100
     → length (compact_text (value_of_texts mac enc salted version)) ≤ 65536

@@ -1,5 +1,9 @@
 -- The errors of `read` as faults, and what they are shown as.
 use Rattle.std.specs.Prelude.{◌≡◌, ℕ, List, Result, Err, codes, ⊤}
+use Rattle.json_members.specs.declared.ObjectErr.{ObjectErr}
+use Rattle.json_members.specs.declared.ObjectErr.TheVariants as object
+use Rattle.scrypt_kdf.specs.declared.scrypt_derivation.ScryptErr.{ScryptErr}
+use Rattle.scrypt_kdf.specs.declared.scrypt_derivation.ScryptErr.TheVariants as scrypt
 use Rattle.masterkey_file.specs.KeyFile as files
 use Rattle.masterkey_file.specs.declared.reading.KeyFileErr.{KeyFileErr}
 use Rattle.masterkey_file.specs.declared.reading.KeyFileErr.TheVariants.{TooLong, NotJson, Field, Cost, WrongPassword, Memory}
@@ -21,6 +25,17 @@ IsFault (Field name) found = found ≡ Err (files.bad_field (field_of name))
 IsFault Cost found = found ≡ Err files.bad_cost
 IsFault WrongPassword found = found ≡ Err files.wrong_password
 IsFault Memory found = ⊤
+
+-- what is said of a file that is no object
+abbrev pub object_error : ObjectErr → KeyFileErr
+object_error object.NotObject = NotJson
+object_error object.Memory = Memory
+
+-- what is said of a cost that scrypt refuses
+abbrev pub scrypt_error : ScryptErr → KeyFileErr
+scrypt_error scrypt.BadCost = Cost
+scrypt_error scrypt.TooLarge = Cost
+scrypt_error scrypt.Memory = Memory
 
 -- an error as it is shown
 abbrev pub error_text : KeyFileErr → List ℕ

@@ -11,7 +11,7 @@ ghost use Rattle.masterkey_file.specs.Steps.{fields_data};
 use crate::reading::{FieldName, KeyFileErr};
 use base64::DecodeAllocError;
 use base64::engine::general_purpose::STANDARD;
-use json_members::{FILE_LIMIT, Object, ObjectErr};
+use json_members::{FILE_LIMIT, Object};
 use std::alloc::{AllocError, Global};
 
 // The longest salt, in bytes.
@@ -35,7 +35,7 @@ pub(crate) fn read_fields(alloc: Global, bytes: &[u8]) -> Result<Fields, KeyFile
     if is_too_long(bytes) {
         return Err(KeyFileErr::TooLong(bytes.len()));
     }
-    let object = read_object(alloc, bytes)?;
+    let object = Object::read(alloc, bytes)?;
     fields_in(alloc, &object)
 }
 
@@ -44,18 +44,6 @@ fn is_too_long(bytes: &[u8]) -> bool
     ensures { result ≡ nat_lt FILE_LIMIT (length bytes.now) }
 {
     bytes.len() > FILE_LIMIT
-}
-
-// The object that a file is.
-fn read_object(alloc: Global, bytes: &[u8]) -> Result<Object, KeyFileErr>
-    ensures { let found = ok_or (object_of bytes.now) not_json in
-        MatchResult result (λ object. found ≡ Ok object) (λ e. IsFault e found) }
-{
-    match Object::read(alloc, bytes) {
-        Ok(object) => Ok(object),
-        Err(ObjectErr::NotObject) => Err(KeyFileErr::NotJson),
-        Err(ObjectErr::Memory) => Err(KeyFileErr::Memory),
-    }
 }
 
 // The members of an object, in the order of their tests.

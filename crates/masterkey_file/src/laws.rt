@@ -2,7 +2,7 @@
 
 ghost use Rattle.std.specs.Prelude.{◌≡◌, ◌+◌, ◌<◌, ℕ, List, ◌∷◌, ◌++◌, length, take, Err};
 ghost use Rattle.masterkey_file.specs.KeyFile.{keys_of, too_long};
-ghost use Rattle.masterkey_file.specs.Password.{line_of, password_of};
+ghost use Rattle.masterkey_file.specs.Password.{password_of};
 
 use crate::secret::LINE_LIMIT;
 use json_members::FILE_LIMIT;

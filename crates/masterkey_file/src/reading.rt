@@ -4,6 +4,7 @@ ghost use Rattle.masterkey_file.specs.Faults.{IsFault, field_of};
 ghost use Rattle.masterkey_file.specs.Steps.{IsCostFault, fields_data};
 
 use crate::fields::{Fields, read_fields};
+use json_members::ObjectErr;
 use key_wrap::unwrap;
 use scrypt_kdf::{ScryptErr, scrypt};
 use siv_mode::VaultKeys;
@@ -86,6 +87,34 @@ impl From<AllocError> for KeyFileErr {
     }
 }
 
+impl From<ObjectErr> for KeyFileErr {
+    ghost use Rattle.std.specs.Prelude.{◌≡◌};
+    ghost use Rattle.masterkey_file.specs.Faults.{object_error};
+
+    ghost from_gives = { λ error e. e ≡ object_error error };
+
+    fn from(error: ObjectErr) -> KeyFileErr {
+        match error {
+            ObjectErr::NotObject => KeyFileErr::NotJson,
+            ObjectErr::Memory => KeyFileErr::Memory,
+        }
+    }
+}
+
+impl From<ScryptErr> for KeyFileErr {
+    ghost use Rattle.std.specs.Prelude.{◌≡◌};
+    ghost use Rattle.masterkey_file.specs.Faults.{scrypt_error};
+
+    ghost from_gives = { λ error e. e ≡ scrypt_error error };
+
+    fn from(error: ScryptErr) -> KeyFileErr {
+        match error {
+            ScryptErr::BadCost | ScryptErr::TooLarge => KeyFileErr::Cost,
+            ScryptErr::Memory => KeyFileErr::Memory,
+        }
+    }
+}
+
 impl fmt::Display for KeyFileErr {
     ghost use Rattle.std.specs.Prelude.{Some};
     ghost use Rattle.masterkey_file.specs.Faults.{error_text};
@@ -134,7 +163,7 @@ fn wrapping_key(alloc: Global, fields: &Fields, password: &[u8]) -> Result<[u8; 
         (λ e. IsCostFault e (is_good_cost fields.now.cost fields.now.block_size)) }
 {
     let mut key = [0; 32];
-    match scrypt(
+    scrypt(
         alloc,
         password,
         &fields.salt,
@@ -142,12 +171,8 @@ fn wrapping_key(alloc: Global, fields: &Fields, password: &[u8]) -> Result<[u8; 
         fields.block_size,
         1,
         &mut key,
-    ) {
-        Ok(()) => Ok(key),
-        Err(ScryptErr::BadCost) => Err(KeyFileErr::Cost),
-        Err(ScryptErr::TooLarge) => Err(KeyFileErr::Cost),
-        Err(ScryptErr::Memory) => Err(KeyFileErr::Memory),
-    }
+    )?;
+    Ok(key)
 }
 
 // The keys that are wrapped under a key, if both check values come out.

@@ -1,9 +1,8 @@
 -- Which folder the node of a number names after a change of the tree.
-use Rattle.std.proofs.Common.{◌≡◌, ℕ, ◌<◌, Bool, true, false, cond, not, List, [], ◌∷◌, ◌++◌, Option, Some, None, ◌==◌, if◌then◌else◌, refl, sym, ap, ◌∙◌, arith}
+use Rattle.std.proofs.Common.{◌≡◌, ℕ, ◌<◌, Bool, true, false, cond, not, List, Option, Some, None, ◌==◌, if◌then◌else◌, refl, sym, ap, ◌∙◌, arith}
 use Rattle.std.proofs.lemmas.Map.Entries.{lookup-filter-keys}
 use Rattle.std.specs.Ordering.{nat_cmp}
 use Rattle.std.specs.Option.{option_map, option_and_then}
-use Rattle.std.specs.Map.{lookup}
 use Rattle.std.specs.BTreeMap.{is_at}
 use Rattle.clear_tree.specs.Walk.{Sealing}
 use Rattle.clear_tree.specs.Kept.{What, KeptFile, KeptLink, KeptDir, KeptBad}
@@ -11,8 +10,8 @@ use Rattle.live_tree.specs.Held.{HeldNode, HeldTree, node_of, IsTree}
 use Rattle.clear_tree.specs.Built.{IsFile}
 use Rattle.live_tree.specs.Changes.{edited, changed, changed_node, appended, added, removed, renamed, renamed_node, touched, sized_node, dated, dated_node}
 use Rattle.live_tree.proofs.Places.{at_number}
-use Rattle.live_tree.proofs.Entries.{AreBelow, below_from}
-use Rattle.live_tree.proofs.Held.{number_from}
+use Rattle.live_tree.proofs.Entries.{below_from}
+use Rattle.live_tree.proofs.Held.{number_from, lookup_last}
 use Rattle.live_tree.proofs.After.{lookup_edit, by_pick}
 use Rattle.name_places.specs.Claims.{claimed_in, claimed_at}
 
@@ -64,21 +63,6 @@ module _ (s : Sealing) where
       ∙ by_drop (q == k) (node_of (changed tree parent now) q) ∙ ap (cond (q == k) None) (claimed_changed tree parent now q)
 
   -- ---- one is put behind the others
-
-  lookup_last : (q next : ℕ) (v : HeldNode) (es : List (ℕ × HeldNode)) → AreBelow next es
-      → lookup (is_at (nat_cmp q)) (es ++ (next, v) ∷ []) ≡ cond (is_at (nat_cmp q) next) (Some v) (lookup (is_at (nat_cmp q)) es)
-  lookup_last q next v [] below = refl
-  lookup_last q next v (e ∷ es) below = step (is_at (nat_cmp q) e.0) (is_at (nat_cmp q) next) refl refl (lookup_last q next v es below.1)
-    where
-      step : (b d : Bool) → is_at (nat_cmp q) e.0 ≡ b → is_at (nat_cmp q) next ≡ d
-          → lookup (is_at (nat_cmp q)) (es ++ (next, v) ∷ []) ≡ cond (is_at (nat_cmp q) next) (Some v) (lookup (is_at (nat_cmp q)) es)
-          → cond b (Some e.1) (lookup (is_at (nat_cmp q)) (es ++ (next, v) ∷ [])) ≡ cond d (Some v) (cond b (Some e.1) (lookup (is_at (nat_cmp q)) es))
-      step true true b d rest =
-          let here : q ≡ e.0 = number_from q e.0 b in let there : q ≡ next = number_from q next d in
-          let less = below.0 in absurd (omega (arith, here, there, less))
-      step true false b d rest = refl
-      step false true b d rest = rest ∙ rw d refl
-      step false false b d rest = rest ∙ rw d refl
 
   by_last : (b : Bool) (node : HeldNode) (o : Option HeldNode) → claimed_by s (cond b (Some node) o) ≡ cond b (claimed_in s node.kept.what) (claimed_by s o)
   by_last true node o = refl

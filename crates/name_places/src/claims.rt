@@ -10,14 +10,12 @@ ghost use Rattle.name_places.specs.Laws.{Grows, IsInserted, Shrinks, TakesBack};
 
 use crate::directory::folder_of;
 use clear_tree::What;
+use dir_paths::IDENTIFIER_LIMIT;
 use live_tree::LiveTree;
 use siv_mode::VaultKeys;
 use std::alloc::{AllocError, Global};
 use std::collections::BTreeMap;
 use std::marker::Model;
-
-// The longest identifier, in bytes.
-const IDENTIFIER_LIMIT: usize = 1000;
 
 /// Of each folder that a node below the root names, a directory or a Bad node, the lowest number of those nodes. O(log n) for
 /// each question and change. Clauses see its entries.

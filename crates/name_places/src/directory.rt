@@ -1,16 +1,16 @@
 ghost use Rattle.std.specs.Prelude.{◌≡◌, ◌≤◌, length, IsTrue};
 ghost use Rattle.vault_path.specs.Parts.{is_path};
 ghost use Rattle.clear_tree.specs.Places.{host_folder};
-ghost use Rattle.directory_scan.specs.Format.{sealing_of};
+ghost use Rattle.directory_scan.specs.Format.{identifier_limit, sealing_of};
 ghost use Rattle.name_places.specs.New.{IsNewDirectory};
 
-use dir_paths::base32;
+use dir_paths::{IDENTIFIER_LIMIT, base32};
 use sha1::Sha1;
 use siv_mode::{TAG_LEN, VaultKeys};
 use uuid::{Builder, Uuid};
 
-// A sealed identifier, which has at most 1,000 bytes unsealed.
-const SEALED_LIMIT: usize = 1000 + TAG_LEN;
+// The longest sealed identifier, in bytes.
+const SEALED_LIMIT: usize = IDENTIFIER_LIMIT + TAG_LEN;
 
 /// A directory that is to be made.
 #[derive(Clone, Copy, Debug)]
@@ -37,7 +37,7 @@ pub fn new_directory(keys: &VaultKeys, drawn: &[u8; 16]) -> NewDirectory
 
 /// The 32 characters of the folder of an identifier of at most 1,000 bytes.
 pub(crate) fn folder_of(keys: &VaultKeys, identifier: &[u8]) -> [u8; 32]
-    requires { length identifier.now ≤ 1000 }
+    requires { length identifier.now ≤ identifier_limit }
     ensures folder { result ≡ (sealing_of keys.now).folder_of identifier.now }
     ensures path { IsTrue (is_path (host_folder result)) }
 {

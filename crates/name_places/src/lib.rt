@@ -14,7 +14,6 @@ mod claims;
 mod directory;
 mod laws;
 mod name;
-mod paths;
 mod taking;
 
 pub use claims::Claims;

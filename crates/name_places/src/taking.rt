@@ -11,7 +11,7 @@ ghost use Rattle.name_places.specs.Asked.{IsTaken, claim_path, taken_folder, tak
 use crate::claims::Claims;
 use crate::directory::NewDirectory;
 use crate::name::NewPlace;
-use crate::paths::{joined, path_of, two_of};
+use clear_tree::{host_folder, host_two};
 use live_tree::LiveTree;
 use long_names::long_folder;
 use outside::{Failed, Kind, Reads};
@@ -64,7 +64,7 @@ fn taken_place<R: Reads>(
     if let Some(path) = taken_short(folder, parent, text)? {
         return Ok(Some(path));
     }
-    let long = joined(&path_of(parent), &long_folder(text));
+    let long = host_folder(parent).joined(&long_folder(text));
     if_there(folder, long)
 }
 
@@ -80,7 +80,7 @@ fn taken_short<R: Reads>(
     ensures changes { R.changes folder.new ≡ R.changes folder.old }
     ensures cause { HasCause (R.faults folder.old) (R.faults folder.new) (IsErr result) }
 {
-    match path_of(parent).join(text) {
+    match host_folder(parent).join(text) {
         Ok(short) => if_there(folder, short),
         Err(_) => Ok(None),
     }
@@ -100,10 +100,10 @@ fn taken_folder<R: Reads>(
     ensures changes { R.changes folder.new ≡ R.changes folder.old }
     ensures cause { HasCause (R.faults folder.old) (R.faults folder.new) (IsErr result) }
 {
-    if let Some(path) = if_there(folder, path_of(own))? {
+    if let Some(path) = if_there(folder, host_folder(own))? {
         return Ok(Some(path));
     }
-    if let Some(path) = if_file(folder, two_of(own))? {
+    if let Some(path) = if_file(folder, host_two(own))? {
         return Ok(Some(path));
     }
     Ok(claim_path(live, claims, own))
@@ -117,8 +117,8 @@ fn claim_path(live: &LiveTree, claims: &Claims, own: &[u8; 32]) -> Option<VaultP
     let node = live.node(number)?;
     let above = live.node(node.parent())?.folder()?;
     // The entry of a disk's node is a part of a path.
-    let entry = path_of(above).join(node.entry()).ok()?;
-    Some(joined(&entry, DIR))
+    let entry = host_folder(above).join(node.entry()).ok()?;
+    Some(entry.joined(DIR))
 }
 
 // A path, if something is there.

@@ -1,6 +1,5 @@
 //! Reading the stat of a Twstat, where a field of ones or an empty string isn't touched (stat(5)).
 
-ghost use Rattle.std.specs.Prelude.{◌≡◌};
 ghost use Rattle.std.specs.Option.{option_copied};
 ghost use Rattle.tree_model.specs.Asked.{plain_change};
 ghost use Rattle.ninep_wire.specs.Reading.{Gives, optional_number_at, optional_qid_at, optional_string_at, change_at, stat_in, stat_at};

@@ -1,6 +1,6 @@
 //! Readers of fields: each gives a value and the bytes after it.
 
-ghost use Rattle.std.specs.Prelude.{◌≡◌, ◌≤◌, length, IfOk};
+ghost use Rattle.std.specs.Prelude.{◌≡◌, length, IfOk};
 ghost use Rattle.tree_model.specs.Names.{names_in, AreNames, IsWalk};
 ghost use Rattle.ninep_wire.specs.Reading.{Gives, rest_of, bytes_at, number_at, string_at, data_at, qid_at, strings_at, names_at};
 

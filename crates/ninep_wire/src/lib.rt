@@ -15,7 +15,7 @@ mod change;
 mod fault;
 mod fields;
 pub mod kinds;
-mod law;
+mod laws;
 mod messages;
 mod put;
 mod r_message;
@@ -24,7 +24,7 @@ mod t_message;
 mod write;
 
 pub use fault::WireErr;
-pub use law::{r_spellings_are_apart, stats_are_apart, t_spellings_are_apart};
+pub use laws::{r_spellings_are_apart, stats_are_apart, t_spellings_are_apart};
 pub use r_message::RMessage;
 pub use read::read_message;
 pub use t_message::{Message, TMessage};

@@ -1,6 +1,6 @@
 //! Readers of each message's fields (section 5 of the Plan 9 manual).
 
-ghost use Rattle.std.specs.Prelude.{◌≡◌, IfOk};
+ghost use Rattle.std.specs.Prelude.{IfOk};
 ghost use Rattle.ninep_wire.specs.Plain.{plain_t, HasNames};
 ghost use Rattle.ninep_wire.specs.Reading.{Gives, version_at, auth_at, attach_at, flush_at, walk_at, open_at, create_at, read_at, write_at, clunk_at, remove_at, fstat_at, wstat_at};
 

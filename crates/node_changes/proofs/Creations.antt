@@ -27,6 +27,7 @@ use Rattle.tree_changes.specs.Changes as laws
 use Rattle.tree_changes.specs.Deeds.{place_of}
 use Rattle.live_tree.specs.Held.{HeldNode, HeldTree, node_of, live_row, live_rows, IsFree, IsNamed, IsTree}
 use Rattle.live_tree.specs.Changes.{added, new_node, wrapped, AgreeBut, RowsAreAdded}
+use Rattle.live_tree.proofs.Held.{in_found}
 use Rattle.held_changes.specs.Holds.{IsAt, Holds}
 use Rattle.held_changes.proofs.Paths.{one_held}
 use Rattle.held_changes.proofs.Keeping.{free_names_are_free}
@@ -35,7 +36,7 @@ use Rattle.held_changes.proofs.Making.{making_holds}
 use Rattle.held_changes.proofs.Contents.{making_keeps_contents}
 use Rattle.name_places.specs.Claims.{claimed_in, AreClaimsOf, claims_in}
 use Rattle.name_places.specs.Laws.{ClaimsAreWhole, KeptClaims}
-use Rattle.node_changes.proofs.Refusing.{find_in, find_true, in_found}
+use Rattle.node_changes.proofs.Refusing.{find_in, find_true}
 use Rattle.node_changes.specs.Changed.{StandsOn, MakesStep, ShowsRows}
 
 -- each folder that a node of the disk names is claimed in memory

@@ -1,10 +1,10 @@
 -- What was drawn for a new node, why it was refused, and what its commit made of it.
-use Rattle.std.proofs.Common.{◌≡◌, ◌≤◌, ℕ, Bool, List, [], ◌++◌, Option, Some, None, IfSome, IsTrue, Ok, length, refl, sym, ap, ◌∙◌, subst, inl, inr, ◌⊎◌, true, false, true≢false, arith, append_assoc}
+use Rattle.std.proofs.Common.{◌≡◌, ℕ, Bool, List, [], ◌++◌, Option, Some, None, IfSome, IsTrue, Ok, length, refl, sym, ap, ◌∙◌, subst, inl, inr, ◌⊎◌, true, false, true≢false, append_assoc}
 use Rattle.std.proofs.lemmas.List.{append-nil}
 use Rattle.std.specs.Prelude.{⊤}
 use Rattle.vault_path.specs.Parts.{is_path}
 use Rattle.outside.specs.Disk.{Disk, Path as HostPath}
-use Rattle.outside.specs.Calls.{Changes, Rose, Told}
+use Rattle.outside.specs.Calls.{Changes, Told}
 use Rattle.outside.specs.Images.{Log, now, disk_in}
 use Rattle.outside.proofs.Told.{told_then, told_always, unchanged, changed_by}
 use Rattle.deeds.specs.Deeds.{PlainDeed, DoesAll, in_order}
@@ -34,12 +34,6 @@ use Rattle.node_changes.proofs.Committing.{late_by}
 use Rattle.node_changes.specs.Creation.{HasCreated, IsDraw}
 use Rattle.node_changes.specs.Creating.{DrawsHead, DrawsIf, IsPlaceRefusal, IsRefusal, IsSite, IsSiteRefusal, IsUntaken, MakesOn}
 use Rattle.node_changes.proofs.Makings.{told_taken, is_late, is_accepted, never_removed}
-
--- ---- counts of faults
-
-pub rose_from : (a b c : ℕ) → a ≤ b → Rose b c → Rose a c
-rose_from a b c low (inl more) = inl (omega (arith, low, more))
-rose_from a b c low (inr end) = inr end
 
 -- ---- what was drawn
 

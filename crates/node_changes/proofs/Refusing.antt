@@ -1,13 +1,7 @@
 -- Which removals the step refuses, by what is held of the tree.
 use Rattle.std.proofs.Common.{◌≡◌, ◌≢◌, ◌==◌, ℕ, Bool, true, false, ◌&&◌, ◌||◌, not, cond, List, [], ◌∷◌, Option, Some, None, IsSome, IfSome, IfNone, is_some, refl, sym, ap, ap₂, ◌∙◌, subst, true≢false, eqb-true, eq-eqb, ne_eqb, inl, inr, ◌⊎◌}
-use Rattle.std.proofs.lemmas.Cmp.{tied_itself, nat_cmp_total}
-use Rattle.std.specs.Ordering.{nat_cmp}
-use Rattle.std.specs.declared.cmp.Ordering.TheVariants.{Less, Equal}
 use Rattle.std.specs.Option.{option_map, option_map_or, option_and_then}
-use Rattle.std.specs.List.{AllByRecursion, find, list_any}
-use Rattle.std.specs.List.Sorted.{IsStrictlySortedBy}
-use Rattle.std.specs.Map.{lookup, keys_of}
-use Rattle.std.specs.BTreeMap.{is_at}
+use Rattle.std.specs.List.{find, list_any}
 use Rattle.tree_model.specs.declared.refusal.Refusal.{Refusal}
 use Rattle.tree_model.specs.declared.refusal.Refusal.TheVariants as refusals
 use Rattle.tree_model.specs.Rows.{Kind, dir, file, link, bad, Content, bad_size, Row, Rows, root, is_dir, is_child}
@@ -18,13 +12,10 @@ use Rattle.clear_tree.specs.Kept.{What, KeptFile, KeptLink, KeptDir, KeptBad, ki
 use Rattle.tree_changes.proofs.Rows.{map_in, none_in}
 use Rattle.deeds.proofs.Fields.{both_true}
 use Rattle.live_tree.specs.Held.{HeldNode, HeldTree, node_of, live_row, live_rows, IsChild, IsChildless, IsNext, IsNoNext, IsTree}
-use Rattle.live_tree.proofs.Held.{at_true, at_false}
+use Rattle.live_tree.proofs.Held.{in_found}
 use Rattle.live_tree.proofs.Rows.{row_is}
 use Rattle.held_changes.proofs.Numbers.{nodes_have_rows}
 use Rattle.node_changes.specs.Removal.{IsRemovalRefusal}
-
-abbrev Entry : Type 0
-Entry = ℕ × HeldNode
 
 -- ---- members of lists
 module _ {A : Type 0} (t : A → Bool) where
@@ -51,21 +42,6 @@ module _ {A : Type 0} (t : A → Bool) where
       go : (b : Bool) → t y ≡ b → (b || list_any t xs) ≡ true → (list_any t xs ≡ true → (x : A) × In x xs × (t x ≡ true)) → (x : A) × In x (y ∷ xs) × (t x ≡ true)
       go true e j rest = (y, inl refl, e)
       go false e j rest = let a = rest j in (a.0, inr a.1, a.2)
-
-in_keys : (P : ℕ → Type 0) (es : List Entry) (k : ℕ) (v : HeldNode) → AllByRecursion P (keys_of es) → In (k, v) es → P k
-in_keys P [] k v all h = absurd h
-in_keys P (e ∷ es) k v all (inl z) = subst P (sym (ap (λ (y : Entry). y.0) z)) all.0
-in_keys P (e ∷ es) k v all (inr h) = in_keys P es k v all.1 h
-
-pub in_found : (es : List Entry) (k : ℕ) (v : HeldNode) → IsStrictlySortedBy nat_cmp (keys_of es) → In (k, v) es → lookup (is_at (nat_cmp k)) es ≡ Some v
-unfolding IsStrictlySortedBy
-in_found [] k v sorted h = absurd h
-in_found (e ∷ es) k v sorted (inl z) =
-    ap (λ b. cond b (Some e.1) (lookup (is_at (nat_cmp k)) es)) (at_true k e.0 (ap (λ (y : Entry). y.0) z)) ∙ ap Some (sym (ap (λ (y : Entry). y.1) z))
-in_found (e ∷ es) k v sorted (inr h) =
-    let less : nat_cmp e.0 k ≡ Less = in_keys (λ (y : ℕ). nat_cmp e.0 y ≡ Less) es k v sorted.0 h in
-    let apart : k ≢ e.0 = (λ z. let both : Less ≡ Equal = sym less ∙ ap (nat_cmp e.0) z ∙ tied_itself nat_cmp_total e.0 in cc) in
-    ap (λ b. cond b (Some e.1) (lookup (is_at (nat_cmp k)) es)) (at_false k e.0 apart) ∙ in_found es k v sorted.1 h
 
 -- ---- children
 module _ (live : HeldTree) (is : IsTree live) (contents : ℕ → Content) (number : ℕ) where

@@ -1,4 +1,4 @@
-ghost use Rattle.std.specs.Prelude.{◌≡◌, ◌≤◌, ℕ, List, true, false, Ok, Some, None, IfOk, IfErr, IsErr, IsSome, OnErr, OnOk, ⊤};
+ghost use Rattle.std.specs.Prelude.{◌≡◌, ◌≤◌, ℕ, List, true, false, Ok, Some, None, IfOk, IfErr, IsErr, IsSome, OnErr, OnOk};
 ghost use Rattle.outside.specs.Calls.{Changes, HasCause, Rose, Told};
 ghost use Rattle.outside.specs.Images.{disk_in};
 ghost use Rattle.deeds.specs.Grammar.{IsBatch};

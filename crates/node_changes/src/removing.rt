@@ -1,6 +1,6 @@
 ghost use Rattle.std.specs.Prelude.{◌≡◌, ◌≢◌, ◌≤◌, ◌⊎◌, ◌↔◌, ◌||◌, ℕ, cond, None, Some, IsSome, IsTrue, IfOk, IfErr, IfSome, MatchOption, OnErr, OnOk};
 ghost use Rattle.std.specs.Option.{option_and_then};
-ghost use Rattle.vault_path.specs.Parts.{is_part, is_path};
+ghost use Rattle.vault_path.specs.Parts.{is_path};
 ghost use Rattle.outside.specs.Calls.{Changes, Rose, Told};
 ghost use Rattle.outside.specs.Disk.{Disk};
 ghost use Rattle.outside.specs.Images.{disk_in};

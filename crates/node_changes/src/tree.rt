@@ -1,4 +1,4 @@
-ghost use Rattle.std.specs.Prelude.{◌≡◌, ◌≤◌, Some, IfOk};
+ghost use Rattle.std.specs.Prelude.{◌≡◌, Some, IfOk};
 ghost use Rattle.directory_scan.specs.Format.{sealing_of};
 ghost use Rattle.clear_tree.specs.Built.{IsFile};
 ghost use Rattle.live_tree.specs.Changes.{dated, touched, RowsAreDated, RowsAreTouched};

@@ -1,4 +1,4 @@
-ghost use Rattle.std.specs.Prelude.{◌≡◌, ◌≤◌, ◌<◌, [], ◌∷◌, ℕ, List, Option, Ok, length, take, IfOk, OnErr, OnOk, IsErr, Some, None, MatchOption};
+ghost use Rattle.std.specs.Prelude.{◌≡◌, ◌≤◌, ◌<◌, [], ◌∷◌, ℕ, List, Option, Ok, length, take, IfOk, OnErr, IsErr, MatchOption};
 ghost use Rattle.outside.specs.Calls.{HasCause, Told, Changes, Extends, TakesFront, KeepsFrom};
 
 use crate::stream::Failed;

@@ -1,6 +1,6 @@
-ghost use Rattle.std.specs.Prelude.{◌≡◌, ◌↔◌, ◌≤◌, ℕ, List, Some, length, take, IfOk, OnOk, OnErr, IsTrue};
-ghost use Rattle.outside.specs.Disk.{node_at, file, IsFile, CanMakeDir, CanPut};
-ghost use Rattle.outside.specs.Changes.{MakeDir, Put, Write, SetLen, Move, RemoveFile, RemoveDir, CanDo, done, overwritten};
+ghost use Rattle.std.specs.Prelude.{◌≡◌, ◌↔◌, ◌≤◌, Some, length, IfOk, OnOk, OnErr, IsTrue};
+ghost use Rattle.outside.specs.Disk.{CanPut};
+ghost use Rattle.outside.specs.Changes.{MakeDir, Put, Write, SetLen, Move, RemoveDir, CanDo, done, overwritten};
 ghost use Rattle.outside_mem.specs.Kept.{change_of};
 
 use crate::change::MemChange;

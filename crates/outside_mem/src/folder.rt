@@ -2,7 +2,7 @@ ghost use Rattle.std.specs.Prelude.{◌≡◌, ◌↔◌, ◌⊎◌, true, ◌-�
 ghost use Rattle.outside.specs.Calls.{risen};
 ghost use Rattle.outside.specs.Disk.{kind_at, node_at, file, IsFolder, IsFile, IsListing, IsTree};
 ghost use Rattle.outside.specs.Changes.{MakeDir, Put, Write, SetLen, Move, RemoveFile, RemoveDir, CanDo, done};
-ghost use Rattle.outside.specs.Images.{Did, Broke, Synced, now, adds, disk_after, IsSound, HasDone, HasBroken};
+ghost use Rattle.outside.specs.Images.{Did, Broke, Synced, now, adds, IsSound, HasDone, HasBroken};
 ghost use Rattle.outside_mem.specs.Plan.{no_faults, fails_next, breaks_next, after, failing_at, breaking_at, is_failed};
 ghost use Rattle.outside_mem.specs.Held.{bare};
 ghost use Rattle.outside_mem.specs.Kept.{change_of, halved, call_of, all_calls, disk_by};

@@ -1,6 +1,5 @@
-ghost use Rattle.std.specs.Prelude.{◌≡◌, ◌↔◌, ◌++◌, [], ◌∷◌, ℕ, List, Some, length, take, drop, min, max, IfOk, OnErr, IsErr, IsTrue, is_err, MatchOption};
+ghost use Rattle.std.specs.Prelude.{◌≡◌, ◌↔◌, ◌++◌, [], ◌∷◌, Some, length, take, drop, min, max, IfOk, OnErr, IsErr, IsTrue, is_err, MatchOption};
 ghost use Rattle.outside_mem.specs.Plan.{no_faults, fails_next, after, failing_at};
-ghost use Rattle.outside_mem.specs.Streams.{Left, Taken};
 ghost use Rattle.outside_mem.specs.Links.{Ends, Links};
 
 use crate::plan::FaultPlan;

@@ -1,5 +1,5 @@
-ghost use Rattle.std.specs.Prelude.{◌≡◌, ◌≤◌, ◌<◌, ◌↔◌, ◌+◌, ◌-◌, ◌^◌, ◌++◌, [], ℕ, Some, Ok, length, take, drop, min, max, IfOk, OnErr, IsErr, IsTrue, is_err};
-ghost use Rattle.outside_mem.specs.Plan.{Plan, no_faults, fails_next, after, failing_at};
+ghost use Rattle.std.specs.Prelude.{◌≡◌, ◌≤◌, ◌↔◌, ◌-◌, ◌^◌, ◌++◌, [], Some, Ok, length, take, drop, min, max, IfOk, OnErr, IsErr, IsTrue, is_err};
+ghost use Rattle.outside_mem.specs.Plan.{no_faults, fails_next, after, failing_at};
 ghost use Rattle.outside_mem.specs.Streams.{Left, Taken};
 
 use crate::plan::FaultPlan;

@@ -1,4 +1,4 @@
-ghost use Rattle.std.specs.Prelude.{◌≡◌, ◌≤◌, ◌<◌, [], drop, length, take, if◌then◌else◌, IfOk, OnErr, IsErr, IsTrue, None, Ok};
+ghost use Rattle.std.specs.Prelude.{◌≡◌, ◌≤◌, ◌<◌, [], drop, length, take, if◌then◌else◌, IfOk, OnErr, IsErr, None, Ok};
 ghost use Rattle.std.specs.Io.KnownBytes.{Consumes, IsAtEnd};
 ghost use Rattle.outside.specs.Calls.{HasCause, TakesFront, Told};
 ghost use Rattle.outside_real.specs.Behind.{link_reader, link_writer};

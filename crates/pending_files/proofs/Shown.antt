@@ -1,39 +1,12 @@
 -- Windows of a file over which bytes are laid.
-use Rattle.std.proofs.Common.{◌≡◌, ◌⊎◌, ⊎_elim, ℕ, ◌+◌, ◌-◌, ◌≤◌, ◌<◌, max, min, List, ◌++◌, length, get_or, take, drop, Option, Some, None, sym, ap, ◌∙◌, inl, inr, arith, length-append, length-take, length-drop}
+use Rattle.std.proofs.Common.{◌≡◌, ◌⊎◌, ⊎_elim, ℕ, ◌+◌, ◌-◌, ◌≤◌, ◌<◌, min, List, length, get_or, take, drop, Option, Some, None, sym, ap, ◌∙◌, inl, inr, arith, length-take, length-drop}
 use Rattle.std.proofs.lemmas.Bool.{cases_lt}
-use Rattle.std.proofs.lemmas.List.{get_or_append_left, get_or-take, get_or-drop, get_or-append_right, ext_get_or}
+use Rattle.std.proofs.lemmas.List.{get_or-take, get_or-drop, ext_get_or}
 use Rattle.outside.specs.Changes.{overwritten}
 use Rattle.std.specs.Prelude.{Result, Ok, Err, IfOk}
 use Rattle.outside.specs.Calls.{Told, IsUnfit}
+use Rattle.deeds.proofs.Overwritten.{long_over, get_before, get_behind, get_inside}
 use Rattle.pending_files.specs.Later.{Shows}
-
-get_left : (xs ys : List ℕ) (i : ℕ) → i < length xs → get_or (xs ++ ys) i 0 ≡ get_or xs i 0
-get_left xs ys i lt = get_or_append_left xs ys 0 i lt
-
-pub long_over : (old : List ℕ) (at : ℕ) (bytes : List ℕ) → at ≤ length old → length (overwritten old at bytes) ≡ max (length old) (at + length bytes)
-long_over old at bytes le = omega (arith, length-append (take at old ++ bytes) (drop (at + length bytes) old), length-append (take at old) bytes, length-take at old, length-drop (at + length bytes) old)
-
-front_long : (old : List ℕ) (at : ℕ) → at ≤ length old → length (take at old) ≡ at
-front_long old at le = omega (arith, length-take at old)
-
-pub get_before : (old : List ℕ) (at : ℕ) (bytes : List ℕ) (i : ℕ) → at ≤ length old → i < at → get_or (overwritten old at bytes) i 0 ≡ get_or old i 0
-get_before old at bytes i le below =
-    let f = front_long old at le in
-    get_left (take at old ++ bytes) (drop (at + length bytes) old) i (omega (arith, f, length-append (take at old) bytes))
-    ∙ get_left (take at old) bytes i (omega (arith, f)) ∙ get_or-take at old i 0 below
-
-pub get_behind : (old : List ℕ) (at : ℕ) (bytes : List ℕ) (i : ℕ) → at ≤ length old → at + length bytes ≤ i → get_or (overwritten old at bytes) i 0 ≡ get_or old i 0
-get_behind old at bytes i le above =
-    let f = front_long old at le in
-    let e : at + length bytes + (i - (at + length bytes)) ≡ i = omega arith in
-    get_or-append_right (take at old ++ bytes) (drop (at + length bytes) old) (at + length bytes) i 0 (omega (arith, f, length-append (take at old) bytes)) above
-    ∙ get_or-drop (at + length bytes) old (i - (at + length bytes)) 0 ∙ ap (λ (k : ℕ). get_or old k 0) e
-
-pub get_inside : (old : List ℕ) (at : ℕ) (bytes : List ℕ) (i : ℕ) → at ≤ length old → at ≤ i → i < at + length bytes → get_or (overwritten old at bytes) i 0 ≡ get_or bytes (i - at) 0
-get_inside old at bytes i le from to =
-    let f = front_long old at le in
-    get_left (take at old ++ bytes) (drop (at + length bytes) old) i (omega (arith, f, length-append (take at old) bytes))
-    ∙ get_or-append_right (take at old) bytes at i 0 f from
 
 -- bytes that lie outside of the window
 pub passed_by : (was bytes window : List ℕ) (place at : ℕ) → place ≤ length was → (length bytes ≤ at - place) ⊎ (length window ≤ place - at) → Shows at was window → Shows at (overwritten was place bytes) window

@@ -5,9 +5,9 @@ use Rattle.std.proofs.lemmas.Bool.{cases_lt, lt-ltb, le-ltb, eqb-true, eq-eqb}
 use Rattle.std.proofs.lemmas.List.{take_all, get_or-take, ext_get_or}
 use Rattle.outside.specs.Changes.{overwritten}
 use Rattle.deeds.specs.Reshape.{Ranges, written, CanWrite}
+use Rattle.deeds.proofs.Overwritten.{long_over, get_before, get_behind, get_inside}
 use Rattle.pending_files.specs.Pending.{IsPlace, AreChunks, cut_to, with_chunk}
 use Rattle.pending_files.proofs.Ranges.{Cut, With, places_apart}
-use Rattle.pending_files.proofs.Shown.{long_over, get_before, get_behind, get_inside}
 
 -- ---- fronts
 

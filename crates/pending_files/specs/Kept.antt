@@ -10,12 +10,12 @@ use Rattle.deeds.specs.declared.deed.Deed.{Deed}
 use Rattle.deeds.specs.declared.deed.Deed.TheVariants.{MakeDir, Put, Rename, Remove, RemoveDir, Reshape}
 use Rattle.deeds.specs.Deeds.{PlainDeed}
 use Rattle.deeds.specs.Plain.{plains}
-use Rattle.pending_files.specs.Pending.{is_at, ArePending, chunk_count}
+use Rattle.pending_files.specs.Pending.{is_at, ArePending, chunk_count, sealed_length}
 use Rattle.pending_files.specs.declared.pending.Pending.TheInside.{Inside}
 
 -- a buffer that takes a whole sealed chunk
 abbrev pub IsBuffer : Vec ℕ Global → Type 0
-IsBuffer buffer = 32796 ≤ vec_capacity buffer
+IsBuffer buffer = sealed_length ≤ vec_capacity buffer
 
 abbrev pub InBuffer : Range → Type 0
 InBuffer range = IsBuffer range.bytes

@@ -3,6 +3,7 @@ use Rattle.std.specs.Prelude.{◌≡◌, ◌≢◌, ◌⊎◌, ℕ, ◌+◌, ◌
 use Rattle.outside.specs.Disk.{Disk, Path, file, node_at}
 use Rattle.deeds.specs.Reshape.{Ranges, written, CanWrite}
 use Rattle.deeds.specs.Deeds.{reshaped}
+use Rattle.pending_files.specs.Pending.{sealed_length}
 
 -- a window that begins at this offset of a file shows its bytes, as far as there are any
 abbrev pub Shows : ℕ → List ℕ → List ℕ → Type 0
@@ -30,4 +31,4 @@ pub record IsChangedTo (path : Path) (bytes : List ℕ) (old new : Disk) : Type 
 
 -- a sealed chunk is full, or the last of its file
 abbrev pub IsWhole : ℕ → ℕ → List ℕ → Type 0
-IsWhole len at sealed = (length sealed ≡ 32796) ⊎ (at + length sealed ≡ len)
+IsWhole len at sealed = (length sealed ≡ sealed_length) ⊎ (at + length sealed ≡ len)

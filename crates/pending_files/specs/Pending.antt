@@ -74,15 +74,22 @@ put_in path len at sealed deeds = without path deeds ++ Reshapes path len (with_
 
 -- ---- what can wait
 
+-- the bytes of a content file's header, and of a full sealed chunk (Cryptomator's vault format 8)
+abbrev pub header_length : ℕ
+header_length = 68
+
+abbrev pub sealed_length : ℕ
+sealed_length = 32796
+
 -- where a chunk begins: behind the header and as many full sealed chunks
 abbrev pub IsPlace : ℕ → Type 0
-IsPlace at = (index : ℕ) × (at ≡ 68 + 32796 * index)
+IsPlace at = (index : ℕ) × (at ≡ header_length + sealed_length * index)
 
 -- each range is within the room of one chunk, they rise from a place on, and end within the length
 abbrev pub AreChunks : ℕ → ℕ → Ranges → Type 0
 AreChunks from len [] = ⊤
 AreChunks from len (range ∷ ranges) =
-    (from ≤ range.0) × IsPlace range.0 × (length range.1 ≤ 32796) × (range.0 + length range.1 ≤ len) × AreChunks (range.0 + 32796) len ranges
+    (from ≤ range.0) × IsPlace range.0 × (length range.1 ≤ sealed_length) × (range.0 + length range.1 ≤ len) × AreChunks (range.0 + sealed_length) len ranges
 
 -- a file that isn't in the folder itself, where the journal is
 pub record IsInside (path : Path) : Type 0 where

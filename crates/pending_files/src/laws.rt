@@ -5,7 +5,7 @@ ghost use Rattle.outside.specs.Changes.{overwritten};
 ghost use Rattle.outside.specs.Disk.{Disk, Path, node_at, file, IsTree};
 ghost use Rattle.deeds.specs.Reshape.{Ranges};
 ghost use Rattle.deeds.specs.Deeds.{PlainDeed, DoesAll, in_order};
-ghost use Rattle.pending_files.specs.Pending.{ArePending, IsPlace, file_of, cut_in, put_in};
+ghost use Rattle.pending_files.specs.Pending.{ArePending, IsPlace, file_of, cut_in, put_in, sealed_length};
 ghost use Rattle.pending_files.specs.Laid.{laid, CanWait, LookAlike};
 ghost use Rattle.pending_files.specs.Later.{CanReshape, IsReshaped, IsChangedTo, IsWhole};
 
@@ -31,7 +31,7 @@ pub fn cutting_what_waits()
 /// or the last one; all else will be as it was to be.
 pub fn putting_in_what_waits()
     ensures { (deeds : List PlainDeed) (old later : Disk) (path : Path) (bytes : List ℕ) (size at : ℕ) (sealed : List ℕ) → ArePending deeds → ArePending (put_in path size at sealed deeds)
-        → DoesAll (in_order deeds) old later → node_at later path ≡ Some (file bytes) → IsPlace at → length sealed ≤ 32796
+        → DoesAll (in_order deeds) old later → node_at later path ≡ Some (file bytes) → IsPlace at → length sealed ≤ sealed_length
         → at ≤ length bytes → at + length sealed ≤ size → size ≤ max (length bytes) (at + length sealed) → IsWhole size at sealed
         → (next : Disk) × DoesAll (in_order (put_in path size at sealed deeds)) old next × IsChangedTo path (take size (overwritten bytes at sealed)) later next }
 {}

@@ -8,7 +8,7 @@ ghost use Rattle.deeds.specs.Deeds.{DoesAll, in_order};
 ghost use Rattle.deeds.specs.Grammar.{IsBatch};
 ghost use Rattle.deeds.specs.Plain.{plains};
 ghost use Rattle.deeds.specs.Repeatable.{IsRepeatable};
-ghost use Rattle.pending_files.specs.Pending.{IsPlace, HasRoom, ArePending, put_in, cut_in, file_of};
+ghost use Rattle.pending_files.specs.Pending.{IsPlace, HasRoom, ArePending, put_in, cut_in, file_of, sealed_length};
 
 use crate::places::file_in;
 use crate::reading::read_reshaped;
@@ -84,7 +84,7 @@ impl Pending {
     pub fn put_chunk(&mut self, path: &VaultPath, size: u64, at: u64, sealed: &[u8])
         requires room { HasRoom self.old path.now 1 }
         requires place { IsPlace at }
-        requires short { length sealed.now ≤ 32796 }
+        requires short { length sealed.now ≤ sealed_length }
         requires within { at + length sealed.now ≤ size }
         ensures put { self.new ≡ put_in path.now size at sealed.now self.old }
         ensures pending { ArePending self.new }

@@ -1,7 +1,6 @@
 //! Where the changes of a file stand among those that wait, and a chunk among a file's.
 
-ghost use Rattle.std.specs.Prelude.{◌≡◌, ◌≤◌, ◌<◌, ℕ, Some, None, length, take, drop, MatchOption, is_some};
-ghost use Rattle.std.specs.List.{AllByRecursion};
+ghost use Rattle.std.specs.Prelude.{◌≡◌, Some, None, MatchOption};
 ghost use Rattle.deeds.specs.Plain.{plains, plain_ranges};
 ghost use Rattle.pending_files.specs.Pending.{file_of};
 ghost use Rattle.pending_files.specs.Kept.{IsIndexOf, IsGap};

@@ -65,18 +65,18 @@ fn overlay(ranges: &[Range], at: u64, window: &mut [u8])
     }
 }
 
-/// Lays bytes that stand at `place` of a file over a window of it that begins at byte `at`.
-fn lay(place: u64, bytes: &[u8], at: u64, window: &mut [u8])
+/// Lays bytes that begin at byte `start` of a file over a window of it that begins at byte `at`.
+fn lay(start: u64, bytes: &[u8], at: u64, window: &mut [u8])
     ensures long { length window.new ≡ length window.old }
-    ensures shown { (was : List ℕ) → place ≤ length was → Shows at was window.old → Shows at (overwritten was place bytes.now) window.new }
+    ensures shown { (was : List ℕ) → start ≤ length was → Shows at was window.old → Shows at (overwritten was start bytes.now) window.new }
 {
-    let skip = at.saturating_sub(place);
-    let start = place.saturating_sub(at);
-    if skip >= bytes.len() as u64 || start >= window.len() as u64 {
+    let skip = at.saturating_sub(start);
+    let shift = start.saturating_sub(at);
+    if skip >= bytes.len() as u64 || shift >= window.len() as u64 {
         return;
     }
     let skip = skip as usize;
-    let start = start as usize;
-    let count = (bytes.len() - skip).min(window.len() - start);
-    window[start..start + count].copy_from_slice(&bytes[skip..skip + count]);
+    let shift = shift as usize;
+    let count = (bytes.len() - skip).min(window.len() - shift);
+    window[shift..shift + count].copy_from_slice(&bytes[skip..skip + count]);
 }

@@ -1,8 +1,8 @@
 //! The room for what waits: lists and buffers that are reserved once and handed round.
 
-ghost use Rattle.std.specs.Prelude.{◌≡◌, ◌+◌, ◌-◌, ◌≤◌, ◌<◌, ◌++◌, ◌∷◌, [], ℕ, List, None, length, take, insert, IfOk, vec_len, vec_capacity};
+ghost use Rattle.std.specs.Prelude.{◌≡◌, ◌+◌, ◌-◌, ◌≤◌, ◌<◌, ◌++◌, ◌∷◌, [], ℕ, List, None, length, take, insert, IfOk, vec_len};
 ghost use Rattle.deeds.specs.Plain.{plain, plains, plain_ranges};
-ghost use Rattle.pending_files.specs.Pending.{file_of, its_ranges, ranges_of, without, cut_to, with_chunk, IsWaiting, AreChunks};
+ghost use Rattle.pending_files.specs.Pending.{file_of, its_ranges, ranges_of, without, cut_to, with_chunk, sealed_length, IsWaiting, AreChunks};
 ghost use Rattle.pending_files.specs.Kept.{IsBuffer, IsList, IsEmptyList, AreBuffers, AreLists, AreLent, IsGap, InList};
 
 use crate::places::{count_before, index_of};
@@ -185,7 +185,7 @@ fn give_list_back(lists: &mut Vec<Vec<Range>>, list: Vec<Range>)
 pub(crate) fn put_range(ranges: &mut Vec<Range>, at: u64, sealed: &[u8], buffers: &mut Vec<Vec<u8>>)
     requires list { IsList ranges.old }
     requires buffers { AreBuffers buffers.old }
-    requires short { length sealed.now ≤ 32796 }
+    requires short { length sealed.now ≤ sealed_length }
     requires room { vec_len ranges.old < 64 }
     requires spare { 0 < vec_len buffers.old }
     ensures put { plain_ranges ranges.new.items ≡ with_chunk at sealed.now (plain_ranges ranges.old.items) }
@@ -229,7 +229,7 @@ fn buffer_for(ranges: &mut Vec<Range>, index: usize, at: u64, buffers: &mut Vec<
 /// A buffer with these bytes in place of its own.
 fn filled(mut buffer: Vec<u8>, bytes: &[u8]) -> Vec<u8>
     requires buffer { IsBuffer buffer }
-    requires short { length bytes.now ≤ 32796 }
+    requires short { length bytes.now ≤ sealed_length }
     ensures bytes { result.items ≡ bytes.now }
     ensures buffer { IsBuffer result }
 {

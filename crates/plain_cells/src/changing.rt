@@ -1,5 +1,5 @@
-ghost use Rattle.std.specs.Prelude.{◌≡◌, ◌≤◌, ◌+◌, ◌*◌, ◌^◌, ℕ, length, true, slice_get, IfOk, option_map, if◌then◌else◌};
-ghost use Rattle.tree_model.specs.Contents.{chunk_length, chunks_after, cut_cells, is_met, resized, resized_cells, sealed_chunk, spliced, written, written_cells};
+ghost use Rattle.std.specs.Prelude.{◌≡◌, ◌≤◌, ◌+◌, ◌*◌, ◌^◌, length, true, slice_get, IfOk, option_map, if◌then◌else◌};
+ghost use Rattle.tree_model.specs.Contents.{chunks_after, cut_cells, is_met, resized, resized_cells, sealed_chunk, spliced, written, written_cells};
 ghost use Rattle.tree_model.specs.Rows.{chunks, joined_cells};
 ghost use Rattle.plain_cells.specs.Seen.{cell_seen, cells_seen, content_seen};
 

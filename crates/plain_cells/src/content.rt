@@ -1,4 +1,4 @@
-ghost use Rattle.std.specs.Prelude.{◌≡◌, ℕ, List, IfOk, map, option_map};
+ghost use Rattle.std.specs.Prelude.{◌≡◌, IfOk, map, option_map};
 ghost use Rattle.tree_model.specs.Rows.{all_there, cell_bytes, content_length, joined, joined_cells, slice_of};
 ghost use Rattle.plain_cells.specs.Seen.{cell_seen, cells_seen, content_seen};
 

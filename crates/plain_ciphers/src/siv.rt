@@ -1,9 +1,8 @@
 // S2V and SIV (RFC 5297) with AES, with no or one associated string.
 
-ghost use Rattle.std.specs.Prelude.{◌≡◌, ◌⊎◌, ◌≤◌, ◌<◌, ◌+◌, ℕ, List, length, map, bit_xor, IfOk, option_map};
+ghost use Rattle.std.specs.Prelude.{◌≡◌, ◌⊎◌, ◌≤◌, ◌<◌, length, map, bit_xor, IfOk, option_map};
 ghost use Rattle.std.specs.List.{zip};
 ghost use Rattle.aes_block.specs.Aes.{aes};
-ghost use Rattle.aes_block.specs.Bytes.{bytes_of, number_of, xor_bytes};
 ghost use Rattle.siv_mode.specs.Siv.{ad_of, counted, first_counter, keystream, mixed, s2v, siv_opened, siv_sealed, xored_end};
 
 use crate::cipher::aes;

@@ -1,6 +1,6 @@
-ghost use Rattle.std.specs.Prelude.{◌≡◌, IfOk, option_map, length};
+ghost use Rattle.std.specs.Prelude.{◌≡◌, option_map};
 ghost use Rattle.tree_model.specs.Step.{bytes_answer, refuses, says, stepped};
-ghost use Rattle.plain_step.specs.Seen.{answer_seen, reply_seen, rows_seen, stepped_seen};
+ghost use Rattle.plain_step.specs.Seen.{reply_seen, rows_seen, stepped_seen};
 
 use crate::rows::Rows;
 use std::alloc::Global;

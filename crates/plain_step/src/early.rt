@@ -1,4 +1,4 @@
-ghost use Rattle.std.specs.Prelude.{◌≡◌, ◌+◌, ℕ, length, IfOk};
+ghost use Rattle.std.specs.Prelude.{◌≡◌, IfOk};
 ghost use Rattle.std.specs.Option.{option_copied};
 ghost use Rattle.tree_model.specs.Asked.{plain_request};
 ghost use Rattle.tree_model.specs.Step.{create_refusal, early, growth_refusal, is_bad_size, is_held, list_refusal, open_refusal, read_refusal, removal_refusal, remove_refusal, truncates, write_refusal, writes};

@@ -1,6 +1,6 @@
 //! What a session does on a message: it answers at once, or asks the tree.
 
-ghost use Rattle.std.specs.Prelude.{◌≡◌, ◌≢◌, ℕ, ◌+◌, ◌≤◌, ◌<◌, List, length, true, false, IfOk, MatchResult};
+ghost use Rattle.std.specs.Prelude.{◌≡◌, ℕ, ◌+◌, ◌≤◌, ◌<◌, List, length, true, IfOk, MatchResult};
 ghost use Rattle.std.specs.FinMap as map;
 ghost use Rattle.tree_model.specs.Asked.{plain_change, write_limit};
 ghost use Rattle.tree_model.specs.Names.{names_in, IsWalk};

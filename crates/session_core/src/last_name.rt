@@ -4,9 +4,11 @@ ghost use Rattle.std.specs.Prelude.{◌≡◌, ℕ, ◌+◌, ◌≤◌, List, le
 ghost use Rattle.std.specs.Option.{option_or, option_copied};
 ghost use Rattle.std.specs.Str.{IsUtf8};
 ghost use Rattle.byteorder.specs.Endian.{little_number};
+ghost use Rattle.tree_model.specs.Names.{name_limit};
 ghost use Rattle.tree_model.specs.Asked.{AreStats};
 ghost use Rattle.session_core.specs.Outcome.{last_name};
 ghost use Rattle.session_core.specs.Stats.{StartsWithStat};
+ghost use Rattle.session_core.specs.declared.last_name.TheConstants.{NAME_LENGTH_OFFSET, NAME_OFFSET, SIZE_LENGTH};
 
 use byteorder::{ByteOrder, LittleEndian};
 
@@ -21,8 +23,8 @@ const SIZE_LENGTH: usize = 2;
 /// The name in the stat that stands first in bytes, and what follows the stat.
 fn first_name(bytes: &[u8]) -> (&[u8], &[u8])
     requires { StartsWithStat bytes.now }
-    ensures name { result.0.now ≡ take (little_number 2 (drop 41 bytes.now)) (drop 43 bytes.now) }
-    ensures rest { result.1.now ≡ drop (2 + little_number 2 bytes.now) bytes.now }
+    ensures name { result.0.now ≡ take (little_number 2 (drop NAME_LENGTH_OFFSET bytes.now)) (drop NAME_OFFSET bytes.now) }
+    ensures rest { result.1.now ≡ drop (SIZE_LENGTH + little_number 2 bytes.now) bytes.now }
 {
     let size = LittleEndian::read_u16(bytes) as usize;
     let (_, names) = bytes.split_at(NAME_LENGTH_OFFSET);
@@ -37,7 +39,7 @@ fn first_name(bytes: &[u8]) -> (&[u8], &[u8])
 fn last_name_bytes(stats: &[u8]) -> Option<&[u8]>
     requires { AreStats (length stats.now) stats.now }
     ensures last { (given : Option (List ℕ)) → last_name (length stats.now) given stats.now ≡ option_or (option_copied result) given }
-    ensures good { IfSome result (λ name. IsUtf8 name.now × (length name.now ≤ 1024)) }
+    ensures good { IfSome result (λ name. IsUtf8 name.now × (length name.now ≤ name_limit)) }
 {
     let mut last = None;
     let mut rest = stats;
@@ -53,7 +55,7 @@ fn last_name_bytes(stats: &[u8]) -> Option<&[u8]>
 pub(crate) fn last_name(stats: &[u8]) -> Option<&str>
     requires { AreStats (length stats.now) stats.now }
     ensures last { (given : Option (List ℕ)) → last_name (length stats.now) given stats.now ≡ option_or (option_copied result) given }
-    ensures short { IfSome result (λ name. length name.now ≤ 1024) }
+    ensures short { IfSome result (λ name. length name.now ≤ name_limit) }
 {
     let name = last_name_bytes(stats)?;
     match str::from_utf8(name) {

@@ -32,7 +32,6 @@ impl Model for Session {
 }
 
 impl Session {
-    ghost use Rattle.tree_model.specs.Asked.{Asked};
     ghost use Rattle.ninep_wire.specs.Reading.{IsFrame};
     ghost use Rattle.session_core.specs.State.{fresh, limit, least_message, most_message, HasGoodSize};
     ghost use Rattle.session_core.specs.Change.{changed, size_after, CanChange};

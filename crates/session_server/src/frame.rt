@@ -1,6 +1,6 @@
 //! Reading one message from a link.
 
-ghost use Rattle.std.specs.Prelude.{◌≡◌, ◌≤◌, List, [], length, take, IfOk, OnOk, IfErr, IsErrOf};
+ghost use Rattle.std.specs.Prelude.{◌≡◌, ◌≤◌, [], length, take, IfOk, OnOk, IfErr, IsErrOf};
 ghost use Rattle.outside.specs.Calls.{HasCause};
 ghost use Rattle.ninep_wire.specs.Reading.{IsFrame};
 ghost use Rattle.session_core.specs.State.{State, limit, most_message};

@@ -1,6 +1,6 @@
 //! A client that waits for each answer before it sends the next message.
 
-ghost use Rattle.std.specs.Prelude.{ℕ, List, Option, None};
+ghost use Rattle.std.specs.Prelude.{None};
 
 use crate::frames::*;
 use crate::obliging::Obliging;

@@ -1,8 +1,7 @@
 //! How each worker gets a client of the tree, and gives its seat back.
-ghost use Rattle.std.specs.Prelude.{◌≡◌, ◌≤◌, List, [], length, reverse, vec_capacity, vec_len};
+ghost use Rattle.std.specs.Prelude.{◌≡◌, ◌≤◌, [], reverse, vec_capacity, vec_len};
 ghost use Rattle.std.specs.List.{AllByRecursion};
 ghost use Rattle.session_workers.specs.declared.crew.Crew as kept;
-ghost use Rattle.shared_vault.specs.Clients.{ClientView};
 ghost use Rattle.shared_sessions.specs.Workers.{AreCrewsOf, AreReady};
 
 use outside::{Entropy, Listener};

@@ -1,5 +1,5 @@
 //! A tree that counts what it was asked.
-ghost use Rattle.std.specs.Prelude.{◌≡◌, ◌≤◌, ℕ, List, false, length};
+ghost use Rattle.std.specs.Prelude.{◌≡◌, ℕ, List, false, length};
 ghost use Rattle.tree_model.specs.Asked.{HasCount, IsReplyTo, bytes_put, is_exhausted, plain_reply, plain_request};
 
 use outside::Entropy;

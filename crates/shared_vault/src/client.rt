@@ -1,9 +1,9 @@
 //! One caller's way to the tree.
-ghost use Rattle.std.specs.Prelude.{◌≡◌, ◌≤◌, ◌∷◌, [], ℕ, List, IfErr, IfOk, OnErr, false, length};
+ghost use Rattle.std.specs.Prelude.{◌≡◌, ◌∷◌, [], ℕ, IfErr, IfOk, OnErr, false, length};
 ghost use Rattle.outside.specs.Views.{entropy_view};
-ghost use Rattle.tree_model.specs.Asked.{Asked, CanAsk, Extends, HasCount, IsReplyTo, KeepsRest, asked_of, bytes_put, is_exhausted, plain_reply, plain_request, refused};
+ghost use Rattle.tree_model.specs.Asked.{CanAsk, Extends, HasCount, IsReplyTo, KeepsRest, asked_of, bytes_put, is_exhausted, plain_reply, plain_request, refused};
 ghost use Rattle.tree_model.specs.declared.refusal.Refusal.TheVariants as refusals;
-ghost use Rattle.turn_lock.specs.Seats.{IsIdle, IsSpent};
+ghost use Rattle.turn_lock.specs.Seats.{IsIdle};
 ghost use Rattle.shared_vault.specs.Clients.{GoesOn, HasAsked, HasEntry, HasNoTurn, IsServed, client_of};
 
 use crate::held::{Held, Start};

@@ -1,4 +1,4 @@
-ghost use Rattle.std.specs.Prelude.{◌≡◌, ◌↔◌, ◌+◌, ℕ, List, length, replicate, Option, Some, None, IsOk, OnOk, OnErr};
+ghost use Rattle.std.specs.Prelude.{◌≡◌, ◌+◌, ℕ, List, length, replicate, Some, None, IsOk, OnOk, OnErr};
 ghost use Rattle.siv_mode.specs.Siv.{s2v as s2v_of, siv_sealed, siv_opened, ad_of, mixed};
 
 use crate::blocks::{double, pad};

@@ -1,14 +1,8 @@
--- Members of lists: those that pass a test or are made of others, the first one that passes, and the one that stands under a number.
-use Rattle.std.proofs.Common.{◌≡◌, ◌≢◌, ◌⊎◌, ℕ, Bool, true, false, ◌&&◌, cond, List, [], ◌∷◌, map, filter, Some, None, nat_cmp, Less, Equal, inl, inr, refl, sym, ap, ap₂, subst, ◌∙◌}
-use Rattle.std.specs.List.{find, AllByRecursion}
-use Rattle.std.specs.List.Sorted.{IsStrictlySortedBy}
-use Rattle.std.specs.Map.{lookup, keys_of}
-use Rattle.std.specs.BTreeMap.{is_at}
+-- Members of lists: those that pass a test or are made of others, and the first one that passes.
+use Rattle.std.proofs.Common.{◌≡◌, ◌⊎◌, Bool, true, false, ◌&&◌, cond, List, [], ◌∷◌, map, filter, Some, None, inl, inr, refl, sym, ap, subst, ◌∙◌}
+use Rattle.std.specs.List.{find}
 use Rattle.std.proofs.lemmas.Bool.{cond-true, cond-false}
-use Rattle.std.proofs.lemmas.Cmp.{tied_itself, nat_cmp_total}
 use Rattle.clear_tree.specs.Queue.{In}
-use Rattle.live_tree.specs.Held.{HeldNode}
-use Rattle.live_tree.proofs.Held.{at_true, at_false, number_from}
 
 pub both : (a b : Bool) → (a && b) ≡ true → (a ≡ true) × (b ≡ true)
 both true b h = (refl, h)
@@ -80,34 +74,3 @@ module _ {A : Type 0} (t : A → Bool) where
       by true is none h rest = absurd cc
       by false is none (inl same) rest = let passes : t y ≡ true = ap t (sym same) ∙ pass in absurd (cc (passes, is))
       by false is none (inr h) rest = rest none x h pass
-
--- ---- nodes by number
-
-abbrev pub Entry : Type 0
-Entry = ℕ × HeldNode
-
-in_keys : (P : ℕ → Type 0) (es : List Entry) (k : ℕ) (v : HeldNode) → AllByRecursion P (keys_of es) → In (k, v) es → P k
-in_keys P [] k v all h = absurd h
-in_keys P (e ∷ es) k v all (inl same) = subst P (sym (ap (λ (y : Entry). y.0) same)) all.0
-in_keys P (e ∷ es) k v all (inr h) = in_keys P es k v all.1 h
-
--- in a list in order an entry is found by its number
-pub in_found : (es : List Entry) (k : ℕ) (v : HeldNode) → IsStrictlySortedBy nat_cmp (keys_of es) → In (k, v) es → lookup (is_at (nat_cmp k)) es ≡ Some v
-unfolding IsStrictlySortedBy
-in_found [] k v sorted h = absurd h
-in_found (e ∷ es) k v sorted (inl same) =
-    ap (λ b. cond b (Some e.1) (lookup (is_at (nat_cmp k)) es)) (at_true k e.0 (ap (λ (y : Entry). y.0) same)) ∙ ap Some (sym (ap (λ (y : Entry). y.1) same))
-in_found (e ∷ es) k v sorted (inr h) =
-    let less : nat_cmp e.0 k ≡ Less = in_keys (λ (y : ℕ). nat_cmp e.0 y ≡ Less) es k v sorted.0 h in
-    let apart : k ≢ e.0 = (λ same. let both : Less ≡ Equal = sym less ∙ ap (nat_cmp e.0) same ∙ tied_itself nat_cmp_total e.0 in cc) in
-    ap (λ b. cond b (Some e.1) (lookup (is_at (nat_cmp k)) es)) (at_false k e.0 apart) ∙ in_found es k v sorted.1 h
-
-pub found_in : (es : List Entry) (k : ℕ) (v : HeldNode) → lookup (is_at (nat_cmp k)) es ≡ Some v → In (k, v) es
-found_in [] k v h = absurd cc
-found_in (e ∷ es) k v h = by (is_at (nat_cmp k) e.0) refl h (found_in es k v)
-  where
-    by : (b : Bool) → is_at (nat_cmp k) e.0 ≡ b → cond b (Some e.1) (lookup (is_at (nat_cmp k)) es) ≡ Some v → (lookup (is_at (nat_cmp k)) es ≡ Some v → In (k, v) es) → In (k, v) (e ∷ es)
-    by true is h rest =
-        let value : e.1 ≡ v = cc in
-        inl (ap₂ (λ (a : ℕ) (n : HeldNode). (a, n)) (number_from k e.0 is) (sym value))
-    by false is h rest = inr (rest h)

@@ -5,8 +5,9 @@ use Rattle.tree_model.specs.Rows.{Content, Row, root, row_of}
 use Rattle.clear_tree.specs.Kept.{folder_in}
 use Rattle.clear_tree.specs.Queue.{In}
 use Rattle.live_tree.specs.Held.{HeldNode, HeldTree, IsTree, node_of, live_row, live_rows}
+use Rattle.live_tree.proofs.Held.{in_found, found_in}
 use Rattle.live_tree.proofs.Rows.{row_is}
-use Rattle.tree_answers.proofs.Members.{in_map, map_in, in_found, found_in}
+use Rattle.tree_answers.proofs.Members.{in_map, map_in}
 
 pub none_of : {A : Type 0} (o : Option A) → ((x : A) → o ≡ Some x → ⊥) → o ≡ None
 none_of None not = refl

@@ -16,5 +16,5 @@ mod walking;
 
 pub use listing::list;
 pub use nodes::{is_truncating, look, open_node, sync};
-pub use stats::stat_of;
-pub use walking::walk;
+pub use stats::{OWNER, mode, stat_of};
+pub use walking::{name_refusal, walk};

@@ -1,11 +1,13 @@
 ghost use Rattle.std.specs.Prelude.{◌≡◌, ◌<◌, ◌≤◌, ◌+◌, ◌^◌, length};
 ghost use Rattle.std.specs.Str.{IsUtf8};
-ghost use Rattle.tree_model.specs.Wire.{plain_stat, IsTreeStat};
+ghost use Rattle.tree_model.specs.Names.{name_limit};
+ghost use Rattle.tree_model.specs.Wire.{plain_stat, stat_limit, IsTreeStat};
 ghost use Rattle.tree_model.specs.Rows.{mode_of};
 ghost use Rattle.tree_model.specs.Asked.{HasCount, IsReplyTo, KeepsRest, bytes_put, plain_reply, stat_of as stat_request};
 ghost use Rattle.clear_tree.specs.Kept.{kind_of};
 ghost use Rattle.clear_tree.specs.Built.{kept_what};
 ghost use Rattle.tree_answers.specs.Answers.{IsOwn, IsSizedStepOf, answer_in, shown_length, stat_in};
+ghost use Rattle.tree_answers.specs.declared.stats.TheConstants.{UNNAMED_STAT};
 
 use crate::nodes::qid;
 use clear_tree::What;
@@ -14,8 +16,8 @@ use live_tree::{LiveNode, LiveTree};
 use ninep_wire::write_stat;
 use tree_model::{Refusal, Reply, Stat};
 
-// Who owns each node.
-const OWNER: &str = "vault";
+/// Who owns each node.
+pub const OWNER: &str = "vault";
 
 // The modes of a directory, of a file, and of what can only be read: DMDIR, and the permissions of stat(5).
 const DIRECTORY_MODE: u32 = 0x8000_01ED;
@@ -31,7 +33,7 @@ const UNNAMED_STAT: usize = 64;
 /// 1,088 bytes. A file's length follows from the size of its host file, and its times are the second of its last change or
 /// the mtime that it was given since.
 pub fn stat_of(tree: &LiveTree, number: u64, buffer: &mut [u8]) -> Reply
-    requires { 1088 ≤ length buffer.old }
+    requires { stat_limit ≤ length buffer.old }
     ensures answer { IsSizedStepOf tree.now (stat_request number) (answer_in (stat_request number) (plain_reply result) buffer.new) }
     ensures form { IsReplyTo (stat_request number) (plain_reply result) (bytes_put (stat_request number) (plain_reply result) buffer.new) }
     ensures rest { KeepsRest (stat_request number) (plain_reply result) buffer.old buffer.new }
@@ -68,8 +70,8 @@ pub(crate) fn stat_at<'a>(number: u64, node: &'a LiveNode) -> Stat<'a>
 
 /// How many bytes the stat of a node has, of a name of at most 1,024 bytes.
 pub(crate) fn stat_size(stat: &Stat<'_>) -> usize
-    requires { length stat.now.name.now ≤ 1024 }
-    ensures { result ≡ 64 + length stat.now.name.now }
+    requires { length stat.now.name.now ≤ name_limit }
+    ensures { result ≡ UNNAMED_STAT + length stat.now.name.now }
 {
     UNNAMED_STAT + stat.name.len()
 }
@@ -78,7 +80,7 @@ pub(crate) fn stat_size(stat: &Stat<'_>) -> usize
 fn name(node: &LiveNode) -> &str
     ensures bytes { result.now ≡ node.now.kept.name }
     ensures text { IsUtf8 node.now.kept.name }
-    ensures short { length node.now.kept.name ≤ 1024 }
+    ensures short { length node.now.kept.name ≤ name_limit }
 {
     match str::from_utf8(node.name().as_bytes()) {
         Ok(name) => name,
@@ -86,8 +88,8 @@ fn name(node: &LiveNode) -> &str
     }
 }
 
-// The permissions of a node.
-fn mode(what: &What) -> u32
+/// The mode of a node: DMDIR of a directory, and the permissions (stat(5)).
+pub fn mode(what: &What) -> u32
     ensures { result ≡ mode_of (kind_of (kept_what what.now)) }
 {
     match what {

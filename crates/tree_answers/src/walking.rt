@@ -172,8 +172,8 @@ fn walk_one(
     }
 }
 
-// What refuses bytes that are no name, unless memory ran out.
-fn name_refusal(fault: BadName) -> Option<Refusal>
+/// What refuses bytes that are no name, unless memory ran out.
+pub fn name_refusal(fault: BadName) -> Option<Refusal>
     ensures { result ≡ bad_name_refusal fault }
 {
     match fault {

@@ -1,21 +1,17 @@
 -- The rows that a disk stands for have the shape of its tree.
 use Rattle.std.specs.Prelude.{T}
-use Rattle.std.proofs.Common.{◌≡◌, ◌≢◌, ◌↔◌, ◌<◌, ◌+◌, ◌&&◌, arith, ℕ, zero, suc, Bool, true, false, cond, List, [], ◌∷◌, length, Option, Some, None, IsTrue, refl, sym, ap, ap₂, ◌∙◌, subst, inl, inr, true≢false, slice_get}
-use Rattle.std.specs.declared.cmp.Ordering.{Ordering}
-use Rattle.std.specs.declared.cmp.Ordering.TheVariants.{Less, Equal, Greater}
-use Rattle.std.specs.Ordering.{is_lt}
+use Rattle.std.proofs.Common.{◌≡◌, ◌≢◌, ◌↔◌, ◌<◌, ◌+◌, arith, ℕ, zero, suc, List, [], ◌∷◌, length, Option, Some, None, IsTrue, refl, sym, ap, ap₂, ◌∙◌, subst, inl, inr, true≢false, slice_get}
 use Rattle.std.specs.FinMap.{get, entries, get-entries, entries_sorted, len-entries}
-use Rattle.std.specs.FinMap.Entries.{is_sorted, below_all}
+use Rattle.std.specs.FinMap.Entries.{is_sorted}
 use Rattle.std.proofs.lemmas.Option.{slice_get_within}
 use Rattle.outside.specs.Disk.{Disk, Node as Thing}
 use Rattle.tree_model.specs.Rows.{Row, Rows, root}
-use Rattle.clear_tree.specs.Walk.{Path, same_path, walk_cmp, Sealing, Node, Dir, node_at}
+use Rattle.clear_tree.specs.Walk.{Path, walk_cmp, Sealing, Node, Dir, node_at}
 use Rattle.clear_tree.specs.Places.{folders_of, entry_at}
 use Rattle.clear_tree.specs.Queue.{In}
 use Rattle.clear_tree.specs.Rows.{number_of, row_of, rows_from, rows_of, IsClear}
 use Rattle.clear_tree.specs.Kept.{is_absent, long_in, long_by}
-use Rattle.clear_tree.proofs.Keeping.{find_at, number_at}
-use Rattle.clear_tree.proofs.Paths.{same_path-from, same_path-true, same_path-apart, walk_itself}
+use Rattle.clear_tree.proofs.Keeping.{find_at, number_at, number_is, first_zero}
 use Rattle.tree_changes.specs.Trees.{Tree, IsTreeOf}
 use Rattle.tree_changes.specs.Shapes.{IsRowAt, AreNumbered, IsShown, HasShape, HasAlike, SameShape, ClearRowsHaveTree, ShapesAreOfClearRows}
 use Rattle.tree_changes.proofs.Seeing.{some_there}
@@ -23,40 +19,6 @@ use Rattle.tree_changes.proofs.Exact.{parent_there}
 
 abbrev Entry : Type 0
 Entry = Path × Node
-
--- ---- numbers in a sorted list
-
-less_is : (o : Ordering) → T (is_lt o) → o ≡ Less
-less_is Less h = refl
-less_is Equal h = absurd h
-less_is Greater h = absurd h
-
-first_true : (a b : Bool) → T (a && b) → T a
-first_true true b h = tt
-first_true false b h = h
-
-second_true : (a b : Bool) → T (a && b) → T b
-second_true true b h = h
-second_true false b h = absurd h
-
-below_at : (p : Path) (es : List Entry) (k : ℕ) (e : Entry) → T (below_all walk_cmp p es) → slice_get es k ≡ Some e → walk_cmp p e.0 ≡ Less
-below_at p [] k e h g = absurd (cc)
-below_at p (f ∷ es) zero e h g = let is : f ≡ e = cc in subst (λ (z : Entry). walk_cmp p z.0 ≡ Less) is (less_is _ (first_true _ _ h))
-below_at p (f ∷ es) (suc k) e h g = below_at p es k e (second_true _ _ h) g
-
-number_is : (es : List Entry) (k : ℕ) (e : Entry) → T (is_sorted walk_cmp es) → slice_get es k ≡ Some e → number_of es e.0 ≡ k
-number_is [] k e h g = absurd (cc)
-number_is (f ∷ es) zero e h g =
-    let is : f ≡ e = cc in
-    ap (λ (b : Bool). cond b 0 (suc (number_of es e.0))) (same_path-from f.0 e.0 (ap (λ (z : Entry). z.0) is))
-number_is (f ∷ es) (suc k) e h g = go (same_path f.0 e.0) refl (number_is es k e (second_true _ _ h) g)
-  where
-    less : walk_cmp f.0 e.0 ≡ Less
-    less = below_at f.0 es k e (first_true _ _ h) g
-
-    go : (b : Bool) → same_path f.0 e.0 ≡ b → number_of es e.0 ≡ k → cond b 0 (suc (number_of es e.0)) ≡ suc k
-    go false is ih = ap suc ih
-    go true is ih = let z : Less ≡ Equal = sym less ∙ ap (λ (q : Path). walk_cmp q e.0) (same_path-true f.0 e.0 is) ∙ walk_itself e.0 in absurd (cc)
 
 module _ (s : Sealing) (d : Disk) (now : ℕ) (tree : Tree) (is : IsTreeOf s d tree) where
   abbrev es : List Entry
@@ -116,17 +78,7 @@ module _ (s : Sealing) (d : Disk) (now : ℕ) (tree : Tree) (is : IsTreeOf s d t
   root_there = is.exact []
 
   root_number : number_of es [] ≡ 0
-  root_number = go es refl
-    where
-      go : (fs : List Entry) → es ≡ fs → number_of es [] ≡ 0
-      go [] h = let z : ◌≡◌ {A = Option Entry} None (Some ([], Dir [])) = ap (λ (w : List Entry). slice_get w (number_of w [])) (sym h) ∙ node_number [] (Dir []) root_there in absurd (cc)
-      go (([], x) ∷ fs) h = ap (λ (w : List Entry). number_of w []) h ∙ ap (λ (b : Bool). cond b 0 (suc (number_of fs []))) (same_path-from [] [] refl)
-      go ((m ∷ q, x) ∷ fs) h =
-          let at : slice_get ((m ∷ q, x) ∷ fs) (number_of ((m ∷ q, x) ∷ fs) []) ≡ Some ([], Dir []) = ap (λ (w : List Entry). slice_get w (number_of w [])) (sym h) ∙ node_number [] (Dir []) root_there in
-          let far : same_path (m ∷ q) [] ≡ false = same_path-apart (m ∷ q) [] (λ e. cc) in
-          let behind : slice_get fs (number_of fs []) ≡ Some ([], Dir []) = sym (ap (λ (b : Bool). slice_get ((m ∷ q, x) ∷ fs) (cond b 0 (suc (number_of fs [])))) far) ∙ at in
-          let srt : T (is_sorted walk_cmp ((m ∷ q, x) ∷ fs)) = subst (λ (w : List Entry). T (is_sorted walk_cmp w)) h sorted in
-          let z : Greater ≡ Less = below_at (m ∷ q) fs (number_of fs []) ([], Dir []) (first_true _ _ srt) behind in absurd (cc)
+  root_number = first_zero es (number_of es []) (Dir []) sorted (node_number [] (Dir []) root_there)
 
   not_root : (m : List ℕ) (q : Path) (x : Node) → get tree.nodes (m ∷ q) ≡ Some x → number_of es (m ∷ q) ≢ root
   not_root m q x h e = let z : m ∷ q ≡ [] = one_path (m ∷ q) [] x (Dir []) h root_there (e ∙ sym root_number) in cc

@@ -21,7 +21,8 @@ use Rattle.directory_scan.specs.declared.found.FoundNode.{FoundNode}
 use Rattle.directory_scan.specs.Scanned.{ScannedFolder, all_found, found_of}
 use Rattle.tree_loading.specs.declared.fault.LoadErr.TheVariants.{TooMany}
 use Rattle.tree_loading.specs.declared.nodes.Loading.{Loading}
-use Rattle.tree_loading.specs.Under.{is_claimed, HasFolder, HasOwnFolder, IsReady, IsDirectoryAt, node_limit}
+use Rattle.tree_model.specs.Step.{node_limit}
+use Rattle.tree_loading.specs.Under.{is_claimed, HasFolder, HasOwnFolder, IsReady, IsDirectoryAt}
 use Rattle.tree_loading.specs.Added.{AddsAll}
 use Rattle.tree_loading.specs.Turned.{HasRoot, GoesOn, IsScanAt, IsNoDirectory, FindsTooMany}
 

@@ -10,7 +10,8 @@ use Rattle.clear_tree.specs.Loading.{IsLoading, HasNodes}
 use Rattle.directory_scan.specs.Format.{sealing_of}
 use Rattle.directory_scan.specs.Scanned.{ScannedFolder}
 use Rattle.tree_loading.specs.declared.nodes.Loading.{Loading}
-use Rattle.tree_loading.specs.Under.{is_claimed, node_limit}
+use Rattle.tree_model.specs.Step.{node_limit}
+use Rattle.tree_loading.specs.Under.{is_claimed}
 
 abbrev pub HasRoot : KeyPair → Disk → Type 0
 HasRoot keys d = IsFolder d (host_folder ((sealing_of keys).folder_of []))

@@ -8,14 +8,11 @@ use Rattle.std.specs.Cmp.Lexicographic.{slice_cmp}
 use Rattle.vault_path.specs.Parts.{is_path}
 use Rattle.siv_mode.specs.Keys.{KeyPair}
 use Rattle.tree_model.specs.Rows.{root}
+use Rattle.tree_model.specs.Step.{node_limit}
 use Rattle.clear_tree.specs.Places.{host_folder}
 use Rattle.clear_tree.specs.Kept.{What, KeptFile, KeptLink, KeptDir, KeptBad, KeptNode, KeptTree, folder_in, node_of}
 use Rattle.clear_tree.specs.Built.{place_cmp, place_of}
 use Rattle.directory_scan.specs.Format.{sealing_of}
-
--- the most nodes that a tree may have
-abbrev pub node_limit : ℕ
-node_limit = 1048576
 
 -- whether a folder is among those that are named
 abbrev pub is_claimed : BTreeSet (List ℕ) → List ℕ → Bool

@@ -1,13 +1,14 @@
-ghost use Rattle.std.specs.Prelude.{◌≡◌, ◌≤◌, ◌<◌, ◌+◌, ℕ, [], length, OnOk, IfOk, IsErrOf};
+ghost use Rattle.std.specs.Prelude.{◌≡◌, ◌≤◌, ◌<◌, ℕ, length, OnOk, IfOk, IsErrOf};
 ghost use Rattle.outside.specs.Disk.{Disk, IsFolder};
 ghost use Rattle.outside.specs.Calls.{HasCause, Told};
 ghost use Rattle.outside.specs.Images.{disk_in};
+ghost use Rattle.tree_model.specs.Step.{node_limit};
 ghost use Rattle.clear_tree.specs.Kept.{IsKept};
 ghost use Rattle.clear_tree.specs.Loading.{IsLoading};
 ghost use Rattle.directory_scan.specs.Format.{sealing_of};
 ghost use Rattle.tree_loading.specs.Clear.{HasTooMany, LoadingIsClear, root_folder};
 ghost use Rattle.tree_loading.specs.Undamaged.{UndamagedIsRead};
-ghost use Rattle.tree_loading.specs.Under.{IsReady, is_claimed, node_limit};
+ghost use Rattle.tree_loading.specs.Under.{IsReady, is_claimed};
 ghost use Rattle.tree_loading.specs.Turned.{FindsTooMany, GoesOn};
 
 use crate::fault::LoadErr;
@@ -33,7 +34,7 @@ pub fn load<R: Reads>(
 ) -> Result<Tree, LoadErr>
     requires { (1 ≤ threshold) × (threshold ≤ 250) }
     ensures loaded { IfOk result (λ t. Told (disk_in (R.log from.old)) (λ d. IsKept (sealing_of keys.now) d t)) }
-    ensures few { IfOk result (λ t. length t.nodes ≤ 1048576) }
+    ensures few { IfOk result (λ t. length t.nodes ≤ node_limit) }
     ensures no_root { IsErrOf result LoadErr.NoRoot
         → Told (disk_in (R.log from.old)) (λ d. ¬ (IsFolder d (root_folder keys.now))) }
     ensures too_many { (n : ℕ) → IsErrOf result (LoadErr.TooMany n) → HasTooMany keys.now (disk_in (R.log from.old)) n }

@@ -1,4 +1,4 @@
-ghost use Rattle.std.specs.Prelude.{◌≡◌, ℕ, List, IfOk, OnOk, IsErrOf};
+ghost use Rattle.std.specs.Prelude.{◌≡◌, ℕ, IfOk, OnOk, IsErrOf};
 ghost use Rattle.std.specs.Str.{is_utf8};
 ghost use Rattle.outside.specs.Calls.{HasCause, Told};
 ghost use Rattle.outside.specs.Disk.{node_at};
@@ -6,22 +6,20 @@ ghost use Rattle.outside.specs.Images.{disk_in};
 ghost use Rattle.clear_tree.specs.Places.{is_folder};
 ghost use Rattle.clear_tree.specs.Built.{kept_what};
 ghost use Rattle.clear_tree.specs.Scan.{ShownText};
-ghost use Rattle.directory_scan.specs.Format.{sealing_of, is_identifier};
+ghost use Rattle.directory_scan.specs.Format.{is_identifier};
 ghost use Rattle.directory_scan.specs.Scanned.{shown_of};
-ghost use Rattle.tree_loading.specs.Under.{is_claimed, HasOwnFolder};
+ghost use Rattle.tree_loading.specs.Under.{HasOwnFolder};
 ghost use Rattle.tree_loading.specs.Settled.{IsSettled, Claims};
 
 use crate::fault::LoadErr;
-use crate::folders::{characters_of, path_of};
-use clear_tree::What;
+use crate::folders::characters_of;
+use clear_tree::{What, host_folder};
+use dir_paths::IDENTIFIER_LIMIT;
 use directory_scan::Shown;
 use outside::{Kind, Reads};
 use siv_mode::VaultKeys;
 use std::collections::BTreeSet;
 use vault_path::{Text, VaultPath};
-
-// The longest identifier, in bytes.
-const IDENTIFIER_LIMIT: usize = 1000;
 
 /// What a node is, and whether it names a folder that is named already.
 #[derive(Drop)]
@@ -88,7 +86,7 @@ fn settle_text<R: Reads>(
             again: true,
         });
     }
-    let path = path_of(&folder);
+    let path = host_folder(&folder);
     if !is_there(from, &path)? {
         return Ok(Settled {
             what: What::Bad { text },

@@ -1,12 +1,13 @@
-ghost use Rattle.std.specs.Prelude.{◌≡◌, ◌≤◌, ◌<◌, ◌+◌, ℕ, length, OnOk, IfOk, IsErrOf};
+ghost use Rattle.std.specs.Prelude.{◌≡◌, ◌≤◌, ◌+◌, ℕ, length, OnOk, IsErrOf};
 ghost use Rattle.std.specs.Ordering.{nat_cmp};
 ghost use Rattle.std.specs.Cmp.Lexicographic.{slice_cmp};
 ghost use Rattle.std.specs.List.Sorted.{IsStrictlySortedBy};
 ghost use Rattle.outside.specs.Calls.{HasCause, Told};
 ghost use Rattle.outside.specs.Images.{disk_in};
+ghost use Rattle.tree_model.specs.Step.{node_limit};
 ghost use Rattle.clear_tree.specs.Scan.{names_of};
 ghost use Rattle.directory_scan.specs.Scanned.{all_found, found_of};
-ghost use Rattle.tree_loading.specs.Under.{IsReady, IsDirectoryAt, HaveOwnFolders, IsBehindLast, node_limit};
+ghost use Rattle.tree_loading.specs.Under.{IsReady, IsDirectoryAt, HaveOwnFolders, IsBehindLast};
 ghost use Rattle.tree_loading.specs.Added.{AddsNode, AddsAll, Pushes};
 
 use crate::fault::LoadErr;

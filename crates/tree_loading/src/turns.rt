@@ -1,4 +1,4 @@
-ghost use Rattle.std.specs.Prelude.{◌≡◌, ◌≤◌, ◌<◌, ◌+◌, ℕ, length, OnOk, IfOk, IfSome, IfNone, MatchOption, IsErrOf};
+ghost use Rattle.std.specs.Prelude.{◌≡◌, ◌≤◌, ◌<◌, ◌+◌, ℕ, length, OnOk, IfOk, IfSome, IfNone, IsErrOf};
 ghost use Rattle.std.specs.Ordering.{nat_cmp};
 ghost use Rattle.std.specs.Cmp.Lexicographic.{slice_cmp};
 ghost use Rattle.std.specs.List.Sorted.{IsStrictlySortedBy};
@@ -9,9 +9,8 @@ ghost use Rattle.tree_loading.specs.Under.{IsReady, HaveOwnFolders};
 ghost use Rattle.tree_loading.specs.Turned.{GoesOn, IsScanAt, IsNoDirectory, FindsTooMany};
 
 use crate::fault::LoadErr;
-use crate::folders::path_of;
 use crate::nodes::{Loading, add_nodes};
-use clear_tree::{Tree, What};
+use clear_tree::{Tree, What, host_folder};
 use directory_scan::{Scanned, scan};
 use outside::Reads;
 use siv_mode::VaultKeys;
@@ -77,7 +76,7 @@ fn scan_at<R: Reads>(
     let What::Dir { identifier, folder } = node.what() else {
         return Ok(None);
     };
-    let path = path_of(folder);
+    let path = host_folder(folder);
     let scanned = scan(alloc, from, keys, identifier.as_bytes(), &path)?;
     Ok(Some(scanned))
 }

@@ -1,5 +1,5 @@
 //! How a lock and its seats are made, and how the value comes back.
-ghost use Rattle.std.specs.Prelude.{◌≡◌, ℕ, ◌<◌, ◌≤◌, List, [], All, IfOk, IfErr, IfSome, None, Some, vec_len, vec_capacity};
+ghost use Rattle.std.specs.Prelude.{◌≡◌, ◌<◌, ◌≤◌, List, [], All, IfOk, IfErr, IfSome, Some, vec_len, vec_capacity};
 ghost use Rattle.turn_lock.specs.declared.rule.View.{View};
 ghost use Rattle.turn_lock.specs.Views.{maker};
 ghost use Rattle.turn_lock.specs.Steps.{AreViews, IsAll};

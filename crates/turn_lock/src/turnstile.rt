@@ -1,14 +1,11 @@
 //! The table under a lock, and what is done on it with tokens.
-ghost use Rattle.std.specs.Prelude.{◌≡◌, ℕ, ◌+◌, ◌<◌, List, [], ◌∷◌, Some, None, IfOk, IfErr, true, false};
+ghost use Rattle.std.specs.Prelude.{◌≡◌, ℕ, ◌+◌, ◌<◌, List, [], ◌∷◌, Some, None, IfOk, IfErr};
 ghost use mathlib.Core.Option.{some};
 ghost use lib.ListN.{get_elem?};
 ghost use Rattle.std.specs.Slots.{slots_items, slots_len, IsFull};
-ghost use Rattle.atomic_table.specs.Table.{Final, Seen};
-ghost use Rattle.turn_lock.specs.declared.history.Ended.{Ended};
 ghost use Rattle.turn_lock.specs.declared.rule.View.{View};
 ghost use Rattle.turn_lock.specs.Turns.{StartsWith, longer, turns_by};
 ghost use Rattle.turn_lock.specs.Views.{maker, newcomer, witness, joined, saw, with_ticket};
-ghost use Rattle.turn_lock.specs.Rule.{Kept};
 ghost use Rattle.turn_lock.specs.Steps.{IsResting, MayDraw, Waits, Enters, Entered, IsOut, MayGive, Gave, IsAll, IsEnd};
 
 use crate::TURN_LIMIT;

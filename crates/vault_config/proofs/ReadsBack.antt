@@ -1,20 +1,20 @@
 -- What is written: its text, and that it reads back.
-use Rattle.std.proofs.Common.{◌≡◌, ℕ, ◌*◌, ◌/◌, ◌%◌, ◌≤◌, nat_lt, nat_le, Bool, true, false, cond, List, [], ◌∷◌, ◌++◌, length, Some, Ok, decimal, refl, sym, ap, subst, ◌∙◌, arith}
+use Rattle.std.proofs.Common.{◌≡◌, ℕ, ◌≤◌, nat_lt, nat_le, true, List, [], ◌∷◌, ◌++◌, length, Some, Ok, decimal, refl, sym, ap, subst, ◌∙◌, arith}
 use Rattle.std.proofs.lemmas.List.{append_assoc, length-append}
 use Rattle.std.proofs.lemmas.Bool.{lt-ltb, le-leb}
 use Rattle.std.proofs.lemmas.Fmt.{length-decimal-le}
 use Rattle.std.proofs.lemmas.Slice.Eq.{bytes_eq-Decides}
-use Rattle.std.specs.Char.{digit_char}
 use Rattle.std.specs.Option.{option_and_then}
 use Rattle.std.specs.Result.{result_ok}
 use Rattle.std.specs.Str.{IsUtf8, bytes_eq}
 use Rattle.base64.specs.GeneralPurpose.{decode_of}
 use Rattle.base64.specs.Engines.{url_safe_no_pad}
-use Rattle.json.specs.Print.{escape, escape_byte, escape_letter}
+use Rattle.json.specs.Print.{escape_byte}
 use Rattle.serde_json.specs.Data.{Data}
 use Rattle.serde_json.specs.Read.{read}
 use Rattle.serde_json.specs.Written.{compact_text}
 use Rattle.json_members.specs.Members.{only_object, object_of}
+use Rattle.json_members.proofs.Escaped.{length-escape-le}
 use Rattle.json_members.proofs.Objects.{object_of-read}
 use Rattle.siv_mode.specs.Keys.{KeyPair}
 use Rattle.vault_config.specs.Token.{Token, trimmed, pieces_of, decoded, decoded_object, token_of, hs256, signature_of}
@@ -42,19 +42,6 @@ config_file-joined keys threshold identifier file text other id signature joined
     joined ∙ (λ i. text_is i ++ 46 ∷ signature_is i)
 
 -- ---- how long it is
-
-length-escape_byte-le : (b : ℕ) → length (escape_byte b) ≤ 6
-unfolding escape_byte
-length-escape_byte-le b = cases (nat_lt 0 (escape_letter b)) (nat_lt b 32)
-  where
-    cases : (x y : Bool) → length (cond x (92 ∷ escape_letter b ∷ []) (cond y (92 ∷ 117 ∷ 48 ∷ 48 ∷ digit_char (b / 16) ∷ digit_char (b % 16) ∷ []) (b ∷ []))) ≤ 6
-    cases true y = omega arith
-    cases false true = omega arith
-    cases false false = omega arith
-
-length-escape-le : (s : List ℕ) → length (escape s) ≤ 6 * length s
-length-escape-le [] = omega arith
-length-escape-le (b ∷ s) = omega (arith, length-append (escape_byte b) (escape s), length-escape_byte-le b, length-escape-le s)
 
 length-header : length (compact_text written_header) ≤ 100
 unfolding escape_byte

@@ -3,7 +3,7 @@
 ghost use Rattle.std.specs.Prelude.{◌≡◌, ◌<◌, ℕ, List, length, None, Err};
 ghost use Rattle.siv_mode.specs.Keys.{KeyPair};
 ghost use Rattle.masterkey_file.specs.Password.{password_of};
-ghost use Rattle.vault_keys.specs.Unlock.{FoundFile, file, Cause, bad_secret, bad_masterkey_file, bad_vault_file, keys_found, masterkey_opened, vault_opened, unlocked, masterkey_too_long, vault_too_long};
+ghost use Rattle.vault_keys.specs.Unlock.{FoundFile, file, Cause, bad_secret, keys_found, masterkey_opened, vault_opened, unlocked, masterkey_too_long, vault_too_long};
 
 use json_members::FILE_LIMIT;
 

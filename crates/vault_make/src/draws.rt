@@ -1,4 +1,4 @@
-ghost use Rattle.std.specs.Prelude.{◌≡◌, ◌%◌, ◌++◌, IfOk, IsErr};
+ghost use Rattle.std.specs.Prelude.{◌≡◌, ◌%◌, IfOk, IsErr};
 ghost use Rattle.outside.specs.Calls.{Extends, HasCause};
 ghost use Rattle.vault_make.specs.Draws.{AreOfLength, drawn_bytes, draws_data};
 

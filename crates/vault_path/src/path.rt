@@ -1,10 +1,9 @@
-ghost use Rattle.std.specs.Prelude.{refl, ℕ, List, ◌≢◌, ◌-◌, take, MatchOption, ◌≡◌, ◌↔◌, ◌<◌, ◌≤◌, [], ◌∷◌, ◌++◌, ◌&&◌, nat_le, length, IsOk, IfOk, OnOk, OnErr, IsTrue, Some, slice_get};
-ghost use Rattle.std.specs.List.{list_all};
+ghost use Rattle.std.specs.Prelude.{refl, ℕ, List, ◌≢◌, ◌-◌, take, MatchOption, ◌≡◌, ◌↔◌, ◌<◌, ◌≤◌, [], ◌∷◌, ◌++◌, length, IsOk, IfOk, OnOk, OnErr, IsTrue, Some, slice_get};
 ghost use Rattle.std.specs.Cmp.{partial_equiv_from_equiv, po};
-ghost use Rattle.std.specs.Cmp.Lexicographic.{pointwise, slice_cmp, lists_per, lists_equiv, lists_total, lists_ties, texts_ties, texts_po, nat_list_eq_equiv, nat_list_cmp_total};
+ghost use Rattle.std.specs.Cmp.Lexicographic.{pointwise, slice_cmp, lists_per, lists_equiv, lists_total, lists_ties, texts_ties, nat_list_eq_equiv, nat_list_cmp_total};
 ghost use Rattle.std.specs.Ordering.{nat_cmp, as_partial_cmp};
 ghost use Rattle.std.specs.Str.{bytes_eq};
-ghost use Rattle.vault_path.specs.Parts.{is_part_byte, is_part, is_path};
+ghost use Rattle.vault_path.specs.Parts.{is_part, is_path};
 
 use crate::part::{Part, is_host_part};
 use crate::text::Text;
@@ -76,6 +75,17 @@ impl VaultPath {
         let mut path = self.copied();
         path.push(part)?;
         Ok(path)
+    }
+
+    /// The path one part further, where that is known to be a path.
+    pub fn joined(&self, part: &[u8]) -> VaultPath
+        requires { IsTrue (is_path (self.now ++ part.now ∷ [])) }
+        ensures { result ≡ self.now ++ part.now ∷ [] }
+    {
+        match self.join(part) {
+            Ok(further) => further,
+            Err(_) => unreachable!(),
+        }
     }
 
     /// The same path once more. It takes no memory.

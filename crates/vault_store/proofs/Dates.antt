@@ -20,10 +20,11 @@ use Rattle.directory_scan.specs.Format.{sealing_of}
 use Rattle.row_versions.specs.Versions.{wrapped}
 use Rattle.live_tree.specs.Held.{HeldTree, IsTree, live_row, live_rows, node_of}
 use Rattle.live_tree.specs.Changes.{dated}
+use Rattle.live_tree.proofs.Held.{in_found}
 use Rattle.held_changes.proofs.Writing.{dating_holds}
 use Rattle.held_changes.proofs.Contents.{dating_keeps_contents}
 use Rattle.name_places.proofs.Lowest.{dating_keeps}
-use Rattle.tree_answers.proofs.Members.{IsMapped, find_in, map_in, in_found}
+use Rattle.tree_answers.proofs.Members.{IsMapped, find_in, map_in}
 use Rattle.tree_answers.proofs.Rows.{row_there}
 use Rattle.change_plans.specs.Plans.{IsPlanned, IsPlannedIn}
 use Rattle.change_plans.specs.declared.planning.Plan.TheVariants as plans

@@ -3,7 +3,7 @@ ghost use Rattle.outside.specs.Calls.{Changes, HasCause, Told};
 ghost use Rattle.outside.specs.Disk.{IsFolder};
 ghost use Rattle.outside.specs.Images.{disk_in, now as disk_now};
 ghost use Rattle.outside.specs.Views.{folder_view, entropy_view};
-ghost use Rattle.chunk_journal.specs.Opening.{HasOpened, IsDamagedAt, IsOpening, LeavesFolder, StaysOpening};
+ghost use Rattle.chunk_journal.specs.Opening.{HasOpened, IsDamagedAt, LeavesFolder, StaysOpening};
 ghost use Rattle.clear_tree.specs.Kept.{KeptTree};
 ghost use Rattle.directory_scan.specs.Format.{sealing_of};
 ghost use Rattle.tree_model.specs.Asked.{CanAsk, plain_request};

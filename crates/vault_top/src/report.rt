@@ -1,6 +1,6 @@
 //! Writing the report.
 
-ghost use Rattle.std.specs.Prelude.{◌≡◌, ◌≤◌, List, ◌++◌, length, take, IfOk, OnOk, OnErr, IsErr, string_bytes, decimal, option_to_list};
+ghost use Rattle.std.specs.Prelude.{◌≡◌, ◌≤◌, List, ◌++◌, IfOk, OnOk, OnErr, IsErr, string_bytes, decimal};
 ghost use Rattle.outside.specs.Calls.{Rose, HasCause, Changes};
 ghost use Rattle.vault_causes.specs.Lines.{line_text};
 ghost use Rattle.vault_top.specs.Span.{course, sink_view};

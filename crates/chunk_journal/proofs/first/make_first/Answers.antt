@@ -4,8 +4,9 @@ use Rattle.outside.specs.Images.{now, IsSteady, HasKept}
 use Rattle.outside.specs.Changes.{Put, Move, CanDo}
 use Rattle.outside.specs.Calls.{Told}
 use Rattle.outside.proofs.Told.{told_new, told_then}
+use Rattle.deeds.proofs.Phases.{cause_then}
 use Rattle.chunk_journal.specs.Journal.{journal_file, new_file, IsQuiet}
-use Rattle.chunk_journal.proofs.Faults.{cause_then, free_put}
+use Rattle.chunk_journal.proofs.Faults.{free_put}
 use Rattle.chunk_journal.proofs.FirstJournal.{HasNew, told_new_leaves, told_has_new, told_move_leaves, told_at_rest, can_move}
 use Rattle.chunk_journal.proofs.first.make_first.Goals as goal
 

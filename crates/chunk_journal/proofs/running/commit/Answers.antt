@@ -4,8 +4,8 @@ use Rattle.outside.specs.Images.{Log, now}
 use Rattle.outside.proofs.Told.{told_new, told_through, changed_by}
 use Rattle.deeds.specs.Deeds.{DoesAll, in_order}
 use Rattle.deeds.specs.Plain.{plains}
+use Rattle.deeds.proofs.Phases.{cause_then}
 use Rattle.chunk_journal.specs.Journal.{IsQuiet, IsReady, IsAlike, StaysShut, AnyMoment, HasCommitted}
-use Rattle.chunk_journal.proofs.Faults.{cause_then}
 use Rattle.chunk_journal.proofs.Gate.{both, with_old}
 use Rattle.chunk_journal.proofs.Commits.{run_ready, made_leaves, then_leaves, then_committed}
 use Rattle.chunk_journal.proofs.running.commit.Goals as goal

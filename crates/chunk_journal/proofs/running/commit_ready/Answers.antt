@@ -6,9 +6,9 @@ use Rattle.outside.specs.Images.{now, IsSteady, HasKept}
 use Rattle.outside.proofs.Told.{told_new}
 use Rattle.deeds.specs.Deeds.{DoesAll, in_order}
 use Rattle.deeds.specs.Plain.{plains}
+use Rattle.deeds.proofs.Phases.{cause_then}
 use Rattle.chunk_journal.specs.Journal.{journal_file}
 use Rattle.chunk_journal.specs.Stages.{HasStaged}
-use Rattle.chunk_journal.proofs.Faults.{cause_then}
 use Rattle.chunk_journal.proofs.Gate.{IsStaged, IsOpened, AreDone, told_staged_leaves, told_staged, told_gate_leaves, told_opened, told_deeds_leave, told_done, told_close_leaves, told_closed, can_open, can_close, can_run, with_old}
 use Rattle.chunk_journal.proofs.running.commit_ready.Goals as goal
 

@@ -9,9 +9,10 @@ use Rattle.outside.specs.Images.{Log, now, HasDone, HasBroken}
 use Rattle.outside.proofs.Told.{through, told_new, told_same, changed_by}
 use Rattle.deeds.specs.Grammar.{behind_gate}
 use Rattle.deeds.specs.Plain.{plains}
+use Rattle.deeds.proofs.Phases.{cause_then}
 use Rattle.chunk_journal.specs.Journal.{journal_file, IsReady}
 use Rattle.chunk_journal.specs.Stages.{KeepsShut, HasFront}
-use Rattle.chunk_journal.proofs.Faults.{err_cause, cause_then}
+use Rattle.chunk_journal.proofs.Faults.{err_cause}
 use Rattle.chunk_journal.proofs.Pieces.{pieces_begun, front_begun, piece_did, piece_broke, front_more, can_piece}
 use Rattle.chunk_journal.proofs.stage.write_pieces.Goals as goal
 

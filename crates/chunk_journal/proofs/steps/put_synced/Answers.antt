@@ -4,7 +4,8 @@ use Rattle.outside.specs.Changes.{Put, CanDo, IsPartOf}
 use Rattle.outside.specs.Images.{Log, Synced, now, adds, IsSteady, HasKept, HasDone, HasBroken, LeavesOnly}
 use Rattle.outside.proofs.Told.{changed_from, told_through}
 use Rattle.outside.proofs.Steady.{kept, part_did, part_broke, part_synced, whole_part}
-use Rattle.chunk_journal.proofs.Faults.{err_cause, sync_cause, cause_then}
+use Rattle.deeds.proofs.Phases.{cause_then}
+use Rattle.chunk_journal.proofs.Faults.{err_cause, sync_cause}
 use Rattle.chunk_journal.proofs.steps.put_synced.Goals as goal
 
 pub returns-clause-put : goal.returns-clause-put

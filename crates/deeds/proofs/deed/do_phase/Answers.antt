@@ -1,4 +1,6 @@
-use Rattle.std.proofs.Common.{◌≡◌}
+use Rattle.std.proofs.Common.{◌≡◌, Result, Ok, Err, OnOk}
+use Rattle.std.specs.Prelude.{OnErr}
+use Rattle.std.specs.Result.{is_ok}
 use Rattle.outside.specs.Images.{Synced, now, adds, IsSteady}
 use Rattle.outside.proofs.Told.{through}
 use Rattle.outside.proofs.Told.{told_through}
@@ -7,15 +9,27 @@ use Rattle.deeds.specs.Plain.{plains}
 use Rattle.deeds.proofs.Doing.{phase_done, synced_amid}
 use Rattle.deeds.proofs.deed.do_phase.Goals as goal
 
-pub returns-in-Ok-clause-done : goal.returns-in-Ok-clause-done
-returns-in-Ok-clause-done g c =
-    let xs = of_phase c.args.phase (plains c.args.deeds.now) in
-    told_through (g.F.Reads.log c.args.folder.now) (g.F.Reads.log c.do_deeds.new.folder) (g.F.Reads.log c.sync.new.self) IsSteady
-    (λ old new. DoesAll xs (now old) (now new)) (λ mid new. new ≡ adds mid Synced) (λ old new. IsSteady new × DoesAll xs (now old) (now new))
-    (λ old mid new steady does is. phase_done xs old mid new steady does is) c.requires.steady c.in_ok-do_deeds.ensures.done c.in-Ok.ensures.synced
+on_ok_mapped : {T D E P Q : Type 0} (mapped : Result T D) (r : Result T E) → is_ok mapped ≡ is_ok r → (P → Q) → OnOk r P → OnOk mapped Q
+on_ok_mapped (Ok x) (Ok y) same so h = so h
+on_ok_mapped (Ok x) (Err y) same so h = cc
+on_ok_mapped (Err x) r same so h = tt
 
-pub returns-in-Ok-clause-amid : goal.returns-in-Ok-clause-amid
-returns-in-Ok-clause-amid g c =
+on_either : {T E P Q X : Type 0} (r : Result T E) → OnOk r P → OnErr r Q → (P → X) → (Q → X) → X
+on_either (Ok x) done failed on_ok on_err = on_ok done
+on_either (Err x) done failed on_ok on_err = on_err failed
+
+pub returns-clause-done : goal.returns-clause-done
+returns-clause-done g c =
     let xs = of_phase c.args.phase (plains c.args.deeds.now) in
-    through (g.F.Reads.log c.args.folder.now) (g.F.Reads.log c.do_deeds.new.folder) (g.F.Reads.log c.sync.new.self)
-    (StaysAmid xs) (λ mid new. new ≡ adds mid Synced) (StaysAmid xs) (synced_amid xs) c.in_ok-do_deeds.ensures.amid c.in-Ok.ensures.synced
+    on_ok_mapped c.map_err.result c.sync.result c.map_err.ensures.variant
+    (told_through (g.F.Reads.log c.args.folder.now) (g.F.Reads.log c.do_deeds.new.folder) (g.F.Reads.log c.sync.new.self) IsSteady
+    (λ old new. DoesAll xs (now old) (now new)) (λ mid new. new ≡ adds mid Synced) (λ old new. IsSteady new × DoesAll xs (now old) (now new))
+    (λ old mid new steady does is. phase_done xs old mid new steady does is) c.requires.steady c.in_ok-do_deeds.ensures.done) c.sync.ensures.synced
+
+pub returns-clause-amid : goal.returns-clause-amid
+returns-clause-amid g c =
+    let xs = of_phase c.args.phase (plains c.args.deeds.now) in
+    on_either c.sync.result c.sync.ensures.synced c.sync.ensures.failed
+    (through (g.F.Reads.log c.args.folder.now) (g.F.Reads.log c.do_deeds.new.folder) (g.F.Reads.log c.sync.new.self)
+    (StaysAmid xs) (λ mid new. new ≡ adds mid Synced) (StaysAmid xs) (synced_amid xs) c.in_ok-do_deeds.ensures.amid)
+    (λ same. rw same c.in_ok-do_deeds.ensures.amid)

@@ -35,8 +35,8 @@ pub loop-preserved : goal.loop-preserved
 loop-preserved c =
     let part = c.in_ok-part.part.now in
     let path = c.loop.path in
-    let longer : c.in-Ok.longer ≡ path ++ part ∷ [] = c.in-Ok.ensures.path in
-    let good : IsTrue (is_path (path ++ part ∷ [])) = c.in-Ok.ensures.exact.0 refl in
+    let longer : c.in_ok-path.path ≡ path ++ part ∷ [] = c.in_ok-path.ensures.path in
+    let good : IsTrue (is_path (path ++ part ∷ [])) = c.in_ok-path.ensures.exact.0 refl in
     let read = good_read c.loop.rest.now part c.in_ok-part.after.now c.in_ok-part.ensures (good_part path part good) in
     record {
       read = rw longer (goes_on part_at path c.args.count c.loop.counter c.loop.rest.now part c.in_ok-part.after.now (items_at part_at c.args.count c.args.bytes.now) c.loop-test.true read c.loop.invariant.read);
@@ -44,13 +44,14 @@ loop-preserved c =
       good = rw longer good;
     }
 
-pub returns-in-Err : goal.returns-in-Err
-returns-in-Err c =
+pub returns-in_err-path : goal.returns-in_err-path
+returns-in_err-path c =
+    let p = err_from_is_err_and c.from_residual-in_err-path.result c.from_residual-in_err-path.ensures.1 in
     let part = c.in_ok-part.part.now in
     let path = c.loop.path in
     let few : length path < 6 = omega (arith, c.loop.invariant.long, c.loop-test.true, c.requires) in
-    let bad : is_part part ≡ false = not_true (is_part part) (λ is. let f : false ≡ true = c.in-Err.ensures.exact.1 (longer_good path part c.loop.invariant.good few is) in cc) in
-    ends part_at errors.Bad path c.args.count c.loop.counter c.loop.rest.now (items_at part_at c.args.count c.args.bytes.now) c.loop-test.true (bad_read c.loop.rest.now part c.in_ok-part.after.now c.in_ok-part.ensures bad) c.loop.invariant.read
+    let bad : is_part part ≡ false = not_true (is_part part) (λ is. let f : false ≡ true = c.in_err-path.ensures.exact.1 (longer_good path part c.loop.invariant.good few is) in cc) in
+    rw (p.1, p.2) (ends part_at errors.Bad path c.args.count c.loop.counter c.loop.rest.now (items_at part_at c.args.count c.args.bytes.now) c.loop-test.true (bad_read c.loop.rest.now part c.in_ok-part.after.now c.in_ok-part.ensures bad) c.loop.invariant.read)
 
 pub returns : goal.returns
 returns c = is_done part_at c.loop.path c.args.count c.loop.counter c.loop.rest.now (items_at part_at c.args.count c.args.bytes.now) c.loop-test.false c.loop.invariant.read

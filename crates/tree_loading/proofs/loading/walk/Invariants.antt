@@ -1,7 +1,8 @@
 use Rattle.std.proofs.Common.{◌≡◌, ◌≤◌, ◌-◌, length}
 use Rattle.outside.specs.Calls.{Told}
 use Rattle.outside.specs.Images.{disk_in}
-use Rattle.tree_loading.specs.Under.{IsReady, node_limit}
+use Rattle.tree_model.specs.Step.{node_limit}
+use Rattle.tree_loading.specs.Under.{IsReady}
 use Rattle.tree_loading.specs.Turned.{GoesOn}
 use Rattle.tree_loading.proofs.loading.walk.Given as goal
 

@@ -1,5 +1,5 @@
 use Rattle.ninep_wire.proofs.StatLaws.{apart}
-use Rattle.ninep_wire.proofs.law.stats_are_apart.Goals as goal
+use Rattle.ninep_wire.proofs.laws.stats_are_apart.Goals as goal
 
 pub returns : goal.returns
 returns c = apart
