@@ -54,7 +54,7 @@ pub trait BlockKey {
         ensures inverse { MakesBlocks (inverse_cipher self.now) };
 }
 
-// States that the elements of a slice of bytes are bytes.
+// States that the elements of a slice of bytes are bytes. It does nothing.
 fn each_is_a_byte(bytes: &[u8])
     ensures { AreBytes bytes.now }
 {

@@ -27,10 +27,6 @@ spliced-gap at bytes =
     ∙ ap (λ (behind : List (Option ℕ)). Some 0 ∷ (take at (replicate at (Some 0)) ++ map (λ b. Some b) bytes) ++ behind) none
     ∙ sym (ap (λ (g : ℕ). Some 0 ∷ (take at (replicate g (Some 0)) ++ map (λ b. Some b) bytes) ++ drop (at + length bytes) []) rest)
 
--- without a byte
-spliced-none : (old : List (Option ℕ)) → spliced old 0 [] ≡ old
-spliced-none old = refl
-
 -- within them
 spliced-within : (x : Option ℕ) (old : List (Option ℕ)) (b : ℕ) (bytes : List ℕ) → spliced (x ∷ old) 0 (b ∷ bytes) ≡ Some b ∷ spliced old 0 bytes
 spliced-within x old b bytes =

@@ -93,7 +93,7 @@ behind_put size (s ∷ more) first bytes from can behind =
     behind_put size more (first + 1) (overwritten bytes (place_of_chunk first) s) from (rest_can size first bytes s more this can.1) (omega arith)
     ∙ part_behind bytes (place_of_chunk first) s from this.begins (omega arith)
 
--- the first of them stands at its place
+-- the first of them is at its place
 first_put : (size first : ℕ) (bytes s : List ℕ) (more : List (List ℕ)) → CanPutChunk size (length bytes) first s
     → CanPutChunks size (max (length bytes) (place_of_chunk first + length s)) (first + 1) more
     → sealed_at (take size (put_chunks bytes first (s ∷ more))) first ≡ s

@@ -10,7 +10,7 @@ ghost use Rattle.content_changes.specs.Laws.{IsOpened, IsUnopened, IsMet, IsWrit
 use file_chunks::{CHUNK_LENGTH, SEALING_LENGTH};
 
 /// Which sizes a host file of a content's length may have: that of its chunks, none of them empty,
-/// and, where they are all full, that with an empty one behind them.
+/// and, where they are all full, that with an empty one behind them. It does nothing.
 pub fn sealed_sizes()
     ensures clear { (n : ℕ) → clear_length (sealed_size n) ≡ Some n }
     ensures sealed { (size n : ℕ) → clear_length size ≡ Some n
@@ -19,7 +19,7 @@ pub fn sealed_sizes()
 {}
 
 /// Nothing is written into a file whose size is none of a content's, or whose header doesn't open,
-/// and its length stays.
+/// and its length stays. It does nothing.
 pub fn unopened_content()
     ensures written { (keys : KeyPair) (bytes input : List ℕ) (at : ℕ) → IsUnopened keys bytes
         → written (content_of keys bytes) at input ≡ None }
@@ -28,7 +28,7 @@ pub fn unopened_content()
 {}
 
 /// A write of at least one byte is made by sealing the chunks that it meets anew, each of them where
-/// its bytes after the write are all there.
+/// its bytes after the write are all there. It does nothing.
 pub fn written_content()
     ensures content { (keys : KeyPair) (head : Head) (n : ℕ) (bytes : List ℕ) (at : ℕ) (input : List ℕ)
         (plaintexts : List (List ℕ)) (r : Rewriting)
@@ -42,7 +42,7 @@ pub fn written_content()
 {}
 
 /// A content of n bytes is cut to m by cutting the host file, and by sealing the chunk that the cut
-/// goes through anew, where what is kept of it is all there. Growth is a write of zeros at the end.
+/// goes through anew, where what is kept of it is all there. Growth is a write of zeros at the end. It does nothing.
 pub fn resized_content()
     ensures border { (keys : KeyPair) (head : Head) (n : ℕ) (bytes : List ℕ) (m : ℕ)
         → IsOpened keys head n bytes → m ≤ n → m % CHUNK_LENGTH ≡ 0

@@ -11,7 +11,7 @@ use file_chunks::CHUNK_LENGTH;
 
 /// What a write makes of the chunk of an index, by that chunk alone: its plaintext, where it opens;
 /// nothing, where it begins at the content's end or behind; the write's bytes, where they replace
-/// each byte of it, whether or not it opens.
+/// each byte of it, whether or not it opens. It does nothing.
 pub fn written_chunk()
     ensures opened { (keys : KeyPair) (head : Head) (n : ℕ) (bytes : List ℕ) (at : ℕ) (input : List ℕ)
         (index : ℕ) (plaintext : List ℕ) → IsOpened keys head n bytes → CHUNK_LENGTH * index < n
@@ -34,7 +34,8 @@ pub fn written_chunk()
         → sealed_chunk (after_write (content_of keys bytes) at input) index ≡ None }
 {}
 
-/// What a cut to m bytes keeps of the chunk that it goes through, by that chunk alone.
+/// What a cut to m bytes keeps of the chunk that it goes through, by that chunk alone. It does
+/// nothing.
 pub fn cut_chunk()
     ensures opened { (keys : KeyPair) (head : Head) (n : ℕ) (bytes : List ℕ) (m : ℕ)
         (plaintext : List ℕ) → IsOpened keys head n bytes → m ≤ n → 0 < m % CHUNK_LENGTH

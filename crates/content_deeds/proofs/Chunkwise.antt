@@ -19,17 +19,6 @@ pub record IsBehindSoFar (path : Path) (size first before : ℕ) (bytes : List �
   pub room : HasRoom deeds path (length (chunks_of 32796 left))
   pub pending : length left < length bytes → ArePending deeds
 
-pub none_behind : (path : Path) (size first before : ℕ) (bytes left : List ℕ) (count : ℕ) (old : List PlainDeed) → HasRoom old path (length (chunks_of 32796 bytes))
-    → CanPutChunks size before first (chunks_of 32796 bytes) → left ≡ bytes → count ≡ 0 → IsBehindSoFar path size first before bytes old left count before old
-none_behind path size first before bytes left count old room can all zero =
-    let same : first + count ≡ first = omega arith in
-    record {
-      rest = ap (λ (l : List ℕ). chunks_in path size before (first + count) (chunks_of 32796 l) old) all ∙ ap (λ (i : ℕ). chunks_in path size before i (chunks_of 32796 bytes) old) same;
-      can = subst (λ (l : List ℕ). CanPutChunks size before (first + count) (chunks_of 32796 l)) (sym all) (subst (λ (i : ℕ). CanPutChunks size before i (chunks_of 32796 bytes)) (sym same) can);
-      room = subst (λ (l : List ℕ). HasRoom old path (length (chunks_of 32796 l))) (sym all) room;
-      pending = λ fewer. absurd (omega (arith, ap length all, fewer));
-    }
-
 -- the change of some chunks
 pub some_put : (path : Path) (size before first : ℕ) (bytes : List ℕ) (old : List PlainDeed) → 0 < length bytes
     → puts_or_cut path size before first (chunks_of 32796 bytes) old ≡ chunks_in path size before first (chunks_of 32796 bytes) old

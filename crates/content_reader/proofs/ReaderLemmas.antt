@@ -1,7 +1,7 @@
 -- How a read ends, by the length of the content.
-use Rattle.std.proofs.Common.{◌≡◌, ◌⊎◌, ℕ, ◌-◌, ◌≤◌, min, Bool, List, length, take, drop, Option, None, Result, refl, sym, ap, ◌∙◌, subst, arith, inl, inr, ◌++◌, length-take, length-drop}
+use Rattle.std.proofs.Common.{◌≡◌, ◌⊎◌, ℕ, ◌-◌, ◌≤◌, min, Bool, List, length, take, drop, Option, Result, refl, sym, ap, ◌∙◌, subst, arith, inl, inr, ◌++◌, length-take, length-drop}
 use Rattle.std.proofs.lemmas.Bool.{cases_lt}
-use Rattle.tree_model.specs.Rows.{Cell, Content, bad_size, chunks, joined, content_length, all_there, slice_of}
+use Rattle.tree_model.specs.Rows.{Cell, Content, chunks, joined, content_length, all_there, slice_of}
 use Rattle.content_reader.specs.declared.error.ReadErr.{ReadErr}
 use Rattle.content_reader.specs.Reading.{Ends, read_of}
 use Rattle.content_reader.proofs.Spans.{take_min}
@@ -13,9 +13,6 @@ within_none n at count none = elim (cases_lt at n) [ inl inside ↦ inr (omega a
 -- of a good size a read is a slice
 pub read_of_good : (content : Content) (at count : ℕ) (b : Bool) → (cells : List Cell) × (content ≡ chunks b cells) → read_of content at count ≡ slice_of content at count
 read_of_good content at count b good = subst (λ (c : Content). read_of c at count ≡ slice_of c at count) (sym good.1) refl
-
-pub read_of_bad : (content : Content) (at count : ℕ) → content ≡ bad_size → read_of content at count ≡ None
-read_of_bad content at count bad = ap (λ (c : Content). read_of c at count) bad
 
 -- a slice ends with its content
 pub slice_capped : (content : Content) (n at count : ℕ) → content_length content ≡ n → slice_of content at (min (n - at) count) ≡ slice_of content at count

@@ -2,7 +2,7 @@ ghost use Rattle.std.specs.Prelude.{◌≡◌, ◌≤◌, ◌<◌, ◌+◌, ◌*
 ghost use Rattle.std.specs.Result.{result_map_both};
 ghost use Rattle.tree_model.specs.Asked.{count_limit};
 ghost use Rattle.tree_model.specs.Rows.{slice_of};
-ghost use Rattle.file_chunks.specs.File.{IsKey, content_of};
+ghost use Rattle.file_chunks.specs.File.{content_of};
 ghost use Rattle.outside.specs.Calls.{Told};
 ghost use Rattle.outside.specs.Images.{disk_in};
 ghost use Rattle.file_chunks.specs.Header.{header_opens};
@@ -77,7 +77,7 @@ pub(crate) fn fill<R: Reads>(
     ensures device { IsErrOf result ReadErr.Device → RoseUntold (disk_in (R.log folder.old)) (R.faults folder.old) (R.faults folder.new) }
 {
     reads_are_slices();
-    has_key(keys);
+    keys.have_32_bytes();
     let header = header_of(folder, keys, path)?;
     let (first, chunks) = few_chunks(slice.at, u64::from(slice.count));
     let room = &mut sealed[..SEALED_LENGTH * chunks as usize];
@@ -86,11 +86,4 @@ pub(crate) fn fill<R: Reads>(
     let front = &mut out[..slice.count as usize];
     gather(&header, slice.at, &room[..read], clear, front)?;
     Ok(())
-}
-
-/// States that the encryption key is one of AES-256, which the laws of `reads_are_slices` ask for.
-pub(crate) fn has_key(keys: &VaultKeys)
-    ensures { IsKey keys.now.enc }
-{
-    keys.have_32_bytes();
 }

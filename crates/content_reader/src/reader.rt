@@ -1,13 +1,13 @@
-ghost use Rattle.std.specs.Prelude.{◌≡◌, ◌≤◌, ◌-◌, ℕ, List, length, take, drop, min, IfOk, OnErr, IsErrOf};
+ghost use Rattle.std.specs.Prelude.{◌≡◌, ◌≤◌, ◌-◌, ℕ, List, length, take, min, IfOk, OnErr, IsErrOf};
 ghost use Rattle.std.specs.Result.{result_map_both};
-ghost use Rattle.outside.specs.Calls.{Told};
+ghost use Rattle.outside.specs.Calls.{Told, KeepsFrom};
 ghost use Rattle.outside.specs.Images.{disk_in};
 ghost use Rattle.tree_model.specs.Asked.{count_limit};
 ghost use Rattle.file_chunks.specs.File.{content_of};
 ghost use Rattle.content_reader.specs.Reading.{Ends, RoseUntold, IsFileOf, read_of};
 
 use crate::error::ReadErr;
-use crate::fetching::{fill, has_key};
+use crate::fetching::fill;
 use file_chunks::{CHUNK_LENGTH, SEALED_LENGTH, clear_len, reads_are_slices};
 use outside::Reads;
 use siv_mode::VaultKeys;
@@ -65,7 +65,7 @@ impl ContentReader {
         })
     }
 
-    /// Reads a slice of at most 65,536 bytes of a content file into the front of `buffer`, and gives the number of its bytes.
+    /// Reads a slice of at most 65,536 bytes of a content file into the front of `buffer`, and returns the number of its bytes.
     /// `buffer` keeps the rest, and all after an error. Only the header and the chunks that the slice meets are read; a slice
     /// without a byte of the content needs neither. It takes no memory.
     ///
@@ -85,7 +85,7 @@ impl ContentReader {
             Ends (read_of (content_of keys.now bytes) slice.at slice.count) (R.faults folder.old) (R.faults folder.new)
             (result_map_both (λ n. take n buffer.new) (λ e. e) result)) }
         ensures count { IfOk result (λ n. n ≤ slice.count) }
-        ensures rest { IfOk result (λ n. drop n buffer.new ≡ drop n buffer.old) }
+        ensures rest { IfOk result (λ n. KeepsFrom n buffer.old buffer.new) }
         ensures refused { OnErr result (buffer.new ≡ buffer.old) }
         ensures log { R.log folder.new ≡ R.log folder.old }
         ensures changes { R.changes folder.new ≡ R.changes folder.old }
@@ -93,7 +93,7 @@ impl ContentReader {
         ensures device { IsErrOf result ReadErr.Device → RoseUntold (disk_in (R.log folder.old)) (R.faults folder.old) (R.faults folder.new) }
     {
         reads_are_slices();
-        has_key(keys);
+        keys.have_32_bytes();
         let Some(length) = clear_len(file.size) else {
             return Err(ReadErr::Damaged);
         };

@@ -1,6 +1,5 @@
 -- What the reads of a chunk and of a header tell.
-use Rattle.std.proofs.Common.{◌≡◌, ℕ, ◌+◌, ◌-◌, ◌*◌, ◌<◌, min, true, nat_lt, List, length, take, drop, Option, Some, None, refl, sym, ap, ◌∙◌, arith, length-drop}
-use Rattle.std.proofs.lemmas.Grind.{common_steps}
+use Rattle.std.proofs.Common.{◌≡◌, ℕ, ◌+◌, ◌-◌, ◌*◌, min, List, length, take, drop, Option, Some, sym, ap, ◌∙◌, arith, length-drop}
 use Rattle.outside.specs.Disk.{Disk, Path, node_at, file}
 use Rattle.outside.specs.Calls.{Told}
 use Rattle.outside.proofs.Told.{told_then}
@@ -12,13 +11,6 @@ use Rattle.content_reader.proofs.Spans.{take_min}
 use Rattle.content_writer.specs.Sealing.{IsOpenedChunk}
 
 -- ---- a chunk
-
--- what is that short opens to nothing
-pub short_closed : (head : Head) (index : ℕ) (sealed : List ℕ) → length sealed < 28 → chunk_opens head index sealed ≡ None
-unfolding chunk_opens
-short_closed head index sealed short =
-    let is : nat_lt (length sealed) 28 ≡ true = grind (arith, common_steps, short) in
-    rw is refl
 
 -- a read of a chunk's place gives the sealed chunk
 module _ (contents : Option Disk) (path : Path) (index n room : ℕ) (new : List ℕ) (is_room : room ≡ 32796) (gives : Gives contents path (68 + 32796 * index) room new n) where

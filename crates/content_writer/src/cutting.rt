@@ -1,7 +1,8 @@
-ghost use Rattle.std.specs.Prelude.{◌≡◌, ◌≤◌, ◌^◌, ℕ, Some, None, OnOk, OnErr, IsErrOf};
+ghost use Rattle.std.specs.Prelude.{◌≡◌, ◌≤◌, ℕ, Some, None, OnOk, OnErr, IsErrOf};
 ghost use Rattle.outside.specs.Calls.{Rose, Extends};
 ghost use Rattle.outside.specs.Images.{disk_in};
 ghost use Rattle.tree_model.specs.Contents.{resized};
+ghost use Rattle.tree_model.specs.Step.{file_limit};
 ghost use Rattle.file_chunks.specs.File.{clear_length, content_of};
 ghost use Rattle.content_changes.specs.Laws.{IsRewritten, cut_by};
 ghost use Rattle.content_writer.specs.Sealed.{IsPuttable, nonces_of};
@@ -28,7 +29,7 @@ pub(crate) fn seal_cut<R: Reads, E: Entropy>(
     sealed: &mut SealedChunks,
 ) -> Result<(), WriteErr>
     requires shorter { len ≤ content.now.length }
-    requires limit { len ≤ 2 ^ 40 }
+    requires limit { len ≤ file_limit }
     ensures cut { OnOk result (OfOpen (disk_in (R.log folder.old)) path.now content.now.header content.now.length
         (λ keys bytes. IsRewritten keys bytes (cut_by len sealed.new) (resized (content_of keys bytes) len))) }
     ensures puttable { OnOk result ((size : ℕ) → clear_length size ≡ Some content.now.length → IsPuttable size (cut_by len sealed.new)) }

@@ -1,7 +1,7 @@
 ghost use Rattle.std.specs.Prelude.{◌≡◌, ◌≤◌, ◌*◌, ◌^◌, ◌<◌, ℕ, List, Some, IfOk, OnOk, IsErrOf};
 ghost use Rattle.outside.specs.Calls.{Told};
 ghost use Rattle.outside.specs.Images.{disk_in};
-ghost use Rattle.file_chunks.specs.File.{IsKey, clear_length};
+ghost use Rattle.file_chunks.specs.File.{clear_length};
 ghost use Rattle.content_reader.specs.Reading.{IsFileOf};
 ghost use Rattle.content_changes.specs.Laws.{IsOpened, IsUnopened};
 ghost use Rattle.content_writer.specs.Sealing.{HasFaulted, IsOldPlaintext, IsDamagedChunk};
@@ -39,7 +39,7 @@ pub(crate) fn open_file<R: Reads>(
     ensures changes { R.changes folder.new ≡ R.changes folder.old }
     ensures later { R.faults folder.old ≤ R.faults folder.new }
 {
-    has_key(keys);
+    keys.have_32_bytes();
     let length = clear_len(file.size).unwrap();
     let mut bytes = [0; HEADER_LENGTH];
     let count = folder.read(&file.path, 0, &mut bytes)?;
@@ -79,11 +79,4 @@ pub(crate) fn fetch<R: Reads>(
         return Err(WriteErr::Damaged);
     }
     Ok(())
-}
-
-// States that the encryption key is one of AES-256.
-fn has_key(keys: &VaultKeys)
-    ensures { IsKey keys.now.enc }
-{
-    keys.have_32_bytes();
 }

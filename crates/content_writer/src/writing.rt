@@ -1,7 +1,8 @@
-ghost use Rattle.std.specs.Prelude.{◌≡◌, ◌≤◌, ◌<◌, ◌+◌, ◌/◌, ◌*◌, ◌^◌, length, min, OnOk, OnErr, IsErrOf};
+ghost use Rattle.std.specs.Prelude.{◌≡◌, ◌≤◌, ◌<◌, ◌+◌, ◌/◌, ◌*◌, length, min, OnOk, OnErr, IsErrOf};
 ghost use Rattle.std.specs.Int.{div_ceil};
 ghost use Rattle.outside.specs.Calls.{Rose, Changes, Extends};
 ghost use Rattle.outside.specs.Images.{disk_in};
+ghost use Rattle.tree_model.specs.Step.{file_limit};
 ghost use Rattle.content_changes.specs.Laws.{IsMet};
 ghost use Rattle.content_writer.specs.Sealed.{AreFull, nonces_of};
 ghost use Rattle.content_writer.specs.Sealing.{HasFaulted, GoesOn, writing_of, HasSealed, AreSealedTo, IsLostChunk, IsLost};
@@ -33,7 +34,7 @@ pub(crate) fn seal_written<R: Reads, E: Entropy>(
     sealed: &mut SealedChunks,
 ) -> Result<(), WriteErr>
     requires some { 0 < length write.now.input.now }
-    requires limit { write.now.at + length write.now.input.now ≤ 2 ^ 40 }
+    requires limit { write.now.at + length write.now.input.now ≤ file_limit }
     requires few { div_ceil (write.now.at + length write.now.input.now) CHUNK_LENGTH ≤ min write.now.at content.now.length / CHUNK_LENGTH + CHUNK_LIMIT }
     ensures sealed { OnOk result (AreSealedTo (writing_of (disk_in (R.log folder.old)) path.now content.now write.now)
         (div_ceil (write.now.at + length write.now.input.now) CHUNK_LENGTH) sealed.new) }
@@ -69,7 +70,7 @@ fn seal_one<R: Reads, E: Entropy>(
     entropy: &mut E,
     sealed: &mut SealedChunks,
 ) -> Result<(), WriteErr>
-    requires limit { write.now.at + length write.now.input.now ≤ 2 ^ 40 }
+    requires limit { write.now.at + length write.now.input.now ≤ file_limit }
     requires met { IsMet content.now.length write.now.at (length write.now.input.now) index }
     requires full { AreFull sealed.old }
     requires room { length sealed.old < CHUNK_LIMIT }

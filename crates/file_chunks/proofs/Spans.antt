@@ -3,7 +3,7 @@ use Rattle.std.proofs.Common.{◌≡◌, ℕ, ◌+◌, ◌-◌, ◌*◌, ◌/◌
 use Rattle.std.specs.Prelude.{◌↔◌}
 use Rattle.std.proofs.lemmas.Bool.{cases_lt}
 
--- chunk k has a byte of a slice that isn't empty exactly where it is between the first and the last
+-- chunk k has a byte of a slice that isn't empty if and only if it is between the first and the last
 pub met_by : (at count k : ℕ) → 0 < count
     → ((at / 32768 ≤ k) × (k < at / 32768 + ((at + count - 1) / 32768 - at / 32768 + 1))) ↔ ((p : ℕ) × (at ≤ p) × (p < at + count) × (p / 32768 ≡ k))
 met_by at count k some = (

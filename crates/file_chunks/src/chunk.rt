@@ -39,7 +39,7 @@ pub fn seal_chunk<E: Entropy>(
 }
 
 /// Opens the chunk of an index, of at most 32,796 sealed bytes, into the front of `out`, which keeps
-/// the rest, and gives the plaintext's length in bytes. It fails if and only if the chunk has less
+/// the rest, and returns the plaintext's length in bytes. It fails if and only if the chunk has less
 /// than 28 bytes or its tag isn't GCM's for this header and index; the front holds zeros then.
 //
 // It is a function of its own in the program too: inlined into a caller with a large frame,

@@ -73,7 +73,7 @@ fn sealing_key(keys: &VaultKeys) -> GcmKey
     GcmKey::from(keys.encryption_key().copied())
 }
 
-/// A new header: draws a nonce of 12 bytes, then a content key of 32, and gives the header and its
+/// A new header: draws a nonce of 12 bytes, then a content key of 32, and returns the header and its
 /// 68 bytes. `Failed` comes where a draw failed; nothing is drawn then, or the nonce alone.
 pub fn new_header<E: Entropy>(
     keys: &VaultKeys,

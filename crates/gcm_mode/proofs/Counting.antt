@@ -7,7 +7,7 @@ use borrow.Rule.Slice.PartMut.{put_mid}
 use Rattle.aes_block.specs.Bytes.{xor_bytes, bytes_of, MakesBlocks}
 use Rattle.gcm_mode.specs.Gcm.{counter_block, counted, keystream}
 use Rattle.gcm_mode.specs.Counted.{Counted}
-use Rattle.gcm_mode.proofs.XorBytes.{xor_bytes-append, length-xor_bytes}
+use Rattle.aes_block.proofs.ByteLemmas.{length-xor, xor_bytes-append}
 
 range_with_len_more : (a n : ℕ) → range_with_len a (n + 1) ≡ range_with_len a n ++ (a + n) ∷ []
 range_with_len_more a zero =
@@ -35,7 +35,7 @@ counted_more old now ks block ys a e known long within end done =
     let left : length (drop a old) ≡ length old - a = length-drop a old in
     let front_long : length (take a old) ≡ a = length-take-le a old (omega arith) in
     let front : List ℕ = xor_bytes (take a old) ks in
-    let front_is : length (xor_bytes (take a old) ks) ≡ a = length-xor_bytes (take a old) ks (omega arith) ∙ front_long in
+    let front_is : length (xor_bytes (take a old) ks) ≡ a = length-xor (take a old) ks (omega arith) ∙ front_long in
     let kept : take a now ≡ front = ap (take a) known ∙ take_at front rest a front_is in
     let still : drop a now ≡ rest = ap (drop a) known ∙ drop_at front rest a front_is in
     let size : e - a ≡ min 16 (length rest) = omega arith in
@@ -67,14 +67,14 @@ unfolding keystream
 keystream_none cipher nonce = refl
 
 -- n encrypted counter blocks have 16 * n bytes
-pub length-keystream : (cipher : List ℕ → List ℕ) (nonce : List ℕ) → MakesBlocks cipher → (n : ℕ) → length (keystream cipher nonce n) ≡ 16 * n
-length-keystream cipher nonce blocks zero = ap length (keystream_none cipher nonce)
-length-keystream cipher nonce blocks (suc n) =
+pub length-keystream : (cipher : List ℕ → List ℕ) (nonce : List ℕ) → ((b : List ℕ) → length (cipher b) ≡ 16) → (n : ℕ) → length (keystream cipher nonce n) ≡ 16 * n
+length-keystream cipher nonce long zero = ap length (keystream_none cipher nonce)
+length-keystream cipher nonce long (suc n) =
     let block : List ℕ = cipher (counter_block nonce (n + 2)) in
     let next : suc n ≡ n + 1 = omega arith in
     let more : keystream cipher nonce (suc n) ≡ keystream cipher nonce n ++ block = ap (keystream cipher nonce) next ∙ keystream_more cipher nonce n in
-    let before : length (keystream cipher nonce n) ≡ 16 * n = length-keystream cipher nonce blocks n in
-    let size : length block ≡ 16 = blocks.long (counter_block nonce (n + 2)) in
+    let before : length (keystream cipher nonce n) ≡ 16 * n = length-keystream cipher nonce long n in
+    let size : length block ≡ 16 = long (counter_block nonce (n + 2)) in
     ap length more ∙ length-append (keystream cipher nonce n) block ∙ omega arith
 
 -- ---- the state of the loops

@@ -1,6 +1,6 @@
-ghost use Rattle.std.specs.Prelude.{◌≡◌, ◌↔◌, ℕ, List, ◌++◌, length, take, drop, replicate, Some, None, IsOk, OnOk, OnErr};
+ghost use Rattle.std.specs.Prelude.{◌≡◌, ◌↔◌, ℕ, List, ◌++◌, replicate, Some, None, IsOk, OnOk, OnErr};
 ghost use Rattle.aes_block.specs.Aes.{aes};
-ghost use Rattle.aes_block.specs.Bytes.{MakesBlocks, number_of};
+ghost use Rattle.aes_block.specs.Bytes.{number_of};
 ghost use Rattle.gcm_mode.specs.Ghash.{ghash};
 ghost use Rattle.gcm_mode.specs.Gcm.{counted, gcm_opened, gcm_sealed, gcm_tag, hashed_text};
 
@@ -205,16 +205,3 @@ impl GcmCipher for BulkGcmKey {
         hash_of(&self.subkey, ad, ciphertext)
     }
 }
-
-/// Opening what was sealed (SP 800-38D, 7.1 and 7.2) gives the text, and a ciphertext with a tag is
-/// accepted if and only if sealing its text gives both, for each cipher that makes blocks.
-/// It does nothing.
-pub fn sealing_and_opening_agree()
-    ensures opens { (cipher : List ℕ → List ℕ) (nonce ad text : List ℕ) → MakesBlocks cipher
-        → gcm_opened cipher nonce ad (take (length text) (gcm_sealed cipher nonce ad text))
-        (drop (length text) (gcm_sealed cipher nonce ad text)) ≡ Some text }
-    ensures exact { (cipher : List ℕ → List ℕ) (nonce ad ciphertext tag text : List ℕ)
-        → MakesBlocks cipher → length tag ≡ 16
-        → (gcm_opened cipher nonce ad ciphertext tag ≡ Some text)
-        ↔ (ciphertext ++ tag ≡ gcm_sealed cipher nonce ad text) }
-{}

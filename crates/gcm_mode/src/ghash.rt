@@ -51,7 +51,7 @@ fn nibble_product(nibble: usize, v: u128) -> u128
     sum
 }
 
-// States that a number is a block's.
+// States that a number is a block's. It does nothing.
 #[inline(always)]
 fn is_block(x: u128)
     ensures { x < 2 ^ 128 }

@@ -7,7 +7,7 @@ use Rattle.aes_block.specs.Bytes.{xor_bytes, bytes_of}
 abbrev pub check_value : List ℕ
 check_value = replicate 8 0xa6
 
--- A, and behind it R 1 to R 4, each of 8 bytes: 40 bytes. i counts from 1; R i stands at place 8 i
+-- A, and behind it R 1 to R 4, each of 8 bytes: 40 bytes. i counts from 1; R i is at place 8 i
 abbrev pub part : List ℕ → ℕ → List ℕ
 part state i = take 8 (drop (8 * i) state)
 
@@ -44,7 +44,7 @@ unfoldable pub unwrapped_after : (List ℕ → List ℕ) → List ℕ → ℕ �
 unwrapped_after inverse state zero = state
 unwrapped_after inverse state (suc n) = unwrap_step inverse (24 - n) (unwrapped_after inverse state n)
 
--- the key, accepted exactly where A is the check value (2.2.2)
+-- the key, accepted if and only if A is the check value (2.2.2)
 unfoldable pub unwrapped : (List ℕ → List ℕ) → List ℕ → Option (List ℕ)
 unwrapped inverse state =
     if bytes_eq (part (unwrapped_after inverse state 24) 0) check_value then Some (drop 8 (unwrapped_after inverse state 24)) else None

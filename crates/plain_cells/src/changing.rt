@@ -1,6 +1,7 @@
-ghost use Rattle.std.specs.Prelude.{◌≡◌, ◌≤◌, ◌+◌, ◌*◌, ◌^◌, length, true, slice_get, IfOk, option_map, if◌then◌else◌};
+ghost use Rattle.std.specs.Prelude.{◌≡◌, ◌≤◌, ◌+◌, ◌*◌, length, true, slice_get, IfOk, option_map, if◌then◌else◌};
 ghost use Rattle.tree_model.specs.Contents.{chunks_after, cut_cells, is_met, resized, resized_cells, sealed_chunk, spliced, written, written_cells};
 ghost use Rattle.tree_model.specs.Rows.{chunks, joined_cells};
+ghost use Rattle.tree_model.specs.Step.{file_limit};
 ghost use Rattle.plain_cells.specs.Seen.{cell_seen, cells_seen, content_seen};
 
 use crate::content::{Cell, Content, all_there, copied_cell, copied_cells, joined_cells, there};
@@ -31,7 +32,7 @@ fn spliced(
 
 // Whether chunk i has a byte from `low` on and before `high`.
 fn is_met(low: usize, high: usize, i: usize) -> bool
-    requires { high ≤ 2 ^ 40 }
+    requires { high ≤ file_limit }
     ensures { result ≡ is_met low high i }
 {
     match i.checked_mul(CHUNK_LENGTH) {
@@ -42,7 +43,7 @@ fn is_met(low: usize, high: usize, i: usize) -> bool
 
 // Chunk i of these bytes, where each of its bytes is there.
 fn sealed_chunk(alloc: Global, bytes: &[Option<u8>], i: usize) -> Result<Option<Cell>, AllocError>
-    requires { i * CHUNK_LENGTH ≤ 2 ^ 40 }
+    requires { i * CHUNK_LENGTH ≤ file_limit }
     ensures { IfOk result (λ cell. option_map cell_seen cell ≡ sealed_chunk bytes.now i) }
 {
     let start = (i * CHUNK_LENGTH).min(bytes.len());
@@ -62,7 +63,7 @@ fn chunk_after(
     high: usize,
     i: usize,
 ) -> Result<Option<Cell>, AllocError>
-    requires { high ≤ 2 ^ 40 }
+    requires { high ≤ file_limit }
     ensures { IfOk result (λ cell. option_map cell_seen cell ≡ (if is_met low high i then sealed_chunk bytes.now i else slice_get (cells_seen old.now) i)) }
 {
     if is_met(low, high, i) {
@@ -84,7 +85,7 @@ fn chunks_after(
     high: usize,
     n: usize,
 ) -> Result<Option<Vec<Cell>>, AllocError>
-    requires { high ≤ 2 ^ 40 }
+    requires { high ≤ file_limit }
     ensures { IfOk result (λ cells. option_map (λ cells. cells_seen cells.items) cells ≡ chunks_after (cells_seen old.now) bytes.now low high n) }
 {
     let mut cells = Vec::new(alloc);
@@ -104,7 +105,7 @@ fn written_cells(
     at: usize,
     bytes: &[u8],
 ) -> Result<Option<Vec<Cell>>, AllocError>
-    requires { at + length bytes.now ≤ 2 ^ 40 }
+    requires { at + length bytes.now ≤ file_limit }
     ensures { IfOk result (λ cells. option_map (λ cells. cells_seen cells.items) cells ≡ written_cells (cells_seen old.now) at bytes.now) }
 {
     let joined = joined_cells(alloc, old)?;
@@ -122,7 +123,7 @@ fn cut_cells(
     n: usize,
 ) -> Result<Option<Vec<Cell>>, AllocError>
     requires joined { joined.now ≡ joined_cells (cells_seen old.now) }
-    requires limit { n ≤ 2 ^ 40 }
+    requires limit { n ≤ file_limit }
     ensures { IfOk result (λ cells. option_map (λ cells. cells_seen cells.items) cells ≡ cut_cells (cells_seen old.now) n) }
 {
     let mut cells = copied_cells(alloc, old)?;
@@ -141,7 +142,7 @@ fn cut_cells(
 
 // The chunks after a change of the length to n bytes.
 fn resized_cells(alloc: Global, old: &[Cell], n: usize) -> Result<Option<Vec<Cell>>, AllocError>
-    requires { n ≤ 2 ^ 40 }
+    requires { n ≤ file_limit }
     ensures { IfOk result (λ cells. option_map (λ cells. cells_seen cells.items) cells ≡ resized_cells (cells_seen old.now) n) }
 {
     let joined = joined_cells(alloc, old)?;
@@ -172,7 +173,7 @@ pub fn written(
     at: usize,
     bytes: &[u8],
 ) -> Result<Option<Content>, AllocError>
-    requires { at + length bytes.now ≤ 2 ^ 40 }
+    requires { at + length bytes.now ≤ file_limit }
     ensures { IfOk result (λ new. option_map content_seen new ≡ written (content_seen content.now) at bytes.now) }
 {
     match content {
@@ -190,7 +191,7 @@ pub fn written(
 /// The content after its length becomes n bytes; None where what would be kept of a chunk, or the header, doesn't open.
 #[tactic(auto, unfolding(tree_model::specs::Contents::resized))]
 pub fn resized(alloc: Global, content: &Content, n: usize) -> Result<Option<Content>, AllocError>
-    requires { n ≤ 2 ^ 40 }
+    requires { n ≤ file_limit }
     ensures { IfOk result (λ new. option_map content_seen new ≡ resized (content_seen content.now) n) }
 {
     match content {

@@ -4,7 +4,7 @@ use Rattle.std.specs.List.{range_with_len}
 use Rattle.std.proofs.lemmas.List.{get_or-drop, length-take-le, get_or-take}
 use Rattle.std.proofs.lemmas.List.FromFn.{fill_by_all}
 use Rattle.aes_block.specs.Bytes.{xor_bytes}
-use Rattle.siv_mode.proofs.Xors.{length-xor_bytes}
+use Rattle.aes_block.proofs.ByteLemmas.{length-xor_bytes}
 
 get_or-xor_bytes : (xs ys : List ℕ) (i : ℕ) → i < length xs → i < length ys → get_or (xor_bytes xs ys) i 0 ≡ bit_xor (get_or xs i 0) (get_or ys i 0)
 get_or-xor_bytes [] ys i h k = absurd (omega arith)

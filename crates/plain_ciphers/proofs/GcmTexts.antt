@@ -4,7 +4,7 @@ use Rattle.std.specs.Int.Bits.{bit_xor}
 use Rattle.std.proofs.lemmas.List.{length-take-le, take-replicate, take_more}
 use Rattle.aes_block.specs.Bytes.{xor_bytes}
 use Rattle.gcm_mode.specs.Ghash.{zero_padded}
-use Rattle.gcm_mode.proofs.XorBytes.{xor_bytes-append}
+use Rattle.aes_block.proofs.ByteLemmas.{xor_bytes-append}
 
 -- the zeros behind a text are the first of a whole block of them
 pub zero_padded_by_part : (text : List ℕ) → text ++ take ((16 - length text % 16) % 16) (replicate 16 0) ≡ zero_padded text

@@ -13,7 +13,7 @@ is_last row = row.version == 2 ^ 64 - 1
 abbrev pub has_last : Rows → Bool
 has_last rows = list_any is_last rows.nodes
 
--- an error has its cause: a last version is there, or want of memory alone
+-- an error has its cause: a last version is there, or lack of memory alone
 abbrev pub IsEnd : StepErr → Bool → Type 0
 IsEnd Versions is_there = is_there ≡ true
 IsEnd Memory is_there = ⊤

@@ -1,12 +1,12 @@
 -- A text xored with the encrypted counters, block by block.
-use Rattle.std.proofs.Common.{◌≡◌, ℕ, zero, suc, ◌+◌, ◌-◌, ◌*◌, ◌/◌, ◌%◌, ◌^◌, ◌<◌, ◌≤◌, min, List, [], ◌∷◌, ◌++◌, length, take, drop, flat_map, refl, sym, ap, ◌∙◌, arith}
+use Rattle.std.proofs.Common.{◌≡◌, ℕ, zero, suc, ◌+◌, ◌-◌, ◌*◌, ◌/◌, ◌%◌, ◌^◌, ◌<◌, ◌≤◌, min, List, [], ◌∷◌, ◌++◌, length, take, drop, flat_map, sym, ap, ◌∙◌, arith}
 use Rattle.std.specs.List.{range_with_len}
 use Rattle.std.proofs.lemmas.Grind.{flat_map-append}
 use Rattle.std.proofs.lemmas.List.{append-nil, append_assoc, length-append, length-take-le, length-drop, take-append-drop, take_all, drop_all, take_at, drop_at, drop-drop, take-take, drop-take, take_min, drop_min}
 use Rattle.aes_block.specs.Bytes.{xor_bytes, bytes_of}
 use Rattle.siv_mode.specs.Siv.{first_counter, keystream, counted}
 use Rattle.siv_mode.specs.Counted.{IsCountedTo, encrypted_counter}
-use Rattle.siv_mode.proofs.Xors.{length-xor_bytes, xor_bytes-append}
+use Rattle.aes_block.proofs.ByteLemmas.{length-xor_bytes, xor_bytes-append}
 
 range-push : (a n : ℕ) → range_with_len a (suc n) ≡ range_with_len a n ++ (a + n) ∷ []
 range-push a zero = let same : a ≡ a + 0 = omega arith in ap (λ k. k ∷ []) same
@@ -25,9 +25,6 @@ pub counter_from : (ctr : List ℕ → List ℕ) (first start i : ℕ) → ctr (
 counter_from ctr first start i =
     let same : ((first + start) % 2 ^ 128 + i) % 2 ^ 128 ≡ (first + (start + i)) % 2 ^ 128 = omega arith in
     ap (λ (n : ℕ). ctr (bytes_of 16 n)) same
-
-pub counted_none : (ctr : List ℕ → List ℕ) (first : ℕ) (old : List ℕ) → IsCountedTo ctr first old old 0
-counted_none ctr first old = record { long = refl; done = refl }
 
 take-add : (m n : ℕ) (xs : List ℕ) → take (m + n) xs ≡ take m xs ++ take n (drop m xs)
 take-add m n xs = sym (take-append-drop m (take (m + n) xs)) ∙ (λ i. take-take m (m + n) xs (omega arith) i ++ drop-take m n xs i)

@@ -1,4 +1,3 @@
-pub mod Xors
 pub mod Doubling
 pub mod Chains
 pub mod Counters

@@ -7,8 +7,7 @@ use Rattle.std.proofs.lemmas.List.{length-append, take-append-drop, take_at, dro
 use Rattle.aes_block.specs.Bytes.{xor_bytes, bytes_of, MakesBlocks}
 use Rattle.siv_mode.specs.Cmac.{doubled, padded, cmac}
 use Rattle.siv_mode.specs.Siv.{mixed, xored_end, s2v, first_counter, keystream, counted, siv_sealed, siv_text, siv_opened}
-use Rattle.siv_mode.proofs.Xors.{length-xor_bytes}
-use Rattle.aes_block.proofs.ByteLemmas.{xor_bytes-twice}
+use Rattle.aes_block.proofs.ByteLemmas.{length-xor_bytes, xor_bytes-twice}
 use Rattle.siv_mode.specs.Counted.{encrypted_counter}
 use Rattle.siv_mode.proofs.Counters.{keystream-push}
 
@@ -68,6 +67,15 @@ closed_is mac ctr ad sealed differs =
     let test = false_from_ne_true _ (λ t. differs ((bytes_eq-Decides _ _).0 t)) in
     rw test refl
 
+-- the same of a tag and a text as they were found
+pub accepts : (mac ctr : List ℕ → List ℕ) (ad : Option (List ℕ)) (sealed text tag own : List ℕ) → text ≡ siv_text ctr sealed → tag ≡ take 16 sealed → own ≡ s2v mac ad text → own ≡ tag
+    → siv_opened mac ctr ad sealed ≡ Some text
+accepts mac ctr ad sealed text tag own is tag_is own_is same = opened_is mac ctr ad sealed (ap (s2v mac ad) (sym is) ∙ sym own_is ∙ same ∙ tag_is) ∙ ap Some (sym is)
+
+pub refuses : (mac ctr : List ℕ → List ℕ) (ad : Option (List ℕ)) (sealed text tag own : List ℕ) → text ≡ siv_text ctr sealed → tag ≡ take 16 sealed → own ≡ s2v mac ad text → (own ≡ tag → ⊥)
+    → siv_opened mac ctr ad sealed ≡ None
+refuses mac ctr ad sealed text tag own is tag_is own_is differs = closed_is mac ctr ad sealed (λ same. differs (own_is ∙ ap (s2v mac ad) is ∙ same ∙ sym tag_is))
+
 from_opened : (mac ctr : List ℕ → List ℕ) (ad : Option (List ℕ)) (sealed text : List ℕ) → siv_opened mac ctr ad sealed ≡ Some text → (s2v mac ad text ≡ take 16 sealed) × (text ≡ siv_text ctr sealed)
 unfolding siv_opened
 from_opened mac ctr ad sealed text is =
@@ -96,3 +104,16 @@ sealed_is mac ctr ad sealed text makes is =
     let back : counted ctr (s2v mac ad text) text ≡ drop 16 sealed =
     (λ i. counted ctr (opened.0 i) (opened.1 i)) ∙ counted_twice ctr (take 16 sealed) (drop 16 sealed) makes in
     sym (take-append-drop 16 sealed) ∙ (λ i. sym opened.0 i ++ sym back i)
+
+-- where something opens, it was sealed from that text alone; where nothing does, from none
+pub opens_alone : (mac ctr : List ℕ → List ℕ) (ad : Option (List ℕ)) (sealed text other : List ℕ) → MakesBlocks mac → MakesBlocks ctr → siv_opened mac ctr ad sealed ≡ Some text
+    → sealed ≡ siv_sealed mac ctr ad other → text ≡ other
+opens_alone mac ctr ad sealed text other makes makes' here is =
+    let both : Some text ≡ Some other = sym here ∙ ap (siv_opened mac ctr ad) is ∙ opens mac ctr ad other makes makes' in
+    cc
+
+pub never_sealed : (mac ctr : List ℕ → List ℕ) (ad : Option (List ℕ)) (sealed other : List ℕ) → MakesBlocks mac → MakesBlocks ctr → siv_opened mac ctr ad sealed ≡ None
+    → sealed ≡ siv_sealed mac ctr ad other → ⊥
+never_sealed mac ctr ad sealed other makes makes' here is =
+    let both : None ≡ Some other = sym here ∙ ap (siv_opened mac ctr ad) is ∙ opens mac ctr ad other makes makes' in
+    absurd cc

@@ -1,14 +1,13 @@
 -- The length and the bytes of a sealed text.
-use Rattle.std.proofs.Common.{◌≡◌, ℕ, zero, suc, ◌+◌, ◌/◌, ◌%◌, ◌^◌, nat_lt, true, false, List, [], ◌∷◌, ◌++◌, length, Option, if◌then◌else◌, sym, subst, ap, ◌∙◌, arith}
+use Rattle.std.proofs.Common.{◌≡◌, ℕ, zero, suc, ◌+◌, ◌/◌, ◌%◌, ◌^◌, nat_lt, true, false, List, length, Option, if◌then◌else◌, sym, subst, ap, ◌∙◌, arith}
 use Rattle.std.proofs.lemmas.List.{length-append}
 use Rattle.aes_block.specs.Bytes.{AreBytes, MakesBlocks, xor_bytes, bytes_of}
+use Rattle.aes_block.proofs.ByteLemmas.{AreBytes-append, AreBytes-xor, length-xor_bytes}
 use Rattle.siv_mode.specs.Cmac.{doubled, padded, cmac}
 use Rattle.siv_mode.specs.Siv.{mixed, xored_end, s2v, first_counter, keystream, counted, siv_sealed}
-use Rattle.siv_mode.proofs.Xors.{length-xor_bytes}
 use Rattle.siv_mode.specs.Counted.{encrypted_counter}
 use Rattle.siv_mode.proofs.Counters.{keystream-push}
 use Rattle.siv_mode.proofs.Sealing.{length-keystream, length-s2v}
-use Rattle.std.proofs.lemmas.Nat.{xor_lt}
 
 length-counted : (ctr : List ℕ → List ℕ) (tag text : List ℕ) → MakesBlocks ctr → length (counted ctr tag text) ≡ length text
 unfolding counted
@@ -26,15 +25,6 @@ length-siv_sealed mac ctr ad text makes makes' =
     omega (arith, length-append tag (counted ctr tag text), length-s2v mac ad text makes, length-counted ctr tag text makes')
 
 -- ---- bytes
-
-AreBytes-append : (xs ys : List ℕ) → AreBytes xs → AreBytes ys → AreBytes (xs ++ ys)
-AreBytes-append [] ys front back = back
-AreBytes-append (x ∷ xs) ys front back = (front.0, AreBytes-append xs ys front.1 back)
-
-AreBytes-xor_bytes : (xs ys : List ℕ) → AreBytes xs → AreBytes ys → AreBytes (xor_bytes xs ys)
-AreBytes-xor_bytes [] ys h k = tt
-AreBytes-xor_bytes (x ∷ xs) [] h k = tt
-AreBytes-xor_bytes (x ∷ xs) (y ∷ ys) h k = (xor_lt 8 x y h.0 k.0, AreBytes-xor_bytes xs ys h.1 k.1)
 
 AreBytes-keystream : (ctr : List ℕ → List ℕ) (first n : ℕ) → MakesBlocks ctr → AreBytes (keystream ctr first n)
 AreBytes-keystream ctr first zero makes = tt
@@ -60,4 +50,4 @@ unfolding siv_sealed counted
 AreBytes-siv_sealed mac ctr ad text makes makes' are =
     let tag = s2v mac ad text in
     AreBytes-append tag (counted ctr tag text) (AreBytes-s2v mac ad text makes)
-    (AreBytes-xor_bytes text (keystream ctr (first_counter tag) ((length text + 15) / 16)) are (AreBytes-keystream ctr (first_counter tag) ((length text + 15) / 16) makes'))
+    (AreBytes-xor text (keystream ctr (first_counter tag) ((length text + 15) / 16)) are (AreBytes-keystream ctr (first_counter tag) ((length text + 15) / 16) makes'))

@@ -47,6 +47,6 @@ siv_sealed mac ctr ad text = s2v mac ad text ++ counted ctr (s2v mac ad text) te
 abbrev pub siv_text : (List ℕ → List ℕ) → List ℕ → List ℕ
 siv_text ctr sealed = counted ctr (take 16 sealed) (drop 16 sealed)
 
--- the text, accepted exactly where its S2V is the tag that it came with (2.7)
+-- the text, accepted if and only if its S2V is the tag that it came with (2.7)
 unfoldable pub siv_opened : (List ℕ → List ℕ) → (List ℕ → List ℕ) → Option (List ℕ) → List ℕ → Option (List ℕ)
 siv_opened mac ctr ad sealed = if bytes_eq (s2v mac ad (siv_text ctr sealed)) (take 16 sealed) then Some (siv_text ctr sealed) else None

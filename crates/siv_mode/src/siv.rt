@@ -1,5 +1,7 @@
-ghost use Rattle.std.specs.Prelude.{◌≡◌, ◌+◌, ℕ, List, length, replicate, Some, None, IsOk, OnOk, OnErr};
-ghost use Rattle.siv_mode.specs.Siv.{s2v as s2v_of, siv_sealed, siv_opened, ad_of, mixed};
+ghost use Rattle.std.specs.Prelude.{◌≡◌, ◌+◌, ◌<◌, ◌≤◌, ℕ, List, length, replicate, take, Some, None, IsOk, OnOk, OnErr};
+ghost use Rattle.aes_block.specs.Bytes.{xor_bytes};
+ghost use Rattle.siv_mode.specs.Cmac.{cmac as cmac_of, doubled, padded};
+ghost use Rattle.siv_mode.specs.Siv.{s2v as s2v_of, siv_sealed, siv_opened, siv_text, ad_of, mixed, xored_end};
 
 use crate::blocks::{double, pad};
 use crate::keystream::apply_keystream;
@@ -23,19 +25,35 @@ pub fn s2v<K: BlockKey>(key: &K, ad: Option<&[u8]>, text: &[u8]) -> [u8; 16]
 {
     let mixed = mixed_ad(key, ad);
     if text.len() < 16 {
-        let mut last = double(mixed);
-        xor_onto(&mut last, &pad(text));
-        cmac(key, &last)
+        short_s2v(key, mixed, text)
     } else {
-        let (front, back) = text.split_at(text.len() - 16);
-        let mut end = [0; 16];
-        end.copy_from_slice(back);
-        xor_onto(&mut end, &mixed);
-        let mut mac = RunningMac::new();
-        mac.absorb(key, front);
-        mac.absorb(key, &end);
-        mac.finish(key)
+        long_s2v(key, mixed, text)
     }
+}
+
+// The same of D and a text that is shorter than a block.
+fn short_s2v<K: BlockKey>(key: &K, mixed: [u8; 16], text: &[u8]) -> [u8; 16]
+    requires { length text.now < 16 }
+    ensures { result ≡ cmac_of (K.cipher key.now) (xor_bytes (doubled mixed) (padded text.now)) }
+{
+    let mut last = double(mixed);
+    xor_onto(&mut last, &pad(text));
+    cmac(key, &last)
+}
+
+// And of a longer one.
+fn long_s2v<K: BlockKey>(key: &K, mixed: [u8; 16], text: &[u8]) -> [u8; 16]
+    requires { 16 ≤ length text.now }
+    ensures { result ≡ cmac_of (K.cipher key.now) (xored_end text.now mixed) }
+{
+    let (front, back) = text.split_at(text.len() - 16);
+    let mut end = [0; 16];
+    end.copy_from_slice(back);
+    xor_onto(&mut end, &mixed);
+    let mut mac = RunningMac::new();
+    mac.absorb(key, front);
+    mac.absorb(key, &end);
+    mac.finish(key)
 }
 
 // D after the associated string, if there is one (RFC 5297, 2.4).
@@ -94,15 +112,25 @@ pub fn open<K: BlockKey>(
 {
     mac.makes_blocks();
     ctr.makes_blocks();
-    let (front, back) = sealed.split_at(TAG_LEN);
-    let mut tag = [0; TAG_LEN];
-    tag.copy_from_slice(front);
-    out.copy_from_slice(back);
-    apply_keystream(ctr, tag, out);
+    let tag = decrypt(ctr, sealed, out);
     if blocks_equal(&s2v(mac, ad, out), &tag) {
         Ok(())
     } else {
         out.fill(0);
         Err(BadTag)
     }
+}
+
+// Decrypts what is behind the tag of a sealed text, whether it is right or wrong, and returns the tag.
+fn decrypt<K: BlockKey>(ctr: &K, sealed: &[u8], out: &mut [u8]) -> [u8; TAG_LEN]
+    requires { length sealed.now ≡ length out.old + TAG_LEN }
+    ensures tag { result ≡ take TAG_LEN sealed.now }
+    ensures text { out.new ≡ siv_text (K.cipher ctr.now) sealed.now }
+{
+    let (front, back) = sealed.split_at(TAG_LEN);
+    let mut tag = [0; TAG_LEN];
+    tag.copy_from_slice(front);
+    out.copy_from_slice(back);
+    apply_keystream(ctr, tag, out);
+    tag
 }

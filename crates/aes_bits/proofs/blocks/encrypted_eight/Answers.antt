@@ -1,7 +1,8 @@
 use Rattle.std.proofs.Common.{◌≡◌, ℕ, ◌-◌, ◌<◌, List, [], map, get_or, refl, ap, sym, ◌∙◌, arith, lit<}
 use Rattle.aes_block.specs.Aes.{aes}
 use Rattle.aes_bits.specs.Circuit.{HasBlocks, after}
-use Rattle.aes_bits.proofs.States.{eight-blocks, eight-same, first-blocks, last-blocks, next-blocks}
+use Rattle.aes_bits.proofs.SBox.{eight-is}
+use Rattle.aes_bits.proofs.States.{eight-same, first-blocks, last-blocks, next-blocks}
 use Rattle.aes_bits.proofs.Turning.{turned-out}
 use Rattle.aes_bits.proofs.blocks.encrypted_eight.Goals as goal
 
@@ -34,4 +35,4 @@ returns c = λ key are.
     (c.block_of-6.ensures.lanes ∙ out 5 (lit< tt) c.block_of-6.ensures.bytes ∙ done 5 (lit< tt))
     (c.block_of-7.ensures.lanes ∙ out 6 (lit< tt) c.block_of-7.ensures.bytes ∙ done 6 (lit< tt))
     (c.block_of-8.ensures.lanes ∙ out 7 (lit< tt) c.block_of-8.ensures.bytes ∙ done 7 (lit< tt))
-    ∙ ap (map (aes key)) (sym (eight-blocks c.args.blocks.now c.told-blocks))
+    ∙ ap (map (aes key)) (sym (eight-is c.args.blocks.now c.told-blocks))

@@ -15,7 +15,7 @@ returns-in_err-header-clause-bytes g c =
     let within : c.args.slice.at + c.args.slice.count ≤ is.size = is.inside in
     let some : 0 < c.args.slice.count = c.requires.some in
     header_ends _ _ _ _ c.in_err-header.field-0.0
-    (law.closed c.args.keys.now bytes is.size c.args.slice.at c.args.slice.count c.has_key.ensures is.sized (omega arith) c.requires.some)
+    (law.closed c.args.keys.now bytes is.size c.args.slice.at c.args.slice.count c.have_32_bytes.ensures.enc is.sized (omega arith) c.requires.some)
     (opened bytes (record { there = is.there; long = header_within (length bytes) is.size c.args.slice.at is.sized (omega arith) }))))
 
 pub returns-in_err-gather-clause-bytes : goal.returns-in_err-gather-clause-bytes
@@ -25,7 +25,7 @@ returns-in_err-gather-clause-bytes g c =
     let room : length (take (32796 * c.few_chunks-first.result.1) c.args.sealed.now) ≡ 32796 * c.few_chunks-first.result.1 =
     omega (arith, length-take (32796 * c.few_chunks-first.result.1) c.args.sealed.now, c.few_chunks-first.ensures.few, c.requires.sealed) in
     let span = span_is c.args.keys.now c.in_ok-header.header d c.args.path.now c.args.slice.at c.args.slice.count c.few_chunks-first.result.0 c.few_chunks-first.result.1 c.in_ok-read.read _ c.read.new.out bytes
-    c.has_key.ensures c.requires.some opened c.few_chunks-first.ensures.first (rw c.from.ensures at c.few_chunks-first.ensures.chunks) room read is in
+    c.have_32_bytes.ensures.enc c.requires.some opened c.few_chunks-first.ensures.first (rw c.from.ensures at c.few_chunks-first.ensures.chunks) room read is in
     let front : length (take c.args.slice.count c.args.out.now) ≡ c.args.slice.count = omega (arith, length-take c.args.slice.count c.args.out.now, c.requires.room) in
     none_filled c.args.keys.now c.in_ok-header.header c.args.slice.at c.args.slice.count _ _ bytes front span (c.in_err-gather.ensures.damaged c.args.keys.now bytes)))
 
@@ -35,7 +35,7 @@ returns-clause-bytes g c =
     let room : length (take (32796 * c.few_chunks-first.result.1) c.args.sealed.now) ≡ 32796 * c.few_chunks-first.result.1 =
     omega (arith, length-take (32796 * c.few_chunks-first.result.1) c.args.sealed.now, c.few_chunks-first.ensures.few, c.requires.sealed) in
     let span = span_is c.args.keys.now c.in_ok-header.header d c.args.path.now c.args.slice.at c.args.slice.count c.few_chunks-first.result.0 c.few_chunks-first.result.1 c.in_ok-read.read _ c.read.new.out bytes
-    c.has_key.ensures c.requires.some opened c.few_chunks-first.ensures.first (rw c.from.ensures at c.few_chunks-first.ensures.chunks) room read is in
+    c.have_32_bytes.ensures.enc c.requires.some opened c.few_chunks-first.ensures.first (rw c.from.ensures at c.few_chunks-first.ensures.chunks) room read is in
     let front : length (take c.args.slice.count c.args.out.now) ≡ c.args.slice.count = omega (arith, length-take c.args.slice.count c.args.out.now, c.requires.room) in
     front_filled c.args.keys.now c.in_ok-header.header c.args.slice.at c.args.slice.count _ _ bytes c.gather.new.out _ front span (c.in_ok-gather.ensures.opened c.args.keys.now bytes)
     (take_at c.gather.new.out _ c.args.slice.count (c.gather.auto.out ∙ front)))

@@ -1,7 +1,7 @@
 use Rattle.std.proofs.Common.{◌≡◌, ℕ, List, [], length, replicate, get_or, ap, subst, ◌∙◌}
 use Rattle.aes_block.specs.Aes.{aes}
 use Rattle.aes_block.specs.Bytes.{MakesBlocks, number_of}
-use Rattle.gcm_mode.proofs.ByteNumbers.{from_be_bytes_block}
+use Rattle.aes_block.proofs.BlockNumbers.{from_be_bytes_block}
 use Rattle.gcm_mode.proofs.gcm.subkey_of.Goals as goal
 
 pub returns : goal.returns

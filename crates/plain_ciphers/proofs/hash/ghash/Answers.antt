@@ -2,7 +2,7 @@ use Rattle.std.proofs.Common.{◌≡◌, ◌/◌, length, refl, ap, ◌∙◌, a
 use Rattle.std.specs.Int.{w128, to_be_bytes}
 use Rattle.aes_block.specs.Bytes.{bytes_of}
 use Rattle.gcm_mode.specs.Ghash.{ghash, hashed}
-use Rattle.gcm_mode.proofs.ByteNumbers.{to_be_bytes_block}
+use Rattle.aes_block.proofs.BlockNumbers.{to_be_bytes_block}
 use Rattle.plain_ciphers.proofs.hash.ghash.Goals as goal
 
 pub loop-i-init : goal.loop-i-init

@@ -1,7 +1,7 @@
 use Rattle.std.proofs.Common.{◌≡◌, ℕ, ◌+◌, ◌-◌, ◌*◌, ◌^◌, ◌<◌, List, bit_and, length, min, refl, subst, sym, ◌∙◌, arith, rules}
 use Rattle.std.proofs.lemmas.List.{length-take-le}
 use Rattle.siv_mode.specs.Counted.{IsCountedTo}
-use Rattle.siv_mode.proofs.Doubling.{number_of-block}
+use Rattle.aes_block.proofs.BlockNumbers.{from_be_bytes_block}
 use Rattle.siv_mode.proofs.Counters.{counted_all, counter_from}
 use Rattle.siv_mode.proofs.keystream.apply_keystream.Goals as goal
 
@@ -22,5 +22,5 @@ loop-i-preserved g c =
 
 pub returns : goal.returns
 returns g c =
-    let first = c.from_be_bytes-first.ensures ∙ number_of-block c.args.tag (search rules) in
+    let first = c.from_be_bytes-first.ensures ∙ from_be_bytes_block c.args.tag (search rules) in
     counted_all _ _ _ _ _ _ c.loop-i.invariant (rw first refl) (omega (arith, c.div_ceil-i-end.ensures, c.div_ceil-blocks.ensures))

@@ -1,4 +1,4 @@
-use Rattle.std.proofs.Common.{[], arith}
+use Rattle.std.proofs.Common.{arith}
 use Rattle.siv_mode.specs.Siv.{ad_of}
 use Rattle.siv_mode.proofs.Sealing.{s2v_short, s2v_long}
 use Rattle.siv_mode.proofs.siv.s2v.Goals as goal
@@ -11,5 +11,4 @@ returns-then-text-lt16 g c =
 pub returns-else-text-lt16 : goal.returns-else-text-lt16
 returns-else-text-lt16 g c =
     let long = s2v_long (g.K.BlockKey.cipher c.args.key.now) (ad_of c.args.ad) c.args.text.now (omega arith) in
-    let all = c.finish.ensures _ (c.absorb-else-text-lt16.ensures _ (c.absorb.ensures [] (c.new-mac.ensures (g.K.BlockKey.cipher c.args.key.now)))) in
     cc
