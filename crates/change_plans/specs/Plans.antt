@@ -13,7 +13,7 @@ use Rattle.change_plans.specs.declared.planning.Plan.{Plan}
 use Rattle.change_plans.specs.declared.planning.Plan.TheVariants.{Rename, Resize, Date}
 use Rattle.change_plans.specs.Files.{IsResizable}
 
--- The contents of a tree's files and links are what the sizes of their host files tell: as long, and none exactly where no content has
+-- The contents of a tree's files and links are what the sizes of their host files tell: as long, and none if and only if no content has
 -- that size.
 pub record HaveSizes (live : HeldTree) (contents : ℕ → Content) : Type 0 where
   pub lengths : AreSizes live contents

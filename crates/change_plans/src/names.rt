@@ -1,11 +1,10 @@
-ghost use Rattle.std.specs.Prelude.{◌≡◌, ◌==◌, ◌||◌, IfOk};
-ghost use Rattle.std.specs.List.{list_any};
+ghost use Rattle.std.specs.Prelude.{◌≡◌, IfOk};
 ghost use Rattle.tree_model.specs.Names.{clear_name};
 ghost use Rattle.tree_model.specs.Step.{raw_name_refusal};
 ghost use Rattle.change_plans.specs.Deciding.{has_name, name_or_refusal};
 
 use live_tree::LiveNode;
-use name_cipher::{Name, clear_name};
+use name_cipher::{Name, check_form, clear_name};
 use nfc_text::nfc;
 use std::alloc::{AllocError, Global};
 use tree_answers::name_refusal;
@@ -23,18 +22,10 @@ pub(crate) fn has_name(alloc: Global, node: &LiveNode, name: &str) -> Result<boo
 pub(crate) fn raw_name_refusal(name: &str) -> Option<Refusal>
     ensures { result ≡ raw_name_refusal name.now }
 {
-    if name.is_empty() || name == "." || name == ".." || holds_forbidden(name) {
-        Some(Refusal::BadName)
-    } else {
-        None
+    match check_form(name) {
+        Ok(()) => None,
+        Err(_) => Some(Refusal::BadName),
     }
-}
-
-// Whether a name holds `/` or NUL.
-fn holds_forbidden(name: &str) -> bool
-    ensures { result ≡ list_any (λ b. (b == 47) || (b == 0)) name.now }
-{
-    name.bytes().any(|byte| byte == b'/' || byte == 0)
 }
 
 /// The clear name that a text stands for, or what refuses the text.

@@ -1,5 +1,5 @@
 -- A commit with the making of the first journal before it.
-use Rattle.std.proofs.Common.{◌≡◌, ◌≢◌, ℕ, ◌<◌, List, [], ◌∷◌, get_or, Option, Some, None, refl, sym, ap, subst, ◌∙◌, inl, inr, arith}
+use Rattle.std.proofs.Common.{◌≡◌, ℕ, ◌<◌, List, [], ◌∷◌, Option, Some, None, refl, sym, ap, subst, ◌∙◌, inl, inr, arith}
 use Rattle.std.specs.Option.{option_map}
 use Rattle.outside.specs.Disk.{Disk, Node, folder, file, node_at, kind_at, kind_of, IsFolder}
 use Rattle.outside.specs.declared.folder.Kind.TheVariants.{File}
@@ -8,7 +8,7 @@ use Rattle.outside.proofs.Moments.{started, weaker, joined}
 use Rattle.deeds.specs.Deeds.{PlainDeed, DoesAll, in_order}
 use Rattle.deeds.proofs.Frame.{framed, lone}
 use Rattle.deeds.proofs.Phases.{unnamed_ordered}
-use Rattle.chunk_journal.specs.Journal.{journal_file, new_file, journal_name, new_name, IsClosed, IsAlike, IsBeforeOrAfter, IsQuiet, IsReady, IsRepeatable, RecoversLike, StaysShut, AnyMoment, HasCommitted}
+use Rattle.chunk_journal.specs.Journal.{journal_file, new_file, journal_name, new_name, IsClosed, IsAlike, IsBeforeOrAfter, IsQuiet, IsRepeatable, RecoversLike, StaysShut, AnyMoment, HasCommitted}
 use Rattle.chunk_journal.specs.Stages.{HasGate}
 
 -- a file that isn't empty has a gate
@@ -20,13 +20,6 @@ gate_of (Some (file (gate ∷ rest))) len is some = (gate, rest, refl)
 
 pub found_gate : (d : Disk) (len : ℕ) → Some (File len) ≡ kind_at d journal_file → 0 < len → HasGate d
 found_gate d len is some = gate_of (node_at d journal_file) len (sym is) some
-
-closed_gate : (d : Disk) (gate : ℕ) (rest : List ℕ) → node_at d journal_file ≡ Some (file (gate ∷ rest)) → IsClosed d → gate ≢ 1
-closed_gate d gate rest here (inl none) = λ is. (let e : Some (file (gate ∷ rest)) ≡ None = sym here ∙ none in cc)
-closed_gate d gate rest here (inr f) = λ is. f.2 (let e : Some (file f.0) ≡ Some (file (gate ∷ rest)) = sym f.1 ∙ here in let same : f.0 ≡ gate ∷ rest = cc in ap (λ (l : List ℕ). get_or l 0 0) same ∙ is)
-
-pub quiet_ready : (log : Log) → IsQuiet log → HasGate (now log) → IsReady log
-quiet_ready log quiet has = record { steady = quiet.steady; gate = has.0; rest = has.1; here = has.2; shut = closed_gate (now log) has.0 has.1 has.2 quiet.closed; no_folder = quiet.no_folder }
 
 pub quiet_stays : (log : Log) → IsQuiet log → StaysShut log log
 quiet_stays log quiet = started log (RecoversLike (now log)) (λ c image.

@@ -7,8 +7,7 @@ use Rattle.std.proofs.lemmas.Nat.{be_bytes_8, from_be_bytes-to_be_bytes_4, from_
 use Rattle.std.proofs.lemmas.List.{take-append-drop, take-append-le, take_at, get_or-take, get_or_past}
 use Rattle.std.proofs.lemmas.Bool.{cases_lt}
 use Rattle.outside.specs.Disk.{Disk, Path, Node, folder, file, node_at, kind_of, IsFolder}
-use Rattle.outside.specs.declared.folder.Kind.{Kind}
-use Rattle.outside.specs.declared.folder.Kind.TheVariants.{Dir, File}
+use Rattle.outside.specs.declared.folder.Kind.TheVariants.{File}
 use Rattle.deeds.specs.Deeds.{PlainDeed, DoesAll, IsRefusedAt, in_order}
 use Rattle.deeds.specs.Grammar.{spelled, spelled_deed, spelled_deeds, behind_gate, IsDeed, IsBatch, IsBadAt, count_of}
 use Rattle.deeds.specs.Reading.{deed_at}
@@ -19,15 +18,7 @@ use Rattle.chunk_journal.specs.Journal.{journal_file, new_file, HoldsBatch, IsCl
 use Rattle.chunk_journal.specs.Opening.{said_len, batch_bytes, IsShort, HasFolder, Says, IsCutAt, IsUnreadAt, IsUnfitAt, IsBadBehindGate, IsDamagedAt}
 use Rattle.chunk_journal.proofs.Gate.{one_held}
 
--- ---- what stands at a path, by its kind
-
-some_kind : {k l : Kind} → Some k ≡ Some l → k ≡ l
-some_kind e = cc
-
-dir_of : (o : Option Node) → option_map kind_of o ≡ Some Dir → o ≡ Some folder
-dir_of None is = absurd cc
-dir_of (Some folder) is = refl
-dir_of (Some (file bytes)) is = absurd (let e : Some (File (length bytes)) ≡ Some Dir = is in cc)
+-- ---- what is at a path, by its kind
 
 file_of : (o : Option Node) (len : ℕ) → option_map kind_of o ≡ Some (File len) → (bytes : List ℕ) × (o ≡ Some (file bytes)) × (length bytes ≡ len)
 file_of None len is = absurd cc

@@ -8,10 +8,10 @@ use Rattle.outside.specs.Images.{Log, now, LeavesOnly, IsSteady, HasKept}
 use Rattle.outside.proofs.Paths.{set_here, set_there}
 use Rattle.outside.proofs.Moments.{weaker, joined}
 use Rattle.outside.proofs.Told.{through}
-use Rattle.outside.proofs.Told.{changed_from}
+use Rattle.outside.proofs.Told.{both_changed, changed_from}
 use Rattle.deeds.proofs.Again.{at_disk}
 use Rattle.chunk_journal.specs.Journal.{journal_file, new_file, IsClosed, IsAlike, IsReady, RecoversLike, IsQuiet, StaysShut}
-use Rattle.chunk_journal.proofs.Gate.{files_apart, both}
+use Rattle.chunk_journal.proofs.Gate.{files_apart}
 
 pub record HasNew (old new : Log) : Type 0 where
   pub at_start : IsQuiet old
@@ -119,7 +119,7 @@ module _ (beside : Path) (is_new : beside ≡ new_file) where
 
   pub told_has_new : (a b : Option Log) → Told a IsQuiet → Changes a b (HasKept (Put beside (0 ∷ []))) → Changes a b (PutParts beside) → Changes a b HasNew
   told_has_new a b shut kept parts = changed_from a b IsQuiet (λ x y. HasKept (Put new_file (0 ∷ [])) x y × PutParts new_file x y) HasNew (λ x y s p. has_new x y s p.0 p.1) shut
-      (both a b (HasKept (Put new_file (0 ∷ []))) (PutParts new_file) (subst (λ (n : Path). Changes a b (HasKept (Put n (0 ∷ [])))) is_new kept) (subst (λ (n : Path). Changes a b (PutParts n)) is_new parts))
+      (both_changed a b (HasKept (Put new_file (0 ∷ []))) (PutParts new_file) (subst (λ (n : Path). Changes a b (HasKept (Put n (0 ∷ [])))) is_new kept) (subst (λ (n : Path). Changes a b (PutParts n)) is_new parts))
 
   module _ (path : Path) (is_path : path ≡ journal_file) where
     pub told_move_leaves : (a b c : Option Log) → Changes a b HasNew → Changes b c (MoveParts beside path) → Changes a c StaysShut

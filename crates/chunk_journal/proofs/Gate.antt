@@ -1,5 +1,5 @@
 -- What a stop leaves of the journal in each stage of a commit.
-use Rattle.std.proofs.Common.{◌≡◌, ◌≢◌, ⊎_elim, ℕ, List, [], ◌∷◌, ◌++◌, length, take, drop, get_or, Option, Some, None, refl, sym, ap, subst, ◌∙◌, inl, inr, arith}
+use Rattle.std.proofs.Common.{◌≡◌, ◌≢◌, ⊎_elim, ℕ, List, [], ◌∷◌, ◌++◌, length, drop, get_or, Option, Some, None, refl, sym, ap, subst, ◌∙◌, inl, inr, arith}
 use Rattle.std.proofs.lemmas.Bool.{cases_eq}
 use Rattle.outside.specs.Disk.{Disk, Path, Node, folder, file, node_at, IsFolder}
 use Rattle.std.proofs.Common.{Err}
@@ -16,7 +16,7 @@ use Rattle.outside.specs.Images.{Log, now, LeavesOnly, IsSteady, HasKept}
 use Rattle.outside.proofs.Paths.{by_path, set_here, set_there, same_disk}
 use Rattle.outside.specs.Calls.{Told, Changes}
 use Rattle.outside.proofs.Told.{through}
-use Rattle.outside.proofs.Told.{changed_from}
+use Rattle.outside.proofs.Told.{both_changed, changed_from}
 use Rattle.outside.proofs.Moments.{weaker, joined}
 use Rattle.deeds.specs.Deeds.{PlainDeed, DoesAll, AreApart, Unnamed, IsAmid, StaysAmid, IsSameDisk}
 use Rattle.deeds.proofs.Again.{at_disk, again_amid}
@@ -57,11 +57,6 @@ rewritten at bytes was old new is (inr (inr set)) = record {
   rest = λ q ne. at_disk q set.2 ∙ set_there old journal_file set.0 q ne;
 }
 
--- the gate stays closed where the write is behind it
-pub still_closed : (gate : ℕ) (now rest : List ℕ) → gate ≢ 1 → take 1 now ≡ take 1 (gate ∷ rest) → get_or now 0 0 ≢ 1
-still_closed gate [] rest shut e = λ h. (cc)
-still_closed gate (x ∷ xs) rest shut e = λ h. shut (let same : x ≡ gate = cc in sym same ∙ h)
-
 -- a write of the gate leaves what stands behind it
 gate_torn : (new : ℕ) (old : ℕ) (tail now : List ℕ) → IsTorn 0 (length (new ∷ [])) (old ∷ tail) now → (gate : ℕ) × (now ≡ gate ∷ tail)
 gate_torn new old tail [] torn = absurd (omega (arith, torn.no_shorter))
@@ -77,12 +72,6 @@ written_there at bytes d q ne = set_there d journal_file (in_file (λ old. overw
 
 is_no_folder : (o : Option Node) (bytes : List ℕ) → o ≡ Some (file bytes) → o ≡ Some folder → ⊥
 is_no_folder o bytes f is = let e : Some (file bytes) ≡ Some folder = sym f ∙ is in cc
-
-pub both : {X : Type 0} (a b : Option X) (P Q : X → X → Type 0) → Changes a b P → Changes a b Q → Changes a b (λ x y. P x y × Q x y)
-both None None P Q p q = tt
-both None (Some y) P Q p q = absurd p
-both (Some x) None P Q p q = absurd p
-both (Some x) (Some y) P Q p q = (p, q)
 
 pub with_old : {X : Type 0} (a b : Option X) (P : X → X → Type 0) (T : X → Type 0) → Changes a b P → Told a T → Changes a b (λ x y. P x y × T x)
 with_old None None P T p t = tt
@@ -281,21 +270,21 @@ module _ (bs : List PlainDeed) (batch : IsBatch bs) (repeatable : IsRepeatable b
     told_staged_leaves a b ready keeps = changed_from a b IsReady KeepsShut (AnyMoment bs) staged_leaves ready keeps
 
     pub told_staged : (a b : Option Log) → Told a IsReady → Changes a b KeepsShut → Changes a b (HasStaged bs) → Changes a b IsStaged
-    told_staged a b ready keeps has = changed_from a b IsReady (λ x y. KeepsShut x y × HasStaged bs x y) IsStaged (λ x y r p. staged x y r p.0 p.1) ready (both a b KeepsShut (HasStaged bs) keeps has)
+    told_staged a b ready keeps has = changed_from a b IsReady (λ x y. KeepsShut x y × HasStaged bs x y) IsStaged (λ x y r p. staged x y r p.0 p.1) ready (both_changed a b KeepsShut (HasStaged bs) keeps has)
 
     pub told_gate_leaves : (a b c : Option Log) → Changes a b IsStaged → Changes b c (LeavesParts path 0 (1 ∷ [])) → Changes a c (AnyMoment bs)
     told_gate_leaves a b c stage parts = through a b c IsStaged (LeavesParts journal_file 0 (1 ∷ [])) (AnyMoment bs) gate_leaves stage (parts_here 0 (1 ∷ []) b c parts)
 
     pub told_opened : (a b c : Option Log) → Changes a b IsStaged → Changes b c (HasKept (Write path 0 (1 ∷ []))) → Changes b c (LeavesParts path 0 (1 ∷ [])) → Changes a c IsOpened
     told_opened a b c stage kept parts = through a b c IsStaged (λ x y. HasKept (Write journal_file 0 (1 ∷ [])) x y × LeavesParts journal_file 0 (1 ∷ []) x y) IsOpened (λ x y z s p. opened x y z s p.0 p.1) stage
-        (both b c (HasKept (Write journal_file 0 (1 ∷ []))) (LeavesParts journal_file 0 (1 ∷ [])) (kept_here 0 (1 ∷ []) b c kept) (parts_here 0 (1 ∷ []) b c parts))
+        (both_changed b c (HasKept (Write journal_file 0 (1 ∷ []))) (LeavesParts journal_file 0 (1 ∷ [])) (kept_here 0 (1 ∷ []) b c kept) (parts_here 0 (1 ∷ []) b c parts))
 
     pub told_deeds_leave : (a b c : Option Log) → Changes a b IsOpened → Changes b c (StaysAmid ds) → Changes a c (AnyMoment bs)
     told_deeds_leave a b c open_gate stays = through a b c IsOpened (StaysAmid ds) (AnyMoment bs) deeds_leave open_gate stays
 
     pub told_done : (a b c : Option Log) → Changes a b IsOpened → Changes b c (StaysAmid ds) → Changes b c (λ x y. IsSteady y × DoesAll ds (now x) (now y)) → Changes a c AreDone
     told_done a b c open_gate stays done = through a b c IsOpened (λ x y. StaysAmid ds x y × (IsSteady y × DoesAll ds (now x) (now y))) AreDone (λ x y z o p. deeds_done x y z o p.0 p.1) open_gate
-        (both b c (StaysAmid ds) (λ x y. IsSteady y × DoesAll ds (now x) (now y)) stays done)
+        (both_changed b c (StaysAmid ds) (λ x y. IsSteady y × DoesAll ds (now x) (now y)) stays done)
 
     pub told_close_leaves : (a b c : Option Log) → Changes a b AreDone → Changes b c (LeavesParts path 0 (0 ∷ [])) → Changes a c (AnyMoment bs)
     told_close_leaves a b c all parts = through a b c AreDone (LeavesParts journal_file 0 (0 ∷ [])) (AnyMoment bs) close_leaves all (parts_here 0 (0 ∷ []) b c parts)
@@ -339,9 +328,6 @@ module _ (bs : List PlainDeed) (batch : IsBatch bs) (repeatable : IsRepeatable b
         again = again_amid ds (now old) (now new) (now new) done.1 done.0.tree apart all.0;
       }
 
-  pub can_shut : (old new : Log) → AreRedone old new → CanDo (Write journal_file 0 (0 ∷ [])) (now new)
-  can_shut old new all = (1 ∷ (behind_gate bs ++ all.rest), all.here, omega arith)
-
   part_shut : (old mid : Log) (after c : Disk) → AreRedone old mid → DoesAll ds (now old) after → IsPartOf (Write journal_file 0 (0 ∷ [])) (now mid) c → RecoversLike after c
   part_shut old mid after c all run part =
       let tail = behind_gate bs ++ all.rest in
@@ -368,20 +354,6 @@ module _ (bs : List PlainDeed) (batch : IsBatch bs) (repeatable : IsRepeatable b
     };
     after = λ after run. λ q ne nm. at_disk q kept.is ∙ written_there 0 (0 ∷ []) (now mid) q ne ∙ at_disk q (all.after after run);
   }
-
-  module _ (path : Path) (is_path : path ≡ journal_file) where
-    pub told_found_leaves : (a b : Option Log) → Told a (IsFound bs) → Changes a b (StaysAmid ds) → Changes a b (StaysRecovered bs)
-    told_found_leaves a b found stays = changed_from a b (IsFound bs) (StaysAmid ds) (StaysRecovered bs) found_leaves found stays
-
-    pub told_redone : (a b : Option Log) → Told a (IsFound bs) → Changes a b (StaysAmid ds) → Changes a b (λ x y. IsSteady y × DoesAll ds (now x) (now y)) → Changes a b AreRedone
-    told_redone a b found stays done = changed_from a b (IsFound bs) (λ x y. StaysAmid ds x y × (IsSteady y × DoesAll ds (now x) (now y))) AreRedone (λ x y f p. redone x y f p.0 p.1) found
-        (both a b (StaysAmid ds) (λ x y. IsSteady y × DoesAll ds (now x) (now y)) stays done)
-
-    pub told_shut_leaves : (a b c : Option Log) → Changes a b AreRedone → Changes b c (LeavesParts path 0 (0 ∷ [])) → Changes a c (StaysRecovered bs)
-    told_shut_leaves a b c all parts = through a b c AreRedone (LeavesParts journal_file 0 (0 ∷ [])) (StaysRecovered bs) shut_leaves all (parts_here path is_path 0 (0 ∷ []) b c parts)
-
-    pub told_recovered : (a b c : Option Log) → Changes a b AreRedone → Changes b c (HasKept (Write path 0 (0 ∷ []))) → Changes a c (HasRecovered bs)
-    told_recovered a b c all kept = through a b c AreRedone (HasKept (Write journal_file 0 (0 ∷ []))) (HasRecovered bs) recovered all (kept_here path is_path 0 (0 ∷ []) b c kept)
 
 -- a disk holds one batch alone
 pub one_held : (disk : Disk) (a b : List PlainDeed) → HoldsBatch disk a → HoldsBatch disk b → a ≡ b

@@ -1,12 +1,11 @@
 -- What an opening leaves at each moment.
-use Rattle.std.proofs.Common.{◌≡◌, ◌≢◌, ◌⊎◌, ℕ, ◌+◌, List, [], ◌∷◌, length, take, drop, true, false, is_some, Option, Some, None, refl, sym, ap, subst, ◌∙◌, inl, inr, arith}
+use Rattle.std.proofs.Common.{◌≡◌, ◌≢◌, ◌⊎◌, ℕ, List, [], ◌∷◌, drop, true, false, is_some, Option, Some, None, refl, sym, ap, subst, ◌∙◌, inl, inr}
 use Rattle.outside.specs.Disk.{Disk, Path, node_at}
 use Rattle.outside.specs.Calls.{Told, Changes}
-use Rattle.outside.specs.Changes.{Write, CanDo}
+use Rattle.outside.specs.Changes.{Write}
 use Rattle.outside.specs.Images.{Log, Synced, adds, now, IsImage, IsSteady, HasKept, LeavesOnly}
 use Rattle.outside.proofs.Moments.{started}
-use Rattle.deeds.specs.Deeds.{PlainDeed, DoesAll, IsRefusedAt, in_order}
-use Rattle.deeds.specs.Grammar.{spelled_deeds}
+use Rattle.deeds.specs.Deeds.{PlainDeed, DoesAll, in_order}
 use Rattle.deeds.proofs.Again.{at_disk}
 use Rattle.chunk_journal.specs.declared.fault.JournalErr.{JournalErr}
 use Rattle.chunk_journal.specs.declared.fault.JournalErr.TheVariants.{Device, JournalDamaged, Memory}
@@ -30,9 +29,6 @@ damaged_by Memory P Q f p = tt
 
 -- ---- closing
 
-pub can_shut_gate : (d : Disk) (len : ℕ) → HasLen (Some len) d → CanDo (Write journal_file 0 (0 ∷ [])) d
-can_shut_gate d len has = (has.0.0, has.0.1, omega arith)
-
 -- what closing leaves beside the journal
 abbrev pub ClosesBeside : Log → Log → Type 0
 ClosesBeside old new = IsQuiet new × ((q : Path) → q ≢ journal_file → node_at (now new) q ≡ node_at (now old) q)
@@ -49,9 +45,6 @@ shut_closes len old new has kept =
       there,
     )
 
-pub none_closes : (old : Log) → IsSteady old → HasLen None (now old) → ClosesBeside old old
-none_closes old steady has = (record { steady = steady; closed = inl has.0; no_folder = λ is. has.1 (inr is) }, λ q ne. refl)
-
 -- ---- the batch of an open gate
 
 abbrev pub HasRedone : List PlainDeed → Log → Log → Type 0
@@ -59,9 +52,6 @@ HasRedone bs old new = IsQuiet new × ((after : Disk) × DoesAll (in_order bs) (
 
 pub redone_all : (bs : List PlainDeed) (old mid new : Log) → IsSteady mid × DoesAll (in_order bs) (now old) (now mid) → ClosesBeside mid new → HasRedone bs old new
 redone_all bs old mid new did closes = (closes.0, (now mid, did.1, λ q ne nm. closes.1 q ne))
-
-pub unfit_at : (bs : List PlainDeed) (at : ℕ) (log : Log) → IsFound bs log → (index : ℕ) × IsRefusedAt bs index (now log) × (at ≡ 13 + length (spelled_deeds (take index bs))) → IsUnfitAt (now log) at
-unfit_at bs at log found refused = record { deeds = bs; held = found.open_gate; index = refused.0; refused = refused.1; place = refused.2 }
 
 pub leaves_folder : (bs : List PlainDeed) (at : ℕ) (old mid : Log) → IsFound bs old → IsSteady mid × DoesAll (in_order bs) (now old) (now mid) → HasFolder (now mid) × (at ≡ 0) → LeavesFolder (now old) at
 leaves_folder bs at old mid found did folder = record { deeds = bs; held = found.open_gate; after = now mid; run = did.1; folder = folder.0; place = folder.1 }

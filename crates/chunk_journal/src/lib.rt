@@ -11,6 +11,8 @@
 //! exactly as 0x01. A commit puts the batch behind the closed gate, opens the gate, does the deeds phase by phase and closes
 //! the gate, with a sync after each. The first journal is made at `served.journal.new` and moved to its place. Opening does
 //! what is left of an open gate's batch, or says at which byte the journal is damaged.
+//!
+//! Laws: `recovering_is_undamaged`, `recovering_is_unique` and `opening_stays_found`, which do nothing.
 #![tactic(auto)]
 
 mod fault;
@@ -34,19 +36,19 @@ pub use fault::{Device, JournalErr};
 pub use journal::Journal;
 
 /// What recovers to a disk, with no folder where the first journal is made, isn't damaged: so no stop of a commit or of an
-/// opening leaves a damaged journal.
+/// opening leaves a damaged journal. It does nothing.
 pub fn recovering_is_undamaged()
     ensures { (image disk : Disk) (at : ℕ) → RecoversTo image disk → (IsFolder image new_file → ⊥) → IsDamagedAt image at → ⊥ }
 {}
 
-/// An image holds one batch alone, and recovers to one disk alone.
+/// An image holds one batch alone, and recovers to one disk alone. It does nothing.
 pub fn recovering_is_unique()
     ensures batch { (disk : Disk) (one other : List PlainDeed) → HoldsBatch disk one → HoldsBatch disk other → one ≡ other }
     ensures disk { (image one other : Disk) → RecoversTo image one → RecoversTo image other → one ≡ other }
 {}
 
 /// Where the disk that an opening finds is reopenable, each image since its first sync recovers to what that disk recovers to,
-/// and the calls go on from there; where it ended well, what reads give is that.
+/// and the calls go on from there; where it ended well, what reads give is that. It does nothing.
 pub fn opening_stays_found()
     ensures stays { (old new : Log) → StaysOpening old new → IsReopenable (now old) → StaysFound old new }
     ensures later { (old new : Log) (found : Disk) → IsOpening old new → IsReopenable (now old) → RecoversTo (now old) found

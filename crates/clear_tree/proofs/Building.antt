@@ -12,7 +12,7 @@ use Rattle.std.proofs.lemmas.Option.{slice_get-get_or, slice_get_within, slice_g
 use Rattle.vault_path.specs.Parts.{is_part}
 use Rattle.tree_model.specs.Rows.{root}
 use Rattle.clear_tree.specs.Kept.{KeptNode, KeptTree, folder_in, node_of, parent_folder, IsChild, IsNamed, IsBehind, IsNext, IsNoNext, IsTree}
-use Rattle.clear_tree.specs.Built.{Place, place_of, place_cmp, is_past, AreInOrder, HasParent, AreKept, FitsBehind, marked_node, marked_at, with_foreign, root_node}
+use Rattle.clear_tree.specs.Built.{Place, place_of, place_cmp, is_past, AreInOrder, HasParent, AreKept, FitsBehind, marked_node, marked_at, with_foreign}
 use Rattle.clear_tree.proofs.Order.{place_total, before, beside, behind, by_place}
 
 abbrev pub tree_of : KeptNode → List KeptNode → Bool → KeptTree
@@ -63,30 +63,7 @@ module _ (first : KeptNode) (others : List KeptNode) (twice : Bool) (kept : AreK
     names = one_name;
   }
 
-  root_folder_is : (node : KeptNode) → first ≡ node → folder_in node.what ≡ None → ⊥
-  root_folder_is node same none =
-      let has : IsSome (folder_in node.what) = subst (λ (n : KeptNode). IsSome (folder_in n.what)) same kept.folder in
-      let lacks : IsSome {T = List ℕ} None = subst IsSome none has in
-      absurd cc
-
-  -- what isn't a directory has an entry that can be a part of a path
-  pub leaf_entry : (number : ℕ) (node : KeptNode) → node_of (tree_of first others twice) number ≡ Some node → folder_in node.what ≡ None → IsTrue (is_part node.entry)
-  leaf_entry zero node is none = absurd (root_folder_is node (same_Some first node is) none)
-  leaf_entry (suc index) node is none = kept.entries index node is
-
   -- ---- a name that was looked for
-
-  pub named_is : (parent : ℕ) (name : List ℕ) (index : ℕ) (node : KeptNode) → slice_get others index ≡ Some node → place_of node ≡ (parent, name)
-      → IsNamed (tree_of first others twice) parent name (index + 1)
-  named_is parent name index node is same = record {
-    node = node;
-    child = record {
-      there = rw add-one is;
-      below = λ e. absurd (omega arith);
-      inside = ap (λ (p : Place). p.0) same;
-    };
-    named = ap (λ (p : Place). p.1) same;
-  }
 
   pub named_none : (parent : ℕ) (name : List ℕ) → ((index : ℕ) (node : KeptNode) → slice_get others index ≡ Some node → place_of node ≢ (parent, name))
       → (number : ℕ) → IsNamed (tree_of first others twice) parent name number → ⊥
@@ -348,17 +325,6 @@ pub mark_is_set : (xs : List KeptNode) (i : ℕ) (foreign : Bool) (x : KeptNode)
 mark_is_set [] i foreign x is = absurd cc
 mark_is_set (y ∷ xs) zero foreign x is = ap (λ (n : KeptNode). marked_node foreign n ∷ xs) (sym (same_Some y x is))
 mark_is_set (y ∷ xs) (suc i) foreign x is = ap (λ (l : List KeptNode). y ∷ l) (mark_is_set xs i foreign x is)
-
--- ---- the root alone
-
-pub root_is_kept : (folder : List ℕ) → AreKept (root_node folder) []
-root_is_kept folder = record {
-  own = refl;
-  folder = refl;
-  ordered = λ i j a b low at_i at_j. absurd cc;
-  parents = λ index node is. absurd cc;
-  entries = λ index node is. absurd cc;
-}
 
 -- a node that was written over with its mark
 pub written_is : (xs : List KeptNode) (i : ℕ) (foreign : Bool) (x new : KeptNode) → slice_get xs i ≡ Some x → new ≡ marked_node foreign x

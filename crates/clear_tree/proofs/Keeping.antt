@@ -174,11 +174,7 @@ module _ (s : Sealing) (d : Disk) (nodes : rows.Nodes) (marks : Marks) where
 
 -- ---- host files
 
-map_some : {A B : Type 0} (f : A → B) (o : Option A) (y : B) → option_map f o ≡ Some y → (x : A) × (o ≡ Some x) × (f x ≡ y)
-map_some f None y h = absurd (cc)
-map_some f (Some x) y h = (x, refl, cc)
-
--- what stands at the path of a number's host file
+-- what is at the path of a number's host file
 record Stands (s : Sealing) (d : Disk) (tree : KeptTree) (es : List Entry) (number : ℕ) (path : List (List ℕ)) : Type 0 where
   bytes : List ℕ
   there : thing_at d path ≡ Some (host_file bytes)

@@ -1,12 +1,12 @@
 -- One file or link made, removed or replaced.
-use Rattle.std.proofs.Common.{◌≡◌, ◌≢◌, ℕ, true, false, cond, List, [], ◌∷◌, Option, Some, None, bytes_eq, ◌&&◌, refl, sym, ap, ap₂, ◌∙◌, inl, inr, ◌⊎◌}
+use Rattle.std.proofs.Common.{◌≡◌, ◌≢◌, ℕ, true, false, cond, List, [], ◌∷◌, Option, Some, None, bytes_eq, ◌&&◌, refl, sym, ap, ◌∙◌, inl, inr, ◌⊎◌}
 use Rattle.std.specs.Map.{update}
 use Rattle.std.proofs.lemmas.Bool.{cond-true, cond-false, and_from, and_parts, cases_Bool}
 use Rattle.clear_tree.specs.Walk.{Path, same_path, Sealing, Kind, Folders, Node, Dir, is_name, look, node, node_at, claimed, IsOwner, Plain, Named, Linked, Bare, ChangedAt, ChangedTwo}
 use Rattle.std.proofs.lemmas.Slice.Eq.{bytes_eq-Decides}
-use Rattle.clear_tree.proofs.Paths.{path_cases, bytes_same, same_path-apart, child_apart}
+use Rattle.clear_tree.proofs.Paths.{path_cases, bytes_same}
 use Rattle.clear_tree.proofs.Change.{one_change}
-use Rattle.clear_tree.proofs.Owner.{look_same, below_leaf, same_owner, child_at}
+use Rattle.clear_tree.proofs.Owner.{look_same, below_leaf, same_owner}
 
 -- the node of an entry depends on the folders that are there and on the owners
 pub node_same : (s : Sealing) (v v' : Folders) (o : List ℕ → Path) (p : Path) (e : Option Kind) →
@@ -69,54 +69,9 @@ module _ (s : Sealing) (v v' : Folders) (o : List ℕ → Path) (n k i : List �
   first_change : ChangedAt v between (s.folder_of i) (s.seal i n)
   first_change = record { others = rest }
 
-  -- the old place is empty in both of the later ones
-  second_change : ChangedAt between v' (s.folder_of i) (s.seal i k)
-  second_change = record { others = λ g t ne. go g t ne (path_cases (g ∷ t ∷ []) (s.folder_of i ∷ s.seal i n ∷ [])) }
-    where
-      go : (g t : List ℕ) → (g ≡ s.folder_of i → t ≡ s.seal i k → ⊥) →
-          ((same_path (g ∷ t ∷ []) (s.folder_of i ∷ s.seal i n ∷ []) ≡ true) × (g ∷ t ∷ [] ≡ s.folder_of i ∷ s.seal i n ∷ [])) ⊎
-          ((same_path (g ∷ t ∷ []) (s.folder_of i ∷ s.seal i n ∷ []) ≡ false) × (g ∷ t ∷ [] ≢ s.folder_of i ∷ s.seal i n ∷ [])) →
-          v'.seen g t ≡ between.seen g t
-      go g t ne (inl (b, is)) =
-          let a : g ≡ s.folder_of i = cc in
-          let c : t ≡ s.seal i n = cc in
-          ap₂ v'.seen a c ∙ gone ∙ sym away ∙ sym (ap₂ between.seen a c)
-      go g t ne (inr (b, differ)) =
-          let far : g ≡ s.folder_of i → t ≡ s.seal i n → ⊥ = λ a c. differ (ap₂ (λ (x y : List ℕ). x ∷ y ∷ []) a c) in
-          changed.others g t far ne ∙ sym (rest g t far)
-
   no_node : node s between o (n ∷ p) (look s between i n) ≡ None
   no_node = ap (node s between o (n ∷ p)) (cond-true (is_name n (s.open_name i (s.seal i n))) _ _ named ∙ away)
 
   middle : (q : Path) → node_at s between o q ≡ update same_path (node_at s v o) (n ∷ p) None q
   middle q = change_leaf s v between o n i p own at_p named first_change (λ g. refl) before (ap (claimed s) no_node) q
       ∙ ap (λ (x : Option Node). update same_path (node_at s v o) (n ∷ p) x q) no_node
-
-  middle_owner : IsOwner s between o
-  middle_owner = leaf_owner s v between o n i p own at_p named first_change (λ g. refl) before (ap (claimed s) no_node)
-
-  middle_p : node_at s between o p ≡ Some (Dir i)
-  middle_p = middle p ∙ cond-false (same_path (n ∷ p) p) None (node_at s v o p) (same_path-apart (n ∷ p) p (child_apart n p)) ∙ at_p
-
-  place_free : between.seen (s.folder_of i) (s.seal i k) ≡ None
-  place_free = go (cases_Bool (bytes_eq (s.folder_of i) (s.folder_of i) && bytes_eq (s.seal i k) (s.seal i n)))
-    where
-      go : ((bytes_eq (s.folder_of i) (s.folder_of i) && bytes_eq (s.seal i k) (s.seal i n)) ≡ true) ⊎ ((bytes_eq (s.folder_of i) (s.folder_of i) && bytes_eq (s.seal i k) (s.seal i n)) ≡ false) →
-          between.seen (s.folder_of i) (s.seal i k) ≡ None
-      go (inl b) = cond-true _ _ _ b
-      go (inr b) = cond-false _ _ _ b ∙ free
-
-  free_node : node_at s between o (k ∷ p) ≡ None
-  free_node = child_at s between o k i p middle_p ∙ ap (node s between o (k ∷ p)) (cond-true (is_name k (s.open_name i (s.seal i k))) _ _ named_new ∙ place_free)
-
-  shown_new : node s v' o (k ∷ p) (look s v' i k) ≡ node s v' o (k ∷ p) (Some e)
-  shown_new = ap (node s v' o (k ∷ p)) (cond-true (is_name k (s.open_name i (s.seal i k))) _ _ named_new ∙ moved)
-
-  pub rename_leaf : (q : Path) → node_at s v' o q ≡ update same_path (update same_path (node_at s v o) (n ∷ p) None) (k ∷ p) (node s v' o (k ∷ p) (Some e)) q
-  rename_leaf q = change_leaf s between v' o k i p middle_owner middle_p named_new second_change folders
-      (ap (claimed s) free_node) (ap (claimed s) shown_new ∙ leaf (k ∷ p)) q
-      ∙ ap₂ (λ (x y : Option Node). cond (same_path (k ∷ p) q) x y) shown_new (middle q)
-
-  pub rename_leaf_owner : IsOwner s v' o
-  rename_leaf_owner = leaf_owner s between v' o k i p middle_owner middle_p named_new second_change folders
-      (ap (claimed s) free_node) (ap (claimed s) shown_new ∙ leaf (k ∷ p))

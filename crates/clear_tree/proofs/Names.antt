@@ -18,16 +18,16 @@ passed : (fault : Option NameFault) (rest : Result (List ℕ) NameFault) (name :
 passed None rest name h = h
 passed (Some fault) rest name h = absurd cc
 
-short_from_test : (name form : List ℕ) (long : Bool) → nat_lt name_limit (length form) ≡ long → (if long then Err (too_long (length form)) else Ok form) ≡ Ok name → length name ≤ 1024
+short_from_test : (name form : List ℕ) (long : Bool) → nat_lt name_limit (length form) ≡ long → (if long then Err (too_long (length form)) else Ok form) ≡ Ok name → length name ≤ name_limit
 short_from_test name form true e h = absurd cc
 short_from_test name form false e h =
     let same : form ≡ name = cc in
     rw (← same) (grind (arith, common_steps, e))
 
-short_from_checked : (form name : List ℕ) → checked_name form ≡ Ok name → length name ≤ 1024
+short_from_checked : (form name : List ℕ) → checked_name form ≡ Ok name → length name ≤ name_limit
 short_from_checked form name h = short_from_test name form (nat_lt name_limit (length form)) refl (passed (form_fault form) _ name h)
 
-short_from_clear : (bytes name : List ℕ) (is : Bool) → is_utf8 bytes ≡ is → clear_name bytes ≡ Ok name → length name ≤ 1024
+short_from_clear : (bytes name : List ℕ) (is : Bool) → is_utf8 bytes ≡ is → clear_name bytes ≡ Ok name → length name ≤ name_limit
 unfolding clear_name
 short_from_clear bytes name true e h = let passes = rw e at h in short_from_checked (nfc_of bytes) name (passed (form_fault bytes) _ name passes)
 short_from_clear bytes name false e h = let no = rw e at h in absurd cc

@@ -1,8 +1,7 @@
 -- Paths: their equality and the walk's order.
 use Rattle.std.proofs.Common.{◌≡◌, ◌≢◌, ℕ, Bool, true, false, List, [], ◌∷◌, bytes_eq, refl, sym, ap, ◌∙◌, length, arith, true≢false, inl, inr, ◌⊎◌}
-use Rattle.std.specs.Ordering.{is_gt, nat_cmp, ordering_then}
-use Rattle.std.specs.declared.cmp.Ordering.{Ordering}
-use Rattle.std.specs.declared.cmp.Ordering.TheVariants.{Less, Equal, Greater}
+use Rattle.std.specs.Ordering.{is_gt, nat_cmp}
+use Rattle.std.specs.declared.cmp.Ordering.TheVariants.{Equal}
 use Rattle.std.specs.Cmp.Lexicographic.{slice_cmp}
 use Rattle.std.proofs.lemmas.Slice.Eq.{slice_eq-Decides, bytes_eq-Decides}
 use Rattle.std.proofs.lemmas.Cmp.{tied_itself, nat_list_cmp_total}
@@ -37,11 +36,6 @@ same_path-apart p q h = go (same_path p q) refl
 -- a path is not its own child
 pub child_apart : (m : List ℕ) (p : Path) → m ∷ p ≢ p
 child_apart m p e = let h : length (m ∷ p) ≡ length p = ap length e in omega (arith, h)
-
-pub then_Greater : (o : Ordering) → ordering_then o Greater ≡ Less → o ≡ Less
-then_Greater Less e = refl
-then_Greater Equal e = cc
-then_Greater Greater e = cc
 
 pub root_first : (p : Path) → is_gt (walk_cmp p []) ≡ false → p ≡ []
 root_first [] h = refl

@@ -7,6 +7,7 @@ use Rattle.std.specs.declared.cmp.Ordering.TheVariants.{Less}
 use Rattle.std.specs.Ordering.{nat_cmp, ordering_then, is_gt}
 use Rattle.std.specs.Cmp.Lexicographic.{slice_cmp}
 use Rattle.vault_path.specs.Parts.{is_part, is_path}
+use Rattle.tree_model.specs.Names.{name_limit}
 use Rattle.tree_model.specs.Rows.{root}
 use Rattle.clear_tree.specs.Places.{host_folder}
 use Rattle.clear_tree.specs.Kept.{What as KeptWhat, KeptFile, KeptLink, KeptDir, KeptBad, KeptNode, KeptTree, folder_in, node_of, parent_folder}
@@ -28,7 +29,7 @@ HasHostFolder what = IfSome (folder_in what) (λ folder. IsTrue (is_path (host_f
 -- what can be said of a node by itself: its name is a text of at most 1,024 bytes
 pub record IsShowable (name : List ℕ) (what : KeptWhat) : Type 0 where
   pub text : IsUtf8 name
-  pub short : length name ≤ 1024
+  pub short : length name ≤ name_limit
   pub folder : HasHostFolder what
 
 -- ---- the order of nodes

@@ -62,7 +62,7 @@ abbrev pub is_absent : {A : Type 0} → Option A → Bool
 is_absent None = true
 is_absent (Some x) = false
 
--- whether a name of a directory stands at its long place
+-- whether a name of a directory is at its long place
 abbrev pub long_in : Sealing → Disk → Option Node → List ℕ → Bool
 long_in s d None n = false
 long_in s d (Some (Dir i)) n = is_absent (entry_at s d (s.folder_of i) (s.seal i n))

@@ -1,10 +1,12 @@
 -- The laws of the clear tree.
-use Rattle.std.specs.Prelude.{◌≡◌, ◌≢◌, ℕ, true, List, [], ◌∷◌, ◌++◌, None, Some}
+use Rattle.std.specs.Prelude.{◌≡◌, ◌≢◌, ℕ, true, false, List, [], ◌∷◌, ◌++◌, None, Some}
+use Rattle.std.specs.FinMap.{get}
 use Rattle.std.specs.Map.{update}
 use Rattle.std.specs.Option.{unwrap_or}
-use Rattle.outside.specs.Disk.{Disk}
-use Rattle.tree_model.specs.Rows.{Rows}
+use Rattle.outside.specs.Disk.{Disk, IsFolder}
+use Rattle.tree_model.specs.Rows.{Rows, chunks, dir, root}
 use Rattle.clear_tree.specs.Walk.{Path, same_path, Sealing, Named, Node, Dir, Folders, is_name, look, node, node_at, claimed, IsOwner, NamedOnce, new_owner, ChangedAt}
+use Rattle.clear_tree.specs.Places.{host_entry, host_folder, host_inner}
 use Rattle.clear_tree.specs.Queue.{Row, In, IsWalk, first_claim}
 use Rattle.clear_tree.specs.Rows.{IsClear}
 
@@ -16,7 +18,30 @@ OneTree = (s : Sealing) (v : Folders) (o o' : List ℕ → Path) → IsOwner s v
 abbrev pub RowsAreDetermined : Type 0
 RowsAreDetermined = (s : Sealing) (d : Disk) (now : ℕ) (a b : Rows) → IsClear s d now a → IsClear s d now b → b ≡ a
 
--- and there are such disks: an empty vault's
+-- the root alone, of a vault that was unlocked at this second
+abbrev pub root_rows : ℕ → Rows
+root_rows now = record {
+  nodes = record {
+    number = root;
+    parent = root;
+    name = 47 ∷ [];
+    kind = dir;
+    content = chunks true [];
+    foreign = false;
+    shadowed = false;
+    version = 0;
+    modified = now;
+  } ∷ [];
+  next = 1;
+  named_twice = false;
+}
+
+-- a disk with the root's folder and nothing below that stands for it
+abbrev pub BareVaultIsClear : Type 0
+BareVaultIsClear = (s : Sealing) (d : Disk) (now : ℕ) → IsFolder d (host_folder (s.folder_of [])) → ((u : List ℕ) → get d (host_entry (s.folder_of []) u) ≡ None)
+    → ((u l : List ℕ) → get d (host_inner (s.folder_of []) u l) ≡ None) → IsClear s d now (root_rows now)
+
+-- and there are such disks
 abbrev pub EmptyVaultIsClear : Type 0
 EmptyVaultIsClear = (s : Sealing) (now : ℕ) → (d : Disk) × (rows : Rows) × IsClear s d now rows
 

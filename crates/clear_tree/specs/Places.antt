@@ -85,7 +85,7 @@ folder_at d h e = folder_kind (bytes_of (get d (host_inner h e text_dir))) (byte
 abbrev pub long_at : Disk → List ℕ → List ℕ → List ℕ → Option Kind
 long_at d h e t = long_kind t (bytes_of (get d (host_inner h e text_name))) (folder_at d h e)
 
--- what stands at a short place: an entry that no path can name stands for nothing
+-- what is at a short place: an entry that no path can name stands for nothing
 abbrev pub entry_at : Sealing → Disk → List ℕ → List ℕ → Option Thing
 entry_at s d h t = cond (s.is_part t) (get d (host_entry h t)) None
 

@@ -1,4 +1,4 @@
--- The nodes of a vault by path: which node stands at a path, and which path has a folder.
+-- The nodes of a vault by path: which node is at a path, and which path has a folder.
 use Rattle.std.specs.Prelude.{◌≡◌, ℕ, Bool, false, cond, ◌&&◌, List, [], ◌∷◌, Option, Some, None, bytes_eq}
 use Rattle.std.specs.declared.cmp.Ordering.{Ordering}
 use Rattle.std.specs.Ordering.{nat_cmp, ordering_then, is_gt}

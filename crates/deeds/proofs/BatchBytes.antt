@@ -5,7 +5,7 @@ use Rattle.std.specs.Int.{w32, to_be_bytes, from_be_bytes}
 use Rattle.std.proofs.lemmas.Bool.{ltb-true, ltb-false}
 use Rattle.std.proofs.lemmas.List.{append-nil, nil_from_length}
 use Rattle.deeds.specs.Deeds.{PlainDeed}
-use Rattle.deeds.specs.Grammar.{spelled, spelled_deeds, spelled_deed, IsDeed, IsBatch, IsBadDeed, IsBadAt, count_of}
+use Rattle.deeds.specs.Grammar.{spelled, spelled_deeds, spelled_deed, IsDeed, IsBatch, IsBadAt, count_of}
 use Rattle.deeds.specs.Reading.{◌>>=◌, number_at, items_at, deed_at}
 use Rattle.deeds.proofs.Fields.{IsBytes, guard_not, some_is, number_takes, number_again, wide32, items_again}
 use Rattle.deeds.proofs.DeedBytes.{deed_takes, deed_again}
@@ -27,11 +27,6 @@ none_short false x e = absurd cc
 
 pub short_bad : (bytes : List ℕ) → number_at w32 bytes ≡ None → IsBadAt bytes 0
 short_bad bytes e = inl (ltb-true _ _ (none_short (ltb (length bytes) 4) (from_be_bytes w32 (take 4 bytes), drop 4 bytes) e), refl)
-
-pub deed_bad : (bytes : List ℕ) (count : ℕ) (behind : List ℕ) (at : ℕ) → number_at w32 bytes ≡ Some (count, behind) → IsBadDeed count behind at → IsBadAt bytes at
-deed_bad bytes count behind at e bad =
-    let n = counted bytes count behind e in
-    inr (inl (subst (λ (l : List ℕ). IsBadDeed (count_of bytes) l at) n.rest (subst (λ (k : ℕ). IsBadDeed k behind at) n.number bad)))
 
 pub left_bad : (bytes : List ℕ) (count : ℕ) (behind rest : List ℕ) (ds : List PlainDeed) → number_at w32 bytes ≡ Some (count, behind) → behind ≡ spelled_deeds ds ++ rest → length ds ≡ count → AllByRecursion IsDeed ds
     → 0 < length rest → IsBadAt bytes (length bytes - length rest)

@@ -203,7 +203,7 @@ moved_already from to disk a b ea eb none some =
     let there = some_node (node_at disk to) (sym (ap is_some eb) ∙ some) in
     (no_node (node_at disk from) (sym (ap is_some ea) ∙ none), there.0, there.1)
 
--- a move was done already exactly where nothing is left and something has arrived
+-- a move was done already if and only if nothing is left and something has arrived
 pub moved_exactly : (from to : Path) (disk : Disk) (a b : Option Kind) → a ≡ kind_at disk from → b ≡ kind_at disk to → is_some a ≡ false → IsTrue (is_some b) ↔ IsDoneAlready (Renames from to) disk
 moved_exactly from to disk a b ea eb none = (λ some. moved_already from to disk a b ea eb none some, λ already. ap is_some eb ∙ ap (λ (o : Option Node). is_some (option_map kind_of o)) already.2)
 

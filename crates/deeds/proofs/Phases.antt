@@ -29,9 +29,6 @@ front_step phase ds i d rest e =
 pub of_one : (phase : Phase) (d : PlainDeed) → is_of phase d ≡ true → of_phase phase (d ∷ []) ≡ d ∷ []
 of_one phase d e = ap (λ (b : Bool). cond b (d ∷ []) []) e
 
-pub of_none : (phase : Phase) (d : PlainDeed) → is_of phase d ≡ false → of_phase phase (d ∷ []) ≡ []
-of_none phase d e = ap (λ (b : Bool). cond b (d ∷ []) []) e
-
 kept_one : (x d : PlainDeed) (b : Bool) (xs : List PlainDeed) → IsOneOf d xs → IsOneOf d (cond b (x ∷ xs) xs)
 kept_one x d true xs one = inr one
 kept_one x d false xs one = one

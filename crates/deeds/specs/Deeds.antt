@@ -103,7 +103,7 @@ IsOneOf deed (other ∷ others) = (deed ≡ other) ⊎ IsOneOf deed others
 
 -- ---- what a stop may leave while they are done on a disk
 
--- what stands at a deed's own paths is what stood there, what the deed leaves, or something on the way
+-- what is at a deed's own paths is what stood there, what the deed leaves, or something on the way
 abbrev pub OnTheWay : PlainDeed → Disk → Disk → Type 0
 OnTheWay (MakesDir path) disk image = (node_at image path ≡ node_at disk path) ⊎ (node_at image path ≡ Some folder)
 OnTheWay (Puts path bytes) disk image = (node_at image path ≡ node_at disk path) ⊎ IsFree (node_at image path)

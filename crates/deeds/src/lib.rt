@@ -23,6 +23,8 @@
 //! | 6 | `Reshape` | path, length\[8\], n\[4\], n times offset\[8\], m\[4\], m bytes |
 //!
 //! A path is its number of parts\[1\] (1 to 6), and each part's length\[1\] and bytes.
+//!
+//! Laws: `doing_again`, `staying_amid` and `doing_beside`, which do nothing.
 #![tactic(auto)]
 
 mod batch;
@@ -47,13 +49,13 @@ pub use repeatable::{is_repeatable, journal_path, new_path};
 pub use writes::{Range, do_reshape};
 pub use writing::spelled_len;
 
-/// Deeds that name no path twice, done again on any disk amid their application, leave the same disk.
+/// Deeds that name no path twice, done again on any disk amid their application, leave the same disk. It does nothing.
 pub fn doing_again()
     ensures { (deeds : List PlainDeed) (old new image : Disk) → DoesAll deeds old new → IsTree new → AreApart deeds → IsAmid deeds old image
         → (again : Disk) × DoesAll deeds image again × IsSameDisk again new }
 {}
 
-/// What a stop leaves while deeds are done, in whatever order, stays amid their application.
+/// What a stop leaves while deeds are done, in whatever order, stays amid their application. It does nothing.
 pub fn staying_amid()
     ensures stays { (deeds : List PlainDeed) (deed : PlainDeed) (old before image : Disk) → AreApart deeds → IsOneOf deed deeds
         → IsPartOfDeed deed before image → IsAmid deeds old before → IsAmid deeds old image }
@@ -61,7 +63,8 @@ pub fn staying_amid()
     ensures tree { (deeds : List PlainDeed) (old new : Disk) → IsTree old → DoesAll deeds old new → IsTree new }
 {}
 
-/// Deeds that can be done on a disk can be done on one that differs at two paths in the folder itself which they don't name.
+/// Deeds that can be done on a disk can be done on one that differs at two paths in the folder itself which they don't name. It
+/// does nothing.
 pub fn doing_beside()
     ensures { (one two : List ℕ) (deeds : List PlainDeed) (old new other : Disk) → DoesAll deeds old new → Unnamed (one ∷ []) deeds → Unnamed (two ∷ []) deeds
         → (IsFolder old (one ∷ []) → ⊥) × (IsFolder old (two ∷ []) → ⊥) → IsAlikeBut (one ∷ []) (two ∷ []) old other

@@ -10,8 +10,8 @@ use vault_path::VaultPath;
 /// The longest identifier of a directory, in bytes.
 pub const IDENTIFIER_LIMIT: usize = 1000;
 
-// The longest sealed identifier, in bytes.
-const SEALED_LIMIT: usize = IDENTIFIER_LIMIT + TAG_LEN;
+/// The longest sealed identifier, in bytes.
+pub const SEALED_LIMIT: usize = IDENTIFIER_LIMIT + TAG_LEN;
 
 /// The folder of the directory with this identifier, at most 1,000 bytes; the root's identifier is the empty text. It takes
 /// no memory.

@@ -13,4 +13,4 @@ mod digits;
 mod folder;
 
 pub use digits::base32;
-pub use folder::{IDENTIFIER_LIMIT, folder_of};
+pub use folder::{IDENTIFIER_LIMIT, SEALED_LIMIT, folder_of};

@@ -59,7 +59,7 @@ held_there : (t : List ℕ) (x : Option (List ℕ)) (kind : Kind) → x ≡ Some
 held_there t None kind h = absurd cc
 held_there t (Some x) kind h = let e : x ≡ t = cc in ap (λ (b : Bool). kind_where b kind) ((bytes_eq-Decides x t).1 e)
 
--- an entry stands at its short place, or else at the long one
+-- an entry is at its short place, or else at the long one
 by_place : (e : Option Thing) (t l : List ℕ) (short : Kind) (long : Option Kind) (k : Kind) → either_kind e short long ≡ Some k
     → ((entry_where e t l ≡ t) × (either_kind e short None ≡ Some k) × (e ≢ None)) ⊎ ((e ≡ None) × (entry_where e t l ≡ l) × (long ≡ Some k))
 by_place None t l short long k h = inr (refl, refl, h)
@@ -246,10 +246,6 @@ module _ (s : Sealing) (laws : AreCiphers s) (d : Disk) (i : List ℕ) where
     copy_long : IsLong u → ⊥
     copy_long is = let bad : false ≡ true = ap is_long_entry (sym copy ∙ is.is.holds.hashed) ∙ laws.long is.text in cc
 
-    pub copy_foreign : (IsFile d (host_entry h u) → ⊥) → IsThere s d i u → IsForeign s d i u
-    copy_foreign no_file there =
-        foreign_of u there (λ e file. no_file (subst (λ (x : List ℕ). IsFile d (host_entry h x)) (sym copy) file)) copy_short copy_long
-
     pub copy_passed : IsFile d (host_entry h u) → (IsForeign s d i u → ⊥) × (IsNodeEntry s d i u → ⊥)
     copy_passed file = (
       λ foreign. foreign.no_copy copy (subst (λ (x : List ℕ). IsFile d (host_entry h x)) copy file),
@@ -398,9 +394,6 @@ module _ (s : Sealing) (laws : AreCiphers s) (d : Disk) (i : List ℕ) where
     short_foreign not_short = foreign_of u there (λ e _. no_copy e) not_short
         (λ is. let yes : is_long_entry u ≡ true = ap is_long_entry is.is.holds.hashed ∙ laws.long is.text in cc (yes, short))
 
-    pub short_unopened : None ≡ s.open_name i u → IsForeign s d i u
-    short_unopened none = short_foreign (λ is. let bad : None ≡ Some is.name = none ∙ is.opens in cc)
-
     pub short_bare : s.is_part u ≡ true → IsPlace d (host_entry h u) false (short_at d (host_entry h u)) None → IsForeign s d i u
     short_bare part bare = short_foreign (λ is.
         let at : entry_at s d h u ≡ get d (host_entry h u) = ap (λ (b : Bool). cond b (get d (host_entry h u)) None) part in
@@ -477,11 +470,3 @@ module _ (s : Sealing) (laws : AreCiphers s) (d : Disk) (i : List ℕ) where
   short_found u n place twin node opened part place_is twin_is entry long shown shadowed there =
       subst (λ (x : List ℕ). ShortFacts x n place twin node → IsNodeOf s d i x (found_of (n, node))) (sym opened.sealed) (short_here n place twin node)
       (record { there = there; part = part; opens = opened.opens; place_is = place_is; twin_is = twin_is; entry = entry; long = long; shown = shown; shadowed = shadowed })
-
-  -- a node folder whose `name.c9s` is there is a folder
-  pub folder_of_name : (u : List ℕ) (t : List ℕ) → IsTree d → Some t ≡ name_in d (host_entry h u) → get d (host_entry h u) ≡ Some Folder
-  folder_of_name u t tree e = tree.parents (host_inner h u text_name) (there (get d (host_inner h u text_name)) e)
-    where
-      there : (thing : Option Thing) → Some t ≡ option_map (take name_limit) (bytes_of thing) → IsSome thing
-      there None e = absurd cc
-      there (Some x) e = refl

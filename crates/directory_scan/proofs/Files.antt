@@ -10,7 +10,6 @@ use Rattle.outside.specs.Images.{Log, disk_in}
 use Rattle.outside.proofs.Told.{told_then, told_both}
 use Rattle.clear_tree.specs.Walk.{Bare}
 use Rattle.clear_tree.specs.Places.{bytes_of, folder_kind}
-use Rattle.clear_tree.specs.Kept.{text_limit}
 use Rattle.directory_scan.specs.declared.found.Shown.{Shown}
 use Rattle.directory_scan.specs.declared.found.Shown.TheVariants.{File, Link, Directory}
 use Rattle.directory_scan.specs.Reading.{file_at, Shows}
@@ -87,10 +86,6 @@ text_read d path size limit room count old out rest text r o same t s read =
 
 -- ---- what a node folder shows, by its known files
 
-text_shown : (text : List ℕ) (dir link contents : Option (List ℕ)) → Some text ≡ option_map (take text_limit) dir → Shows (folder_kind dir link contents) (Some (Directory text))
-text_shown text None link contents e = absurd cc
-text_shown text (Some t) link contents e = cc
-
 no_bytes : (limit : ℕ) (o : Option (List ℕ)) → None ≡ option_map (take limit) o → o ≡ None
 no_bytes limit None e = refl
 no_bytes limit (Some t) e = absurd cc
@@ -106,9 +101,6 @@ link_shown size (Some t) contents e = cc
 file_shown : (size : ℕ) (contents : Option (List ℕ)) → Some size ≡ option_map length contents → Shows (folder_kind None None contents) (Some (File size))
 file_shown size None e = absurd cc
 file_shown size (Some t) e = cc
-
-pub shows_directory : (text : List ℕ) (dir link contents : Option (List ℕ)) → Some text ≡ option_map (take text_limit) dir → Shows (folder_kind dir link contents) (Some (Directory text))
-shows_directory = text_shown
 
 pub shows_link : (limit size : ℕ) (dir link contents : Option (List ℕ)) → None ≡ option_map (take limit) dir → Some size ≡ option_map length link → Shows (folder_kind dir link contents) (Some (Link size))
 shows_link limit size dir link contents none e =
@@ -130,9 +122,6 @@ shown_still shown None (Some t) contents h = h
 shown_still (File size) None None contents h = absurd h
 shown_still (Link size) None None contents h = absurd h
 shown_still (Directory text) None None contents h = absurd h
-
-pub shows_known : (shown : Shown) (dir link contents : Option (List ℕ)) → Shows (folder_kind dir link None) (Some shown) → Shows (folder_kind dir link contents) (Some shown)
-shows_known = shown_still
 
 pub shows_file : (size : ℕ) (dir link contents : Option (List ℕ)) → folder_kind dir link None ≡ Bare → Some size ≡ option_map length contents → Shows (folder_kind dir link contents) (Some (File size))
 shows_file size dir link contents bare e =

@@ -3,7 +3,6 @@ use Rattle.std.proofs.Common.{◌≡◌, ◌≢◌, ◌↔◌, ℕ, zero, suc, �
 use Rattle.std.specs.Int.{w32, byte_at, bytes_high_first, to_be_bytes}
 use Rattle.std.specs.List.{list_all}
 use Rattle.std.specs.Option.{option_and_then, option_map_or}
-use Rattle.std.specs.Result.{result_ok}
 use Rattle.std.specs.Str.{bytes_eq, is_utf8}
 use Rattle.std.proofs.lemmas.Bool.{cases_Bool}
 use Rattle.std.proofs.lemmas.Bool.Decides.{nat_tests}
@@ -24,6 +23,7 @@ use Rattle.tree_model.specs.Names.{NameFault, empty, too_long, name_limit, form_
 use Rattle.nfc_text.specs.Nfc.{nfc_of}
 use Rattle.name_cipher.specs.Sealed.{suffix, sealed_name, opened_name, valid_name, decoded, before_suffix, IsSealedName}
 use Rattle.name_cipher.proofs.ByteLemmas.{AreBytes-append}
+use Rattle.name_cipher.proofs.Opening.{and_then_some, valid_name_some}
 use Rattle.long_names.specs.Places.{long_suffix, long_folder}
 use Rattle.directory_scan.specs.Format.{sealing_of, is_sealed_text}
 use Rattle.directory_scan.specs.Ciphers.{AreCiphers, is_long_entry}
@@ -209,31 +209,11 @@ name_in_bounds n is =
 
 -- ---- the name that a text opens to is valid
 
-and_then_some : {T U : Type 0} (f : T → Option U) (o : Option T) (u : U) → option_and_then f o ≡ Some u → (t : T) × (o ≡ Some t) × (f t ≡ Some u)
-and_then_some f None u h = cc
-and_then_some f (Some t) u h = (t, refl, h)
-
-chosen : (b : Bool) (x y : List ℕ) → (if b then Some x else None) ≡ Some y → (b ≡ true) × (x ≡ y)
-chosen true x y h = (refl, cc)
-chosen false x y h = cc
-
-result_ok_some : (r : Result (List ℕ) NameFault) (x : List ℕ) → result_ok r ≡ Some x → r ≡ Ok x
-result_ok_some (Ok y) x h = let e : y ≡ x = cc in ap Ok e
-result_ok_some (Err e) x h = cc
-
-valid_some : (bytes name : List ℕ) → valid_name bytes ≡ Some name → IsClearName name
-valid_some bytes name h =
-    let found = and_then_some (λ (clear : List ℕ). if bytes_eq clear bytes then Some bytes else None) (result_ok (clear_name bytes)) name h in
-    let kept = chosen (bytes_eq found.0 bytes) bytes name found.2 in
-    let same : found.0 ≡ bytes = (bytes_eq-Decides found.0 bytes).0 kept.0 in
-    let passes : clear_name bytes ≡ Ok name = result_ok_some (clear_name bytes) found.0 found.1 ∙ ap Ok (same ∙ kept.1) in
-    ap clear_name (sym kept.1) ∙ passes
-
 opened_valid : (keys : KeyPair) (parent text name : List ℕ) → opened_name keys parent text ≡ Some name → IsClearName name
 unfolding opened_name
 opened_valid keys parent text name h =
     let named = and_then_some valid_name (option_and_then (siv_opened (aes keys.mac) (aes keys.enc) (Some parent)) (option_and_then decoded (before_suffix text))) name h in
-    valid_some named.0 name named.2
+    (valid_name_some named.0 name named.2).1
 
 -- ---- the length of a sealed name
 

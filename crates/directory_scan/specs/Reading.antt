@@ -21,7 +21,7 @@ pub record CanHoldNodes (folder : Path) : Type 0 where
   pub entries : CanHoldParts folder
   pub inner : (entry : List ℕ) → IsTrue (is_part entry) → CanHoldParts (folder ++ entry ∷ [])
 
--- what stands at an entry of a folder: an entry that no path can name stands for nothing
+-- what is at an entry of a folder: an entry that no path can name stands for nothing
 abbrev pub entry_in : Disk → Path → List ℕ → Option Thing
 entry_in d folder entry = cond (is_part entry) (get d (folder ++ entry ∷ [])) None
 

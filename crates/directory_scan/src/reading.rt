@@ -30,7 +30,7 @@ pub(crate) fn inner(folder: &VaultPath, entry: &[u8]) -> VaultPath
     path
 }
 
-/// Whether anything stands at an entry of a folder. Nothing does where no path can name it.
+/// Whether anything is at an entry of a folder. Nothing is where no path can name it.
 pub(crate) fn is_there<R: Reads>(
     from: &mut R,
     folder: &VaultPath,

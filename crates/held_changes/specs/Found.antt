@@ -48,7 +48,7 @@ bytes_in (Link b) = Some b
 bytes_in (Dir i) = None
 bytes_in (Bad t) = None
 
--- the host file of a number stands at this path, has these bytes, and its size is held
+-- the host file of a number is at this path, has these bytes, and its size is held
 pub record IsHostFile (d : Disk) (live : HeldTree) (number : ℕ) (path : List (List ℕ)) (bytes : List ℕ) : Type 0 where
   pub is : path_of live number ≡ Some path
   pub there : thing_at d path ≡ Some (host_file bytes)

@@ -16,28 +16,29 @@ ghost use Rattle.held_changes.specs.Loading.{LoadingHolds};
 ghost use Rattle.held_changes.specs.Writing.{ContentsChange, DatingHolds, FilesStandAtPlaces, WritingHolds};
 
 /// A name is free in a directory's number just where no node of the tree has it there, and a number has no nodes in it just where
-/// its path has none below it.
+/// its path has none below it. It does nothing.
 pub fn names_are_held()
     ensures free { FreeNamesAreFree }
     ensures childless { ChildlessHaveNoChild }
 {}
 
-/// A node is made in a directory.
+/// A node is made in a directory. It does nothing.
 pub fn making_holds()
     ensures { MakingHolds }
 {}
 
-/// A node without nodes in it is removed.
+/// A node without nodes in it is removed. It does nothing.
 pub fn removing_holds()
     ensures { RemovingHolds }
 {}
 
-/// A node is given another name, with all that is in it.
+/// A node is given another name, with all that is in it. It does nothing.
 pub fn renaming_holds()
     ensures { RenamingHolds }
 {}
 
-/// The rows of what is held have the shape of the tree; a number has a row just where it has a node, and leads to its path.
+/// The rows of what is held have the shape of the tree; a number has a row just where it has a node, and leads to its path. It
+/// does nothing.
 pub fn held_rows_have_shape()
     ensures shape { HeldRowsHaveShape }
     ensures rows { NodesHaveRows }
@@ -45,7 +46,7 @@ pub fn held_rows_have_shape()
 {}
 
 /// Files and links have their host files, with their bytes and their sizes, and nothing else has one; so the contents that are
-/// right for the tree are those of the host files.
+/// right for the tree are those of the host files. It does nothing.
 pub fn held_paths()
     ensures bytes { NodesHaveBytes }
     ensures nodes { PathsAreOfNodes }
@@ -53,33 +54,34 @@ pub fn held_paths()
 {}
 
 /// A node's place is the folder that is held of its parent, with the entry that is held of the node; and a file's host file stands
-/// at its place.
+/// at its place. It does nothing.
 pub fn places_are_held()
     ensures places { PlacesAreHeld }
     ensures files { FilesStandAtPlaces }
 {}
 
-/// What is kept of a disk, as it is loaded, holds a tree of the disk.
+/// What is kept of a disk, as it is loaded, holds a tree of the disk. It does nothing.
 pub fn loading_holds()
     ensures { LoadingHolds }
 {}
 
-/// A file is written.
+/// A file is written. It does nothing.
 pub fn writing_holds()
     ensures { WritingHolds }
 {}
 
-/// A node's mtime is set, which changes no node of the disk.
+/// A node's mtime is set, which changes no node of the disk. It does nothing.
 pub fn dating_holds()
     ensures { DatingHolds }
 {}
 
-/// Where the host file of a file has other bytes, the tree of the disk has them, and nothing else changes.
+/// Where the host file of a file has other bytes, the tree of the disk has them, and nothing else changes. It does nothing.
 pub fn contents_change()
     ensures { ContentsChange }
 {}
 
-/// After each change the contents that were right for the tree are so, but for those of the node that is made or written.
+/// After each change the contents that were right for the tree are so, but for those of the node that is made or written. It
+/// does nothing.
 pub fn contents_stay()
     ensures made { MakingKeepsContents }
     ensures removed { RemovingKeepsContents }

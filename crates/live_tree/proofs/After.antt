@@ -159,9 +159,6 @@ held_edited names tree number f held alike same_name versions =
     (λ q n there. by_pick (λ n'. n'.kept.name ≡ n.kept.name) number f q n (λ e. same_name n) refl) (sorted_edit tree number f held.ordered)
     (λ q n there. by_pick (λ n'. n'.version < 2 ^ 32) number f q n (λ e. versions n (ap (node_of tree) (sym e) ∙ there)) (held.versions q n there))
 
-alike_itself : (n : HeldNode) → IsAlike n n
-alike_itself n = record { parent = refl; folder = refl }
-
 -- one change more
 pub held_changed : (names : Names) (tree : HeldTree) (number now : ℕ) → IsHeld names tree → IsHeld names (edited tree number (changed_node now))
 held_changed names tree number now held =

@@ -105,9 +105,6 @@ module _ {X : Type 0} where
   remove_is_filter k (e ∷ es) sorted =
       remove_step (is_at (nat_cmp k) e.0) k e es refl sorted (remove_is_filter k es (sorted_tail nat_cmp e.0 (keys_of es) sorted))
 
-  pub filter_none : (k : ℕ) (es : List (ℕ × X)) → lookup (is_at (nat_cmp k)) es ≡ None → filter (λ (e : ℕ × X). not (e.0 == k)) es ≡ es
-  filter_none k es none = unfiltered k es (none_passes_from_lookup (is_at (nat_cmp k)) es none)
-
   -- ---- one is put behind the others
 
   abbrev pub AreBelow : ℕ → List (ℕ × X) → Type 0

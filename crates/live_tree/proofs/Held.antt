@@ -41,9 +41,6 @@ place_is parent name parent' name' e =
 pub grows_same : (old new : Names) → IsSame old new → IsGrown old new
 grows_same old new same = record { numbers = same.numbers; directories = λ parent there. same.directories parent ∙ there }
 
-pub grows_itself : (names : Names) → IsGrown names names
-grows_itself names = record { numbers = λ parent name. refl; directories = λ parent there. there }
-
 pub grows_twice : (a b c : Names) → IsGrown a b → IsGrown b c → IsGrown a c
 grows_twice a b c first second = record {
   numbers = λ parent name. second.numbers parent name ∙ first.numbers parent name;

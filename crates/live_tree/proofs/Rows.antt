@@ -9,7 +9,7 @@ use Rattle.std.specs.Map.{lookup, keys_of}
 use Rattle.std.specs.BTreeMap.{is_at}
 use Rattle.tree_model.specs.Rows.{Content, chunks, Row, Rows, is_dir, row_of}
 use Rattle.tree_model.specs.Step.{changed_at, new_row, with_content}
-use Rattle.clear_tree.specs.Kept.{What, KeptFile, KeptLink, KeptDir, KeptBad, KeptNode, kind_of, content_of, rows_from}
+use Rattle.clear_tree.specs.Kept.{What, KeptFile, KeptLink, KeptDir, KeptBad, KeptNode, kind_of, rows_from}
 use Rattle.live_tree.specs.Held.{HeldNode, HeldTree, node_of, live_row, live_rows, numbered, unchanged_node}
 use Rattle.clear_tree.specs.Built.{IsFile}
 use Rattle.live_tree.specs.Changes.{changed_node, added, new_node, removed, renamed, renamed_node, touched, sized_node, dated, dated_node, CanBeMade, AgreeBut, wrapped_row, wrapped, RowsAreAdded, RowsAreRemoved, RowsAreRenamed, RowsAreTouched, RowsAreDated}
@@ -113,9 +113,6 @@ rows_dated tree number modified sorted contents row found =
     (rows_set contents contents number (dated_node modified) has.node (record (live_row contents (number, has.node)) { modified = modified }) tree.nodes this refl refl (λ e apart. refl)))
 
 -- ---- a file's content
-
-content_agrees : (what : What) (a b : Content) → a ≡ b → content_of what a ≡ content_of what b
-content_agrees what a b e = ap (content_of what) e
 
 sized_row : (contents contents' : ℕ → Content) (number size now : ℕ) (node : HeldNode) (what : What) → node.kept.what ≡ what → IsFile what
     → changed_at now (live_row contents' (number, sized_node size node)) ≡ with_content (live_row contents (number, node)) (contents' number) now

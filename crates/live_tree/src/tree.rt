@@ -139,7 +139,7 @@ impl LiveTree {
         }
     }
 
-    /// Makes a file or a directory at a second, under the next number, which it gives. Where memory runs out the tree stays as
+    /// Makes a file or a directory at a second, under the next number, which it returns. Where memory runs out the tree stays as
     /// it is.
     pub fn add(
         &mut self,

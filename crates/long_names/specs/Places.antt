@@ -1,4 +1,4 @@
--- The two places of a sealed name (Cryptomator's vault format 8): a short name stands at its own text, `X.c9r`; a long one in a folder that
+-- The two places of a sealed name (Cryptomator's vault format 8): a short name is at its own text, `X.c9r`; a long one in a folder that
 -- is named by the hash of that text, and whose `name.c9s` holds it.
 use Rattle.std.specs.Prelude.{◌≡◌, ℕ, ◌≤◌, List, [], ◌∷◌, ◌++◌, length, nat_le, if◌then◌else◌}
 use Rattle.base64.specs.GeneralPurpose.{encode_of}

@@ -20,7 +20,7 @@ use Rattle.name_cipher.proofs.NameLemmas.{AreBytes-clear}
 
 -- ---- options
 
-and_then_some : {T U : Type 0} (f : T → Option U) (o : Option T) (u : U) → option_and_then f o ≡ Some u → (t : T) × (o ≡ Some t) × (f t ≡ Some u)
+pub and_then_some : {T U : Type 0} (f : T → Option U) (o : Option T) (u : U) → option_and_then f o ≡ Some u → (t : T) × (o ≡ Some t) × (f t ≡ Some u)
 and_then_some f None u h = cc
 and_then_some f (Some t) u h = (t, refl, h)
 
@@ -67,8 +67,8 @@ decoded_encoded e bytes is are = ap result_ok (decode_of-encode_of e bytes is ar
 
 -- ---- the name
 
-valid_some : (bytes name : List ℕ) → valid_name bytes ≡ Some name → (bytes ≡ name) × IsClearName name
-valid_some bytes name h =
+pub valid_name_some : (bytes name : List ℕ) → valid_name bytes ≡ Some name → (bytes ≡ name) × IsClearName name
+valid_name_some bytes name h =
     let found = and_then_some (λ (clear : List ℕ). if bytes_eq clear bytes then Some bytes else None) (result_ok (clear_name bytes)) name h in
     let kept = chosen (bytes_eq found.0 bytes) bytes name found.2 in
     let same : found.0 ≡ bytes = (bytes_eq-Decides found.0 bytes).0 kept.0 in
@@ -84,7 +84,7 @@ front_bytes : (xs ys : List ℕ) → AreBytes (xs ++ ys) → AreBytes xs
 front_bytes [] ys h = tt
 front_bytes (x ∷ xs) ys h = (h.0, front_bytes xs ys h.1)
 
--- a text is opened to a name exactly where it is the sealed name, if that is so of SIV
+-- a text is opened to a name if and only if it is the sealed name, if that is so of SIV
 pub opened_iff : (keys : KeyPair) (parent text name : List ℕ)
     → ((text : List ℕ) → AreBytes text → AreBytes (siv_sealed (aes keys.mac) (aes keys.enc) (Some parent) text))
     → ((sealed text : List ℕ) → (siv_opened (aes keys.mac) (aes keys.enc) (Some parent) sealed ≡ Some text) ↔ (sealed ≡ siv_sealed (aes keys.mac) (aes keys.enc) (Some parent) text))
@@ -98,7 +98,7 @@ opened_iff keys parent text name bytes exact are = (
       let split : text ≡ read.0 ++ suffix = before_some text read.0 read.1 in
       let front : AreBytes read.0 = front_bytes read.0 suffix (subst AreBytes split are) in
       let encoded : read.0 ≡ encode_of url_safe opened.0 = decoded_some url_safe read.0 opened.0 strict (AreBytes-get_or read.0 front) read.2 in
-      let valid = valid_some named.0 name named.2 in
+      let valid = valid_name_some named.0 name named.2 in
       let sealed : opened.0 ≡ siv_sealed (aes keys.mac) (aes keys.enc) (Some parent) name =
       (exact opened.0 named.0).0 opened.2 ∙ ap (siv_sealed (aes keys.mac) (aes keys.enc) (Some parent)) valid.0 in
       record { valid = valid.1; sealed = split ∙ (λ i. encoded i ++ suffix) ∙ (λ i. encode_of url_safe (sealed i) ++ suffix) },

@@ -12,5 +12,5 @@
 mod name;
 mod sealed;
 
-pub use name::{BadName, Name, clear_name};
+pub use name::{BadName, Name, check_form, clear_name};
 pub use sealed::{open_name, opening_undoes_sealing, seal_name};

@@ -162,8 +162,8 @@ fn check(name: &str) -> Result<(), BadName>
     }
 }
 
-// Whether a text may be a name, whatever its length is.
-fn check_form(name: &str) -> Result<(), BadName>
+/// What keeps a text from being a name whatever its length is. It takes no memory.
+pub fn check_form(name: &str) -> Result<(), BadName>
     ensures { MatchResult result (λ _. form_fault name.now ≡ None)
         (λ e. IsSomeAnd (form_fault name.now) (λ fault. IsFault e (Err fault))) }
 {

@@ -36,7 +36,7 @@ pub fn seal_name(
 }
 
 /// The clear name of a sealed name in the directory whose identifier is `parent` (RFC 5297, section 2.7, under the same
-/// encoding). `None` is returned exactly if the text isn't what `seal_name` gives of any valid name: its suffix, its
+/// encoding). `None` is returned exactly if the text isn't what `seal_name` returns for any valid name: its suffix, its
 /// base64, its tag or its clear name is another.
 pub fn open_name(
     alloc: Global,
@@ -74,7 +74,7 @@ fn opened_name(
     valid_name(alloc, &name)
 }
 
-/// A text opens to a name if and only if it is the sealed name of that valid name.
+/// A text opens to a name if and only if it is the sealed name of that valid name. It does nothing.
 pub fn opening_undoes_sealing(keys: &VaultKeys)
     ensures { (parent text name : List ℕ) → AreBytes text →
         (opened_name keys.now parent text ≡ Some name) ↔ IsSealedName keys.now parent text name }

@@ -112,11 +112,6 @@ module _ (contents : Option Disk) (parent : List ℕ) (place : NewPlace) (tree :
       told_then contents (λ d. Some path ≡ or_else (taken_place d parent place.text) (by_drawn tree claims drawn d)) (IsTaken parent place drawn tree claims (Some path))
       (told_first contents (λ d. taken_place d parent place.text) (by_drawn tree claims drawn) path told) (asked_is parent place drawn tree claims (Some path))
 
-  pub taken_none : Told contents (λ d. None ≡ taken_place d parent place.text) → Told contents (IsTaken parent place None tree claims None)
-  taken_none told =
-      told_then contents (λ d. None ≡ taken_place d parent place.text) (IsTaken parent place None tree claims None) told
-      (λ d e. asked_is parent place None tree claims None d (ap (λ (o : Option HostPath). or_else o None) e))
-
   pub taken_rest : (directory : NewDirectory) (later : Option Disk) (found : Option HostPath) → later ≡ contents → Told contents (λ d. None ≡ taken_place d parent place.text)
       → Told later (λ d. found ≡ taken_folder d directory.folder (claim_path tree claims directory.folder)) → Told contents (IsTaken parent place (Some directory) tree claims found)
   taken_rest directory later found same none told =

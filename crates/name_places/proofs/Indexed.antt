@@ -84,12 +84,6 @@ module _ (s : Sealing) (tree : HeldTree) (next after : ℕ) (more : after ≡ su
 
 -- ---- all of them
 
-pub claims_none : (s : Sealing) (tree : HeldTree) (next : ℕ) (claims : Entries) → next ≡ 1 → claims ≡ [] → AreClaimsBelow s tree next claims
-claims_none s tree next claims one none f m = (
-  λ found. let no : number_in claims f ≡ None = ap (λ (es : Entries). number_in es f) none in absurd (cc (found, no)),
-  λ is. let low = is.below in absurd (is.is.names.below (omega (arith, low, one))),
-)
-
 pub claims_whole : (s : Sealing) (tree : HeldTree) (next : ℕ) (claims : Entries) → ((f : List ℕ) (q : ℕ) → NamesFolder s tree f q → q < next) → AreClaimsBelow s tree next claims
     → AreClaimsOf s tree claims
 claims_whole s tree next claims low are f m = (λ found. ((are f m).0 found).is, λ is. (are f m).1 (record { is = is; below = low f m is.names }))

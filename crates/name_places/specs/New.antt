@@ -11,7 +11,7 @@ use Rattle.tree_changes.specs.Deeds.{place_of}
 use Rattle.name_places.specs.declared.name.NewPlace.{NewPlace}
 use Rattle.name_places.specs.declared.directory.NewDirectory.{NewDirectory}
 
--- a text stands at its long place where it has more characters than the threshold
+-- a text is at its long place where it has more characters than the threshold
 abbrev pub is_long : ℕ → List ℕ → Bool
 is_long threshold text = not (nat_le (length text) threshold)
 

@@ -55,7 +55,7 @@ impl Claims {
         self.numbers.get(folder).copied()
     }
 
-    /// Says that the next node of the tree, which is made now, names a folder, and gives whether no node named it before. It stays as
+    /// Says that the next node of the tree, which is made now, names a folder, and returns whether no node named it before. It stays as
     /// it is where memory runs out.
     pub fn insert(&mut self, folder: [u8; 32], number: u64) -> Result<bool, AllocError>
         ensures claims { OnOk result (Grows self.old self.new folder number) }

@@ -4,13 +4,10 @@ ghost use Rattle.clear_tree.specs.Places.{host_folder};
 ghost use Rattle.directory_scan.specs.Format.{identifier_limit, sealing_of};
 ghost use Rattle.name_places.specs.New.{IsNewDirectory};
 
-use dir_paths::{IDENTIFIER_LIMIT, base32};
+use dir_paths::{SEALED_LIMIT, base32};
 use sha1::Sha1;
 use siv_mode::{TAG_LEN, VaultKeys};
 use uuid::{Builder, Uuid};
-
-// The longest sealed identifier, in bytes.
-const SEALED_LIMIT: usize = IDENTIFIER_LIMIT + TAG_LEN;
 
 /// A directory that is to be made.
 #[derive(Clone, Copy, Debug)]

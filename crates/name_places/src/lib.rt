@@ -8,6 +8,8 @@
 //!     return Err(PlaceTaken(path));
 //! }
 //! ```
+//!
+//! Laws: `are_texts`, `changes_keep_claims`, `claims_are_whole`, `kept_claims` and `entries_are_parts`, which do nothing.
 #![tactic(auto)]
 
 mod claims;

@@ -11,8 +11,3 @@ all_more P (y ∷ xs) x all is = (all.0, all_more P xs x all.1 is)
 pub all_joined : {X : Type 0} (P : X → Type 0) (xs ys : List X) → AllByRecursion P xs → AllByRecursion P ys → AllByRecursion P (xs ++ ys)
 all_joined P [] ys all others = others
 all_joined P (x ∷ xs) ys all others = (all.0, all_joined P xs ys all.1 others)
-
--- what follows from them
-pub all_weaker : {X : Type 0} (P Q : X → Type 0) (xs : List X) → ((x : X) → P x → Q x) → AllByRecursion P xs → AllByRecursion Q xs
-all_weaker P Q [] h all = tt
-all_weaker P Q (x ∷ xs) h all = (h x all.0, all_weaker P Q xs h all.1)

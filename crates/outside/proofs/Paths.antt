@@ -1,4 +1,4 @@
--- What stands at a path after a change, and paths that are equal or not.
+-- What is at a path after a change, and paths that are equal or not.
 use Rattle.std.proofs.Common.{◌≡◌, ◌≢◌, Bool, true, false, cond, Option, Some, None, refl, sym, ap, ◌∙◌, true≢false}
 use Rattle.std.specs.Bool.{Decides}
 use Rattle.std.proofs.lemmas.Bool.{false_from_ne_true}

@@ -110,13 +110,6 @@ sound_image start (Did change ∷ older) sound =
 sound_image start (Broke change left ∷ older) sound = (disk_after start older, sound_image start older sound.0, sound.1.part, sound.1.tree)
 sound_image start (Synced ∷ older) sound = refl
 
--- and images are trees
-pub image_tree : (start : Disk) (calls : List Call) (image : Disk) → IsSound start calls → MayLeave start calls image → IsTree image
-image_tree start [] image sound is = subst IsTree (sym is) sound
-image_tree start (Did change ∷ older) image sound is = is.3
-image_tree start (Broke change left ∷ older) image sound is = is.3
-image_tree start (Synced ∷ older) image sound is = subst IsTree (sym is) (sound_tree start older sound)
-
 -- after a sync all is on the disk, and no image comes that wasn't one before
 pub settled : (old new : Log) → IsSound old.start old.calls → new ≡ adds old Synced → (IsSteady new × (now new ≡ now old)) × LeavesOnly old new (IsImage old)
 settled old new sound is = (

@@ -43,6 +43,13 @@ changed_by None (Some y) P Q f p = absurd p
 changed_by (Some x) None P Q f p = absurd p
 changed_by (Some x) (Some y) P Q f p = f x y p
 
+-- two facts of one change
+pub both_changed : {X : Type 0} (a b : Option X) (P Q : X → X → Type 0) → Changes a b P → Changes a b Q → Changes a b (λ x y. P x y × Q x y)
+both_changed None None P Q p q = tt
+both_changed None (Some y) P Q p q = absurd p
+both_changed (Some x) None P Q p q = absurd p
+both_changed (Some x) (Some y) P Q p q = (p, q)
+
 -- what follows from a change and from what was told before it
 pub changed_from : {X : Type 0} (a b : Option X) (P : X → Type 0) (Q R : X → X → Type 0) → ((x y : X) → P x → Q x y → R x y) → Told a P → Changes a b Q → Changes a b R
 changed_from None None P Q R f p q = tt

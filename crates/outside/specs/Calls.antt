@@ -5,7 +5,7 @@ use Rattle.std.specs.Prelude.{◌≡◌, ◌⊎◌, ℕ, ◌+◌, ◌<◌, ◌�
 abbrev pub risen : ℕ → ℕ
 risen n = if n == 2 ^ 64 - 1 then n else n + 1
 
--- a count of faults rose, or stands at its end, where it can't
+-- a count of faults rose, or is at its end, where it can't
 abbrev pub Rose : ℕ → ℕ → Type 0
 Rose before now = (before < now) ⊎ (now ≡ 2 ^ 64 - 1)
 

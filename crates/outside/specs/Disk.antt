@@ -18,7 +18,7 @@ Path = List (List ℕ)
 abbrev pub path_cmp : Path → Path → Ordering
 path_cmp = slice_cmp (slice_cmp nat_cmp)
 
--- what stands at a path: a folder, or a file and its bytes
+-- what is at a path: a folder, or a file and its bytes
 pub data Node : Type 0 where
   folder : Node
   file : List ℕ → Node

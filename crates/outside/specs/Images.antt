@@ -63,7 +63,7 @@ IsImage log image = MayLeave log.start log.calls image
 abbrev pub moment : Log → ℕ
 moment log = length log.calls
 
--- the log as it stood at a moment
+-- the log as it was at a moment
 abbrev pub log_at : Log → ℕ → Log
 log_at log m = record { start = log.start; calls = drop (length log.calls - m) log.calls }
 

@@ -3,7 +3,7 @@ ghost use Rattle.outside.specs.Calls.{Told};
 
 /// A clock. One that goes tells nothing.
 pub trait Clock {
-    /// The second that every call gives, where it tells.
+    /// The second that every call returns, where it tells.
     ghost second: { Self → Option ℕ };
 
     /// The seconds since 1970-01-01.

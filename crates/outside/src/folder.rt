@@ -8,7 +8,7 @@ use std::alloc::Global;
 use thiserror::Error;
 use vault_path::{Text, VaultPath};
 
-/// What stands at a path.
+/// What is at a path.
 #[derive(Clone, Copy, Debug, PartialEq, Eq)]
 pub enum Kind {
     /// A folder.
@@ -49,7 +49,7 @@ pub trait Reads {
     /// How many changing calls there were, which every folder tells.
     ghost changes: { Self → ℕ };
 
-    /// What stands at a path, if anything. It has no condition.
+    /// What is at a path, if anything. It has no condition.
     fn kind(&mut self, path: &VaultPath) -> Result<Option<Kind>, FolderErr>
         ensures kind { IfOk result (λ kind. Told (disk_in (log self.old)) (λ d. kind ≡ kind_at d path.now)) }
         ensures tree { Told (disk_in (log self.old)) IsTree }

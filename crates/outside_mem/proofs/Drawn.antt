@@ -1,13 +1,9 @@
 -- Words that are drawn one after another.
-use Rattle.std.proofs.Common.{◌≡◌, ℕ, zero, suc, ◌+◌, List, [], ◌++◌, refl, ap, ◌∙◌, append_assoc, arith, add-one, add-zero, zero-add}
+use Rattle.std.proofs.Common.{◌≡◌, ℕ, zero, suc, ◌+◌, List, [], ◌++◌, ap, ◌∙◌, append_assoc, arith, add-zero, zero-add}
 use Rattle.std.specs.Int.{w32, to_le_bytes}
 use Rattle.rand_chacha.specs.ChaCha.{word_at}
 use Rattle.std.proofs.lemmas.Grind.{common_steps}
 use Rattle.outside_mem.specs.Words.{words_from}
-
--- one word more
-pub words_from-more : (key : List ℕ) (place n : ℕ) → words_from key place (n + 1) ≡ words_from key place n ++ to_le_bytes w32 (word_at 10 key 0 (place + n))
-words_from-more key place n = rw add-one refl
 
 append_nil : (xs : List ℕ) → xs ≡ xs ++ []
 append_nil xs = grind (arith, common_steps)

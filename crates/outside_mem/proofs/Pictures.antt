@@ -1,5 +1,4 @@
 -- What a picture has is what a stop may leave, and it is one disk.
-use Rattle.std.specs.Prelude.{⊤}
 use Rattle.std.proofs.Common.{◌≡◌, ◌≢◌, ◌⊎◌, ◌==◌, Bool, true, false, true≢false, ℕ, suc, ◌+◌, ◌-◌, ◌≤◌, ◌<◌, List, [], ◌∷◌, ◌++◌, min, length, take, get_or, replicate, refl, sym, ap, subst, ◌∙◌, inl, inr, arith}
 use Rattle.std.proofs.lemmas.Bool.Decides.{Decides-eqb}
 use Rattle.std.specs.List.{AllByRecursion}
@@ -22,18 +21,6 @@ use Rattle.outside_mem.specs.declared.images.Choice.{Choice}
 use Rattle.outside_mem.proofs.Logs.{part_with, up_to_more}
 
 -- ---- a change that is tried
-
--- it leaves one disk
-pub tried_once : (change : Change) (d a b : Disk) → IsTried change d a → IsTried change d b → a ≡ b
-tried_once change d a b (inl one) (inl other) = one.1 ∙ sym other.1
-tried_once change d a b (inl one) (inr other) = absurd (other.0 one.0)
-tried_once change d a b (inr one) (inl other) = absurd (one.0 other.0)
-tried_once change d a b (inr one) (inr other) = one.1 ∙ sym other.1
-
-pub are_tried_once : (changes : List Change) (d a b : Disk) → AreTried changes d a → AreTried changes d b → a ≡ b
-are_tried_once [] d a b one other = one ∙ sym other
-are_tried_once (change ∷ older) d a b one other =
-    tried_once change one.0 a b one.2 (subst (λ (before : Disk). IsTried change before b) (sym (are_tried_once older d one.0 other.0 one.1 other.1)) other.2)
 
 can_without : (change : Change) (others : List ℕ) (d : Disk) → CanDo (with_bytes change others) d → CanDo change d
 can_without (MakeDir p) others d can = can
@@ -107,21 +94,9 @@ picture_image choice start (Synced ∷ older) d sound h = (h, subst IsTree (sym 
 
 -- ---- the picture of all is what reads give now, where no call broke off
 
-abbrev pub NoneBroke : List Call → Type 0
-NoneBroke [] = ⊤
-NoneBroke (Did change ∷ older) = NoneBroke older
-NoneBroke (Broke change left ∷ older) = ⊥
-NoneBroke (Synced ∷ older) = ⊤
-
 all_made : (change : Change) (older before d : Disk) → before ≡ older → CanDo change older → IsTried change before d → d ≡ done change older
 all_made change older before d same can (inl made) = made.1 ∙ ap (done change) same
 all_made change older before d same can (inr left) = absurd (left.0 (subst (λ (e : Disk). CanDo change e) (sym same) can))
-
-pub all_now : (start : Disk) (calls : List Call) (d : Disk) → IsSound start calls → NoneBroke calls → AreTried (changes_since calls) (synced_disk start calls) d → d ≡ disk_after start calls
-all_now start [] d sound none h = h
-all_now start (Did change ∷ older) d sound none h = all_made change (disk_after start older) h.0 d (all_now start older h.0 sound.0 none h.1) sound.1 h.2
-all_now start (Broke change left ∷ older) d sound none h = absurd none
-all_now start (Synced ∷ older) d sound none h = h
 
 -- ---- a picture that is made call by call
 

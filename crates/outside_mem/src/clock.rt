@@ -3,7 +3,7 @@ ghost use Rattle.std.specs.Prelude.{◌≡◌, Some};
 use outside::{Clock, Gate, Stage};
 use std::marker::Model;
 
-/// A clock that stands at one second. Clauses see that second.
+/// A clock that is at one second. Clauses see that second.
 #[derive(Drop)]
 pub struct SetClock {
     second: u32,
@@ -18,7 +18,7 @@ impl Model for SetClock {
 }
 
 impl SetClock {
-    /// A clock that stands at this second since 1970-01-01.
+    /// A clock that is at this second since 1970-01-01.
     pub fn new(second: u32) -> SetClock
         ensures { result ≡ second }
     {

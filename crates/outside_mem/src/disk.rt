@@ -11,14 +11,14 @@ use std::collections::BTreeMap;
 use std::marker::Model;
 use vault_path::{Text, VaultPath};
 
-/// What stands at a path.
+/// What is at a path.
 #[derive(Drop)]
 pub enum Held {
     Folder,
     File(Vec<u8>),
 }
 
-/// What stands at each path of a folder. Clauses see the disk.
+/// What is at each path of a folder. Clauses see the disk.
 #[derive(Drop)]
 pub struct MemDisk {
     held: BTreeMap<VaultPath, Held>,
@@ -47,7 +47,7 @@ impl MemDisk {
         Ok(MemDisk { held })
     }
 
-    /// What stands at a path.
+    /// What is at a path.
     pub fn kind(&self, path: &VaultPath) -> Option<Kind>
         ensures { result ≡ kind_at self.now path.now }
     {
@@ -97,7 +97,7 @@ impl MemDisk {
         names_in(alloc, &self.held, folder)
     }
 
-    /// Sets what stands at a path. After refused memory all is as it was.
+    /// Sets what is at a path. After refused memory all is as it was.
     pub fn set(&mut self, path: &VaultPath, held: Held) -> Result<(), AllocError>
         ensures ok { OnOk result (self.new ≡ map.insert self.old path.now (node_of held)) }
         ensures err { OnErr result (self.new ≡ self.old) }
@@ -106,7 +106,7 @@ impl MemDisk {
         Ok(())
     }
 
-    /// Takes away what stands at a path.
+    /// Takes away what is at a path.
     pub fn unset(&mut self, path: &VaultPath)
         ensures { self.new ≡ map.remove self.old path.now }
     {

@@ -1,5 +1,5 @@
 ghost use Rattle.std.specs.Prelude.{◌≡◌, ◌↔◌, ◌⊎◌, true, ◌-◌, ◌≤◌, [], ◌∷◌, ℕ, List, Some, length, take, drop, min, IfOk, IfErr, OnOk, OnErr, IsErr, IsErrOf, IsTrue, Err};
-ghost use Rattle.outside.specs.Calls.{risen};
+ghost use Rattle.outside.specs.Calls.{KeepsFrom, risen};
 ghost use Rattle.outside.specs.Disk.{kind_at, node_at, file, IsFolder, IsFile, IsListing, IsTree};
 ghost use Rattle.outside.specs.Changes.{MakeDir, Put, Write, SetLen, Move, RemoveFile, RemoveDir, CanDo, done};
 ghost use Rattle.outside.specs.Images.{Did, Broke, Synced, now, adds, IsSound, HasDone, HasBroken};
@@ -333,7 +333,7 @@ impl Reads for MemFolder {
     /// Fails at a listed call alone.
     fn read(&mut self, path: &VaultPath, at: u64, out: &mut [u8]) -> Result<usize, FolderErr>
         ensures count { IfOk result (λ n. n ≤ length out.old) }
-        ensures rest { IfOk result (λ n. drop n out.new ≡ drop n out.old) }
+        ensures rest { IfOk result (λ n. KeepsFrom n out.old out.new) }
         ensures bytes { IfOk result (λ n. (bytes : List ℕ) × (node_at (now self.old.log) path.now ≡ Some (file bytes))
             × (n ≡ min (length out.old) (length bytes - at)) × (take n out.new ≡ take n (drop at bytes))) }
         ensures unfit { IsErrOf result FolderErr.Unfit → ¬ IsFile (now self.old.log) path.now }
@@ -489,7 +489,7 @@ impl Folder for MemFolder {
 fn copy_at(bytes: &[u8], at: u64, out: &mut [u8]) -> usize
     ensures count { result ≡ min (length out.old) (length bytes.now - at) }
     ensures bytes { take result out.new ≡ take result (drop at bytes.now) }
-    ensures rest { drop result out.new ≡ drop result out.old }
+    ensures rest { KeepsFrom result out.old out.new }
 {
     let start = bytes.len().min(at as usize);
     copy_front(&bytes[start..], usize::MAX, out)

@@ -1,4 +1,5 @@
-ghost use Rattle.std.specs.Prelude.{◌≡◌, ◌↔◌, ◌++◌, [], ◌∷◌, Some, length, take, drop, min, max, IfOk, OnErr, IsErr, IsTrue, is_err, MatchOption};
+ghost use Rattle.std.specs.Prelude.{◌≡◌, ◌↔◌, ◌++◌, [], ◌∷◌, Some, length, take, min, max, IfOk, OnErr, IsErr, IsTrue, is_err, MatchOption};
+ghost use Rattle.outside.specs.Calls.{KeepsFrom};
 ghost use Rattle.outside_mem.specs.Plan.{no_faults, fails_next, after, failing_at};
 ghost use Rattle.outside_mem.specs.Links.{Ends, Links};
 
@@ -72,7 +73,7 @@ impl Link for MemLink {
     /// Reads as its source does.
     fn read(&mut self, out: &mut [u8]) -> Result<usize, Failed>
         ensures count { IfOk result (λ n. n ≡ min (length out.old) (min (length self.old.source.left) (max 1 self.old.source.piece))) }
-        ensures rest { IfOk result (λ n. drop n out.new ≡ drop n out.old) }
+        ensures rest { IfOk result (λ n. KeepsFrom n out.old out.new) }
         ensures bytes { IfOk result (λ n. self.old.source.left ≡ take n out.new ++ self.new.source.left) }
         ensures failed { OnErr result (self.new.source.left ≡ self.old.source.left) }
         ensures listed { IsErr result ↔ IsTrue (fails_next self.old.source.plan) }

@@ -1,4 +1,5 @@
 ghost use Rattle.std.specs.Prelude.{◌≡◌, ◌≤◌, ◌↔◌, ◌-◌, ◌^◌, ◌++◌, [], Some, Ok, length, take, drop, min, max, IfOk, OnErr, IsErr, IsTrue, is_err};
+ghost use Rattle.outside.specs.Calls.{KeepsFrom};
 ghost use Rattle.outside_mem.specs.Plan.{no_faults, fails_next, after, failing_at};
 ghost use Rattle.outside_mem.specs.Streams.{Left, Taken};
 
@@ -83,7 +84,7 @@ impl Source for MemSource {
     /// Gives as many bytes as are left, `out` has room for and a piece has, but at least 1 of some.
     fn read(&mut self, out: &mut [u8]) -> Result<usize, Failed>
         ensures count { IfOk result (λ n. n ≡ min (length out.old) (min (length self.old.left) (max 1 self.old.piece))) }
-        ensures rest { IfOk result (λ n. drop n out.new ≡ drop n out.old) }
+        ensures rest { IfOk result (λ n. KeepsFrom n out.old out.new) }
         ensures bytes { IfOk result (λ n. self.old.left ≡ take n out.new ++ self.new.left) }
         ensures failed { OnErr result (self.new.left ≡ self.old.left) }
         ensures listed { IsErr result ↔ IsTrue (fails_next self.old.plan) }
@@ -103,7 +104,7 @@ impl Source for MemSource {
 pub fn copy_front(from: &[u8], most: usize, out: &mut [u8]) -> usize
     ensures count { result ≡ min (length out.old) (min (length from.now) most) }
     ensures bytes { take result out.new ≡ take result from.now }
-    ensures rest { drop result out.new ≡ drop result out.old }
+    ensures rest { KeepsFrom result out.old out.new }
 {
     let n = out.len().min(from.len().min(most));
     out[..n].copy_from_slice(&from[..n]);

@@ -1,4 +1,5 @@
-ghost use Rattle.std.specs.Prelude.{◌≡◌, ◌↔◌, false, ◌≤◌, [], ◌∷◌, ◌++◌, string_bytes, OnOk, OnErr, length, drop, IfOk, IsErr, IsTrue, IsOkUnless, IsErrOf};
+ghost use Rattle.std.specs.Prelude.{◌≡◌, ◌↔◌, false, ◌≤◌, [], ◌∷◌, ◌++◌, string_bytes, OnOk, OnErr, length, IfOk, IsErr, IsTrue, IsOkUnless, IsErrOf};
+ghost use Rattle.outside.specs.Calls.{KeepsFrom};
 ghost use Rattle.outside_real.specs.HostPath.{host_path};
 ghost use Rattle.outside_real.specs.Missing.{IsMisfit};
 
@@ -73,7 +74,7 @@ fn names_in<R: Files>(rt: &R, alloc: Global, text: &str) -> Result<Vec<Text>, Fo
     Ok(names)
 }
 
-/// Flushes what stands at a path. Where nothing does, that is so by what is flushed of the folder above.
+/// Flushes what is at a path. Where nothing is, that is so by what is flushed of the folder above.
 fn flush_path<R: Files>(rt: &R, paths: &mut PathBuffer, path: &VaultPath) -> Result<(), FolderErr>
     ensures no_memory { IsOkUnless result FolderErr.Failed }
     ensures base { string_bytes paths.new.base ≡ string_bytes paths.old.base }
@@ -164,7 +165,7 @@ impl<R: Files> Host<R> {
         out: &mut [u8],
     ) -> Result<usize, FolderErr>
         ensures count { IfOk result (λ n. n ≤ length out.old) }
-        ensures rest { IfOk result (λ n. drop n out.new ≡ drop n out.old) }
+        ensures rest { IfOk result (λ n. KeepsFrom n out.old out.new) }
         ensures no_memory { IsErrOf result FolderErr.Memory → ⊥ }
     {
         match self.find(path)? {
@@ -176,7 +177,7 @@ impl<R: Files> Host<R> {
         }
     }
 
-    /// Has the next sync flush what stands at a path. Where there is no room to keep the path, it is flushed now.
+    /// Has the next sync flush what is at a path. Where there is no room to keep the path, it is flushed now.
     fn touch(&mut self, path: &VaultPath) {
         if !self.touched.keep(path) && flush_path(&self.rt, &mut self.paths, path).is_err() {
             self.flush_failed = true;

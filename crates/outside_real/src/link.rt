@@ -1,6 +1,6 @@
-ghost use Rattle.std.specs.Prelude.{◌≡◌, ◌≤◌, ◌<◌, [], drop, length, take, if◌then◌else◌, IfOk, OnErr, IsErr, None, Ok};
+ghost use Rattle.std.specs.Prelude.{◌≡◌, ◌≤◌, ◌<◌, [], length, take, if◌then◌else◌, IfOk, OnErr, IsErr, None, Ok};
 ghost use Rattle.std.specs.Io.KnownBytes.{Consumes, IsAtEnd};
-ghost use Rattle.outside.specs.Calls.{HasCause, TakesFront, Told};
+ghost use Rattle.outside.specs.Calls.{HasCause, KeepsFrom, TakesFront, Told};
 ghost use Rattle.outside_real.specs.Behind.{link_reader, link_writer};
 
 use crate::count::counted;
@@ -68,7 +68,7 @@ impl<I: Incoming, O: Outgoing> Link for StreamLink<I, O> {
 
     fn read(&mut self, out: &mut [u8]) -> Result<usize, Failed>
         ensures count { IfOk result (λ n. n ≤ length out.old) }
-        ensures rest { IfOk result (λ n. drop n out.new ≡ drop n out.old) }
+        ensures rest { IfOk result (λ n. KeepsFrom n out.old out.new) }
         ensures bytes { IfOk result (λ n. TakesFront (⟦<StreamLink<I, O> as Link>⟧.left self.old) (⟦<StreamLink<I, O> as Link>⟧.left self.new) (take n out.new)) }
         ensures end { result ≡ Ok 0 → 0 < length out.old → Told (⟦<StreamLink<I, O> as Link>⟧.left self.old) (λ bytes. bytes ≡ []) }
         ensures failed { OnErr result (⟦<StreamLink<I, O> as Link>⟧.left self.new ≡ ⟦<StreamLink<I, O> as Link>⟧.left self.old) }

@@ -1,4 +1,5 @@
-ghost use Rattle.std.specs.Prelude.{◌≡◌, ◌≤◌, length, drop, IfOk};
+ghost use Rattle.std.specs.Prelude.{◌≡◌, ◌≤◌, length, IfOk};
+ghost use Rattle.outside.specs.Calls.{KeepsFrom};
 
 use crate::found::{Found, found_of, is_same};
 use crate::transfer::read_full;
@@ -52,7 +53,7 @@ pub(crate) fn read_at<R: Files>(
     out: &mut [u8],
 ) -> io::Result<usize>
     ensures count { IfOk result (λ n. n ≤ length out.old) }
-    ensures rest { IfOk result (λ n. drop n out.new ≡ drop n out.old) }
+    ensures rest { IfOk result (λ n. KeepsFrom n out.old out.new) }
 {
     let mut file = open_seen(rt, text, &to_read(), seen)?;
     file.seek(SeekFrom::Start(at))?;

@@ -2,20 +2,24 @@ ghost use Rattle.std.specs.Prelude.{◌≡◌, ◌+◌, ◌≤◌, ◌∷◌, �
 ghost use Rattle.std.specs.String.{string_capacity};
 ghost use Rattle.vault_path.specs.Parts.{is_part};
 ghost use Rattle.outside_real.specs.HostPath.{host_path, joined};
+ghost use Rattle.outside_real.specs.declared.path_buffer.TheConstants.{LONGEST_PARTS};
 
 use std::alloc::{AllocError, Global};
 use std::str;
 use vault_path::VaultPath;
 
-/// What the parts of the longest path take: 6 parts of 255 bytes, each after a slash.
-const LONGEST_PARTS: usize = 6 * 256;
+/// What the longest part takes: 255 bytes after a slash.
+const LONGEST_PART: usize = 256;
+
+/// What the parts of the longest path take, of which there are 6.
+const LONGEST_PARTS: usize = 6 * LONGEST_PART;
 
 /// A folder's own path, and room for the host's text of any path in it.
 #[derive(Drop)]
 pub(crate) struct PathBuffer {
     base: String,
     room: String,
-    ghost roomy: { string_len base + 1536 ≤ string_capacity room },
+    ghost roomy: { string_len base + LONGEST_PARTS ≤ string_capacity room },
 }
 
 impl PathBuffer {
@@ -73,9 +77,9 @@ fn compose(base: &str, room: &mut String, path: &VaultPath)
 /// Appends a slash and a part, for which there is room.
 fn push_part(room: &mut String, part: &[u8])
     requires good { IsTrue (is_part part.now) }
-    requires fits { string_len room.old + 256 ≤ string_capacity room.old }
+    requires fits { string_len room.old + LONGEST_PART ≤ string_capacity room.old }
     ensures text { string_bytes room.new ≡ string_bytes room.old ++ 47 ∷ part.now }
-    ensures len { string_len room.new ≤ string_len room.old + 256 }
+    ensures len { string_len room.new ≤ string_len room.old + LONGEST_PART }
     ensures capacity { string_capacity room.old ≤ string_capacity room.new }
 {
     room.push_str("/").unwrap();

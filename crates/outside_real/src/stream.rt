@@ -1,6 +1,6 @@
-ghost use Rattle.std.specs.Prelude.{◌≡◌, ◌≤◌, ◌<◌, [], drop, length, min, take, if◌then◌else◌, IfOk, OnErr, IsErr, None, Ok};
+ghost use Rattle.std.specs.Prelude.{◌≡◌, ◌≤◌, ◌<◌, [], length, min, take, if◌then◌else◌, IfOk, OnErr, IsErr, None, Ok};
 ghost use Rattle.std.specs.Io.KnownBytes.{Consumes, IsAtEnd};
-ghost use Rattle.outside.specs.Calls.{HasCause, TakesFront, Told};
+ghost use Rattle.outside.specs.Calls.{HasCause, KeepsFrom, TakesFront, Told};
 ghost use Rattle.outside_real.specs.Behind.{source_reader, sink_writer};
 
 use crate::count::counted;
@@ -42,7 +42,7 @@ impl<I: Incoming> Source for StdSource<I> {
 
     fn read(&mut self, out: &mut [u8]) -> Result<usize, Failed>
         ensures count { IfOk result (λ n. n ≤ min 1 (length out.old)) }
-        ensures rest { IfOk result (λ n. drop n out.new ≡ drop n out.old) }
+        ensures rest { IfOk result (λ n. KeepsFrom n out.old out.new) }
         ensures bytes { IfOk result (λ n. TakesFront (⟦<StdSource<I> as Source>⟧.left self.old) (⟦<StdSource<I> as Source>⟧.left self.new) (take n out.new)) }
         ensures end { result ≡ Ok 0 → 0 < length out.old → Told (⟦<StdSource<I> as Source>⟧.left self.old) (λ bytes. bytes ≡ []) }
         ensures failed { OnErr result (⟦<StdSource<I> as Source>⟧.left self.new ≡ ⟦<StdSource<I> as Source>⟧.left self.old) }

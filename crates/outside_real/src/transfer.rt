@@ -1,5 +1,6 @@
-ghost use Rattle.std.specs.Prelude.{◌≡◌, ◌≤◌, ◌<◌, length, take, drop, min, IfOk, Ok, OnErr};
+ghost use Rattle.std.specs.Prelude.{◌≡◌, ◌≤◌, ◌<◌, length, take, min, IfOk, Ok, OnErr};
 ghost use Rattle.std.specs.Io.KnownBytes.{Consumes, Appends, IsAtEnd, Keeps};
+ghost use Rattle.outside.specs.Calls.{KeepsFrom};
 
 use std::io;
 use std::io::{Error, ErrorKind, Read, Write};
@@ -26,7 +27,7 @@ fn read_once<I: Read>(input: &mut I, out: &mut [u8]) -> io::Result<usize>
 /// Reads some bytes, at most `out` has room for, and says how many. The rest of `out` is as it was.
 pub(crate) fn read_some<I: Read>(input: &mut I, out: &mut [u8]) -> io::Result<usize>
     ensures count { IfOk result (λ n. n ≤ length out.old) }
-    ensures rest { IfOk result (λ n. drop n out.new ≡ drop n out.old) }
+    ensures rest { IfOk result (λ n. KeepsFrom n out.old out.new) }
     ensures bytes { IfOk result (λ n. Consumes (I.remaining input.old) (I.remaining input.new) (take n out.new)) }
     ensures end { result ≡ Ok 0 → 0 < length out.old → IsAtEnd (I.remaining input.new) }
     ensures failed { OnErr result (Keeps (I.remaining input.old) (I.remaining input.new)) }
@@ -41,7 +42,7 @@ pub(crate) fn read_some<I: Read>(input: &mut I, out: &mut [u8]) -> io::Result<us
 /// Reads one byte, if `out` has room for it, and says how many it read. The rest of `out` is as it was.
 pub(crate) fn read_one<I: Read>(input: &mut I, out: &mut [u8]) -> io::Result<usize>
     ensures count { IfOk result (λ n. n ≤ min 1 (length out.old)) }
-    ensures rest { IfOk result (λ n. drop n out.new ≡ drop n out.old) }
+    ensures rest { IfOk result (λ n. KeepsFrom n out.old out.new) }
     ensures bytes { IfOk result (λ n. Consumes (I.remaining input.old) (I.remaining input.new) (take n out.new)) }
     ensures end { result ≡ Ok 0 → 0 < length out.old → IsAtEnd (I.remaining input.new) }
     ensures failed { OnErr result (Keeps (I.remaining input.old) (I.remaining input.new)) }
@@ -60,7 +61,7 @@ pub(crate) fn read_one<I: Read>(input: &mut I, out: &mut [u8]) -> io::Result<usi
 /// Reads until `out` is full or the end comes, and says how many bytes it read. The rest of `out` is as it was.
 pub(crate) fn read_full<I: Read>(input: &mut I, out: &mut [u8]) -> io::Result<usize>
     ensures count { IfOk result (λ n. n ≤ length out.old) }
-    ensures rest { IfOk result (λ n. drop n out.new ≡ drop n out.old) }
+    ensures rest { IfOk result (λ n. KeepsFrom n out.old out.new) }
     ensures bytes { IfOk result (λ n. Consumes (I.remaining input.old) (I.remaining input.new) (take n out.new)) }
     ensures end { IfOk result (λ n. n < length out.old → IsAtEnd (I.remaining input.new)) }
 {

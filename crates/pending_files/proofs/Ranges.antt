@@ -85,10 +85,6 @@ With below same one r more rs = if below then r ∷ more else if same then one �
 pub places_apart : (a b : ℕ) → IsPlace a → IsPlace b → a < b → a + 32796 ≤ b
 places_apart a b at_a at_b lt = omega (arith, at_a.1, at_b.1, lt)
 
-pub chunks_from : (low from most : ℕ) (rs : Ranges) → low ≤ from → AreChunks from most rs → AreChunks low most rs
-chunks_from low from most [] le are = tt
-chunks_from low from most (r ∷ rs) le are = (omega (arith, are.0), are.1, are.2, are.3, are.4)
-
 pub chunks_with : (from most at : ℕ) (bytes : List ℕ) (rs : Ranges) → AreChunks from most rs → from ≤ at → IsPlace at → length bytes ≤ 32796 → at + length bytes ≤ most → AreChunks from most (with_chunk at bytes rs)
 chunks_with from most at bytes [] are le place short within = (le, place, short, within, tt)
 chunks_with from most at bytes (r ∷ rs) are le place short within = step (chunks_with (r.0 + 32796) most at bytes rs are.4) (nat_lt r.0 at) (r.0 == at) refl refl

@@ -1,25 +1,12 @@
 -- Windows of a file over which bytes are laid.
-use Rattle.std.proofs.Common.{◌≡◌, ◌⊎◌, ⊎_elim, ℕ, ◌+◌, ◌-◌, ◌≤◌, ◌<◌, min, List, length, get_or, take, drop, Option, Some, None, sym, ap, ◌∙◌, inl, inr, arith, length-take, length-drop}
+use Rattle.std.proofs.Common.{◌≡◌, ⊎_elim, ℕ, ◌+◌, ◌-◌, ◌≤◌, ◌<◌, min, List, length, get_or, take, drop, Option, Some, None, sym, ap, ◌∙◌, arith, length-take, length-drop}
 use Rattle.std.proofs.lemmas.Bool.{cases_lt}
 use Rattle.std.proofs.lemmas.List.{get_or-take, get_or-drop, ext_get_or}
 use Rattle.outside.specs.Changes.{overwritten}
 use Rattle.std.specs.Prelude.{Result, Ok, Err, IfOk}
-use Rattle.outside.specs.Calls.{Told, IsUnfit}
+use Rattle.outside.specs.Calls.{IsUnfit}
 use Rattle.deeds.proofs.Overwritten.{long_over, get_before, get_behind, get_inside}
 use Rattle.pending_files.specs.Later.{Shows}
-
--- bytes that lie outside of the window
-pub passed_by : (was bytes window : List ℕ) (place at : ℕ) → place ≤ length was → (length bytes ≤ at - place) ⊎ (length window ≤ place - at) → Shows at was window → Shows at (overwritten was place bytes) window
-passed_by was bytes window place at le (inl before) shows i lt within =
-    let long = long_over was place bytes le in
-    ⊎_elim (λ (below : at + i < place). shows i lt (omega (arith, le)) ∙ sym (get_before was place bytes (at + i) le below))
-    (λ (from : place ≤ at + i).
-    let behind : place + length bytes ≤ at + i = omega (arith, before) in
-    shows i lt (omega (arith, long, within, behind)) ∙ sym (get_behind was place bytes (at + i) le behind))
-    (cases_lt (at + i) place)
-passed_by was bytes window place at le (inr after) shows i lt within =
-    let below : at + i < place = omega (arith, after) in
-    shows i lt (omega (arith, le)) ∙ sym (get_before was place bytes (at + i) le below)
 
 -- bytes of which the window shows a piece
 pub laid : (was bytes window piece : List ℕ) (place at skip start count : ℕ) → place ≤ length was → skip ≡ at - place → start ≡ place - at → skip < length bytes → start < length window
@@ -63,10 +50,6 @@ shown_cut bytes window at len le short shows =
     (omega (arith, length-take (length window) (drop at (take len bytes)), length-drop at (take len bytes), long, le, short))
     (λ i lt. let here : at + i < len = omega (arith, short) in
     shows i lt (omega (arith, here, le)) ∙ sym (get_or-take (length window) (drop at (take len bytes)) i 0 lt ∙ get_or-drop at (take len bytes) i 0 ∙ get_or-take len bytes (at + i) 0 here))
-
-pub told_more : {X : Type 0} (o : Option X) (P Q : X → Type 0) → ((x : X) → P x → Q x) → Told o P → Told o Q
-told_more None P Q more told = told
-told_more (Some x) P Q more told = more x told
 
 pub ok_more : {X E : Type 0} (r : Result X E) (P Q : X → Type 0) → ((x : X) → P x → Q x) → IfOk r P → IfOk r Q
 ok_more (Ok x) P Q more if_ok = more x if_ok

@@ -86,12 +86,6 @@ cut_written n from most (r ∷ rs) was are can =
 
 -- ---- a chunk put
 
-can_longer : (rs : Ranges) (x y : List ℕ) → CanWrite rs x → length x ≤ length y → CanWrite rs y
-can_longer [] x y can le = tt
-can_longer (r ∷ rs) x y can le =
-    let here : r.0 ≤ length y = omega (arith, can.0) in
-    (here, can_longer rs (overwritten x r.0 r.1) (overwritten y r.0 r.1) can.1 (omega (arith, long_over x r.0 r.1 can.0, long_over y r.0 r.1 here)))
-
 -- two writes of which the first ends before the other begins
 swap : (x : List ℕ) (a : ℕ) (s : List ℕ) (b : ℕ) (t : List ℕ) → a + length s ≤ b → b ≤ length x → overwritten (overwritten x a s) b t ≡ overwritten (overwritten x b t) a s
 swap x a s b t before can =

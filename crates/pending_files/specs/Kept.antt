@@ -11,6 +11,7 @@ use Rattle.deeds.specs.declared.deed.Deed.TheVariants.{MakeDir, Put, Rename, Rem
 use Rattle.deeds.specs.Deeds.{PlainDeed}
 use Rattle.deeds.specs.Plain.{plains}
 use Rattle.pending_files.specs.Pending.{is_at, ArePending, chunk_count, sealed_length}
+use Rattle.pending_files.specs.declared.room.TheConstants.{MOST}
 use Rattle.pending_files.specs.declared.pending.Pending.TheInside.{Inside}
 
 -- a buffer that takes a whole sealed chunk
@@ -22,11 +23,11 @@ InBuffer range = IsBuffer range.bytes
 
 -- a list that takes as many ranges as can wait
 pub record IsList (list : Vec Range Global) : Type 0 where
-  pub room : 64 ≤ vec_capacity list
+  pub room : MOST ≤ vec_capacity list
   pub buffers : AllByRecursion InBuffer list.items
 
 pub record IsEmptyList (list : Vec Range Global) : Type 0 where
-  pub room : 64 ≤ vec_capacity list
+  pub room : MOST ≤ vec_capacity list
   pub empty : list.items ≡ []
 
 abbrev pub InList : Deed → Type 0
@@ -39,30 +40,30 @@ InList (RemoveDir path) = ⊥
 
 -- spare buffers, with room for all that are in use
 pub record AreBuffers (buffers : Vec (Vec ℕ Global) Global) : Type 0 where
-  pub room : 64 ≤ vec_capacity buffers
+  pub room : MOST ≤ vec_capacity buffers
   pub each : AllByRecursion IsBuffer buffers.items
 
 pub record AreLists (lists : Vec (Vec Range Global) Global) : Type 0 where
-  pub room : 64 ≤ vec_capacity lists
+  pub room : MOST ≤ vec_capacity lists
   pub each : AllByRecursion IsEmptyList lists.items
 
 pub record AreLent (deeds : Vec Deed Global) : Type 0 where
-  pub room : 64 ≤ vec_capacity deeds
+  pub room : MOST ≤ vec_capacity deeds
   pub each : AllByRecursion InList deeds.items
 
 abbrev pub plain_deeds : Inside → List PlainDeed
 plain_deeds p = plains p.deeds.items
 
--- what waits and what is spare are 64 lists and 64 buffers
+-- what waits and what is spare are as many lists and as many buffers as can wait
 pub record IsKept (p : Inside) : Type 0 where
   pub pending : ArePending (plains p.deeds.items)
   pub deeds : AreLent p.deeds
   pub lists : AreLists p.lists
   pub buffers : AreBuffers p.buffers
-  pub all_lists : vec_len p.deeds + vec_len p.lists ≡ 64
-  pub all_buffers : chunk_count (plains p.deeds.items) + vec_len p.buffers ≡ 64
+  pub all_lists : vec_len p.deeds + vec_len p.lists ≡ MOST
+  pub all_buffers : chunk_count (plains p.deeds.items) + vec_len p.buffers ≡ MOST
 
--- the first deed of the file stands at this index
+-- the first deed of the file is at this index
 abbrev pub IsIndexOf : Path → List PlainDeed → ℕ → Type 0
 IsIndexOf path [] index = ⊥
 IsIndexOf path (deed ∷ deeds) zero = IsTrue (is_at path deed)

@@ -7,6 +7,8 @@
 //! }
 //! let count = pending.read_through(&mut folder, &path, 68, &mut buffer)?; // what a read gives once all is committed
 //! ```
+//!
+//! Laws: `doing_what_waits`, `cutting_what_waits`, `putting_in_what_waits` and `laying_what_waits`, which do nothing.
 #![tactic(auto)]
 
 mod laws;

@@ -18,7 +18,7 @@ pub(crate) const MOST: usize = 64;
 
 /// Buffers for as many chunks as can wait.
 pub(crate) fn new_buffers(alloc: Global) -> Result<Vec<Vec<u8>>, AllocError>
-    ensures { IfOk result (λ buffers. AreBuffers buffers × (vec_len buffers ≡ 64)) }
+    ensures { IfOk result (λ buffers. AreBuffers buffers × (vec_len buffers ≡ MOST)) }
 {
     let mut buffers = Vec::with_capacity(alloc, MOST)?;
     for _ in 0..MOST {
@@ -29,7 +29,7 @@ pub(crate) fn new_buffers(alloc: Global) -> Result<Vec<Vec<u8>>, AllocError>
 
 /// Lists for the ranges of as many files as can wait, each with room for all of them.
 pub(crate) fn new_lists(alloc: Global) -> Result<Vec<Vec<Range>>, AllocError>
-    ensures { IfOk result (λ lists. AreLists lists × (vec_len lists ≡ 64)) }
+    ensures { IfOk result (λ lists. AreLists lists × (vec_len lists ≡ MOST)) }
 {
     let mut lists = Vec::with_capacity(alloc, MOST)?;
     for _ in 0..MOST {
@@ -79,7 +79,7 @@ fn ranges_in(deed: Deed) -> Vec<Range>
 pub(crate) fn add(deeds: &mut Vec<Deed>, deed: Deed)
     requires lent { AreLent deeds.old }
     requires list { InList deed }
-    requires room { vec_len deeds.old < 64 }
+    requires room { vec_len deeds.old < MOST }
     ensures deeds { plains deeds.new.items ≡ plains deeds.old.items ++ plain deed ∷ [] }
     ensures lent { AreLent deeds.new }
     ensures count { vec_len deeds.new ≡ vec_len deeds.old + 1 }
@@ -94,7 +94,7 @@ pub(crate) fn cut_ranges(ranges: &mut Vec<Range>, len: u64, buffers: &mut Vec<Ve
     requires list { IsList ranges.old }
     requires chunks { (most : ℕ) × AreChunks 0 most (plain_ranges ranges.old.items) }
     requires buffers { AreBuffers buffers.old }
-    requires room { vec_len ranges.old + vec_len buffers.old ≤ 64 }
+    requires room { vec_len ranges.old + vec_len buffers.old ≤ MOST }
     ensures cut { plain_ranges ranges.new.items ≡ cut_to len (plain_ranges ranges.old.items) }
     ensures list { IsList ranges.new }
     ensures buffers { AreBuffers buffers.new }
@@ -127,7 +127,7 @@ fn cut_range(mut range: Range, len: u64) -> Range
 fn push_range(ranges: &mut Vec<Range>, range: Range)
     requires list { IsList ranges.old }
     requires buffer { IsBuffer range.bytes }
-    requires room { vec_len ranges.old < 64 }
+    requires room { vec_len ranges.old < MOST }
     ensures ranges { ranges.new.items ≡ ranges.old.items ++ range ∷ [] }
     ensures list { IsList ranges.new }
     ensures count { vec_len ranges.new ≡ vec_len ranges.old + 1 }
@@ -141,7 +141,7 @@ fn push_range(ranges: &mut Vec<Range>, range: Range)
 fn give_back(buffers: &mut Vec<Vec<u8>>, buffer: Vec<u8>)
     requires buffers { AreBuffers buffers.old }
     requires buffer { IsBuffer buffer }
-    requires room { vec_len buffers.old < 64 }
+    requires room { vec_len buffers.old < MOST }
     ensures buffers { AreBuffers buffers.new }
     ensures count { vec_len buffers.new ≡ vec_len buffers.old + 1 }
 {
@@ -156,8 +156,8 @@ pub(crate) fn forget(deed: Deed, lists: &mut Vec<Vec<Range>>, buffers: &mut Vec<
     requires waits { IsWaiting (plain deed) }
     requires lists { AreLists lists.old }
     requires buffers { AreBuffers buffers.old }
-    requires room { vec_len lists.old < 64 }
-    requires all { length (its_ranges (plain deed)) + vec_len buffers.old ≤ 64 }
+    requires room { vec_len lists.old < MOST }
+    requires all { length (its_ranges (plain deed)) + vec_len buffers.old ≤ MOST }
     ensures lists { AreLists lists.new }
     ensures buffers { AreBuffers buffers.new }
     ensures count { vec_len lists.new ≡ vec_len lists.old + 1 }
@@ -172,7 +172,7 @@ pub(crate) fn forget(deed: Deed, lists: &mut Vec<Vec<Range>>, buffers: &mut Vec<
 fn give_list_back(lists: &mut Vec<Vec<Range>>, list: Vec<Range>)
     requires lists { AreLists lists.old }
     requires list { IsEmptyList list }
-    requires room { vec_len lists.old < 64 }
+    requires room { vec_len lists.old < MOST }
     ensures lists { AreLists lists.new }
     ensures count { vec_len lists.new ≡ vec_len lists.old + 1 }
 {
@@ -186,7 +186,7 @@ pub(crate) fn put_range(ranges: &mut Vec<Range>, at: u64, sealed: &[u8], buffers
     requires list { IsList ranges.old }
     requires buffers { AreBuffers buffers.old }
     requires short { length sealed.now ≤ sealed_length }
-    requires room { vec_len ranges.old < 64 }
+    requires room { vec_len ranges.old < MOST }
     requires spare { 0 < vec_len buffers.old }
     ensures put { plain_ranges ranges.new.items ≡ with_chunk at sealed.now (plain_ranges ranges.old.items) }
     ensures list { IsList ranges.new }
@@ -206,7 +206,7 @@ fn buffer_for(ranges: &mut Vec<Range>, index: usize, at: u64, buffers: &mut Vec<
     requires gap { IsGap at (plain_ranges ranges.old.items) index }
     requires list { IsList ranges.old }
     requires buffers { AreBuffers buffers.old }
-    requires room { vec_len ranges.old < 64 }
+    requires room { vec_len ranges.old < MOST }
     requires spare { 0 < vec_len buffers.old }
     ensures others { (bytes : List ℕ)
         → with_chunk at bytes (plain_ranges ranges.old.items) ≡ insert (plain_ranges ranges.new.items) index (at, bytes) }
@@ -214,7 +214,7 @@ fn buffer_for(ranges: &mut Vec<Range>, index: usize, at: u64, buffers: &mut Vec<
     ensures list { IsList ranges.new }
     ensures buffers { AreBuffers buffers.new }
     ensures buffer { IsBuffer result }
-    ensures room { vec_len ranges.new < 64 }
+    ensures room { vec_len ranges.new < MOST }
     ensures all { vec_len ranges.new + vec_len buffers.new + 1 ≡ vec_len ranges.old + vec_len buffers.old }
 {
     if index < ranges.len() && ranges[index].at == at {

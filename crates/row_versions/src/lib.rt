@@ -13,21 +13,21 @@
 ghost use Rattle.row_versions.specs.Versions.{AllAnsweredInBoth, AnsweredInBoth, EarlyRefusalsAreSame, LegalInBoth, PlacesAreSame, RowsAfterAreSame, RowsThenAreSame, StepsAreSame};
 
 /// From rows that are the same but for versions beyond 2^32 each request has the same answer and the same refusal before the work,
-/// and leads to rows that are so too.
+/// and leads to rows that are so too. It does nothing.
 pub fn steps_see_no_further()
     ensures step { StepsAreSame }
     ensures early { EarlyRefusalsAreSame }
 {}
 
 /// The same of one entry of a history: what puts a node at a new place, which answers there may be, and the rows
-/// after it.
+/// after it. It does nothing.
 pub fn entries_see_no_further()
     ensures places { PlacesAreSame }
     ensures answered { AnsweredInBoth }
     ensures rows { RowsThenAreSame }
 {}
 
-/// The same of all entries: a history that is legal from the one rows is legal from the others.
+/// The same of all entries: a history that is legal from the one rows is legal from the others. It does nothing.
 pub fn histories_see_no_further()
     ensures rows { RowsAfterAreSame }
     ensures answered { AllAnsweredInBoth }

@@ -13,7 +13,7 @@ ghost use Rattle.shape_versions.specs.Versions.{DistinctAreApart, HaveShapeToo, 
 
 /// Of rows that are the same but for versions beyond 2^32: paths lead to the same rows, their shapes are the same, and where the one
 /// have the shape of a tree the others have it too, if no two of them differ in the version alone; which is so where no number stands
-/// twice.
+/// twice. It does nothing.
 pub fn shapes_see_no_versions()
     ensures paths { PathsLeadToSameRows }
     ensures same { ShapesAreSame }

@@ -94,9 +94,6 @@ module _ (old new : List ℕ) (used : ℕ) (text : List ℕ) (put : IsPut old ne
 
 -- ---- whole stats
 
-pub stats_none : (most : ℕ) → AreStats most []
-stats_none most = record { fit = omega arith; stats = []; spelled = refl; each = tt }
-
 pub stats_more : (most : ℕ) (bytes : List ℕ) (s : PlainStat) → AreStats most bytes → IsTreeStat s → length bytes + length (spelled_stat s) ≤ most → AreStats most (bytes ++ spelled_stat s)
 stats_more most bytes s are good fit = record {
   fit = omega (arith, length-append bytes (spelled_stat s), fit);

@@ -38,7 +38,7 @@ counts k bytes = record { reply = count k; bytes = bytes }
 pub of_copy : (tree : HeldTree) (number most : ℕ) (copy after : Option (List ℕ)) (answer : Answer) → copy ≡ after → IsSizedStepOf tree (list number copy most) answer → IsSizedStepOf tree (list number after most) answer
 of_copy tree number most copy after answer same = subst (λ (a : Option (List ℕ)). IsSizedStepOf tree (list number a most) answer) same
 
--- whole stats stand at the front of the first bytes of a buffer, as many as fit there
+-- whole stats are at the front of the first bytes of a buffer, as many as fit there
 pub record AreListed (tree : HeldTree) (number : ℕ) (after : Option (List ℕ)) (most : ℕ) (old room : List ℕ) (used : ℕ) : Type 0 where
   pub large : most ≤ length old
   pub long : length room ≡ length (take most old)

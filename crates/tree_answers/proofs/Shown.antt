@@ -1,11 +1,10 @@
 -- What is shown of a node: the stat of its row, and how many bytes it has.
-use Rattle.std.proofs.Common.{◌≡◌, ℕ, ◌+◌, ◌<◌, ◌≤◌, ◌^◌, List, ◌++◌, length, take, drop, Some, refl, sym, ap, ap₂, ◌∙◌, arith}
+use Rattle.std.proofs.Common.{◌≡◌, ℕ, ◌+◌, ◌<◌, ◌^◌, List, ◌++◌, length, take, drop, Some, refl, sym, ap, ap₂, ◌∙◌, arith}
 use Rattle.std.specs.Option.{option_and_then}
-use Rattle.std.specs.Str.{IsUtf8}
 use Rattle.std.proofs.lemmas.List.{length-append, take_at, drop_at}
 use Rattle.tree_model.specs.declared.stat.Qid.{Qid}
 use Rattle.tree_model.specs.declared.stat.Stat.{Stat}
-use Rattle.tree_model.specs.Wire.{PlainStat, string, plain_stat, spelled_stat, IsTreeStat}
+use Rattle.tree_model.specs.Wire.{PlainStat, string, plain_stat, spelled_stat}
 use Rattle.tree_model.specs.Rows.{Content, content_length, length_of, qid_of, stat_at}
 use Rattle.clear_tree.specs.Kept.{What, KeptFile, KeptLink, KeptDir, KeptBad, kind_of, content_of, size_in}
 use Rattle.live_tree.specs.Held.{HeldNode, HeldTree, node_of, live_row}
@@ -45,9 +44,6 @@ pub size_is : (s : Stat) (number : ℕ) (node : HeldNode) → plain_stat s ≡ s
 size_is s number node is =
     let same : stat_size s ≡ 47 + length node.kept.name + 5 + 5 + 5 = ap (λ (p : PlainStat). 47 + length p.name + length p.owner + length p.group + length p.modifier) is in
     omega (arith, same)
-
-pub IsTreeStat-in : (number : ℕ) (node : HeldNode) → IsUtf8 node.kept.name → length node.kept.name ≤ 1024 → IsTreeStat (stat_in number node)
-IsTreeStat-in number node text short = record { name = text; short = short; size = omega (arith, stat_length number node, short) }
 
 -- the stat that was written into the front of a buffer
 pub record IsShown (number : ℕ) (node : HeldNode) (size : ℕ) (old new : List ℕ) : Type 0 where

@@ -19,7 +19,7 @@ first_name bytes = take (name_length bytes) (drop 2 bytes)
 abbrev pub names_behind : List ℕ → List ℕ
 names_behind bytes = drop (2 + name_length bytes) bytes
 
--- the first of several names stands at the front
+-- the first of several names is at the front
 pub record HasName (n : ℕ) (bytes : List ℕ) : Type 0 where
   pub head : 2 ≤ length bytes
   pub whole : 2 + name_length bytes ≤ length bytes
@@ -55,7 +55,7 @@ HasName-first n bytes is =
       names = refl;
     }
 
--- the k-th of N names stands at the front of what is left
+-- the k-th of N names is at the front of what is left
 pub HasName-left : (N k : ℕ) (bytes : List ℕ) → k < N → AreNames (N - k) bytes → HasName (N - (k + 1)) bytes
 HasName-left N k bytes below is =
     let same : N - k ≡ suc (N - (k + 1)) = omega arith in

@@ -28,7 +28,7 @@ open_fault (KeptBad text) mode = Some refusals.Damaged
 
 -- ---- refusals
 
--- a refusal that is the tree's own: neither a fault, nor want of memory, nor a taken place, nor of a store that stopped, nor for want of
+-- a refusal that is the tree's own: neither a fault, nor lack of memory, nor a taken place, nor of a store that stopped, nor for lack of
 -- turns
 abbrev pub is_own : Refusal → Bool
 is_own refusals.DeviceFault = false

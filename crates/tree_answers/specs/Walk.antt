@@ -30,7 +30,7 @@ parent_in tree number = option_and_then (λ (node : HeldNode). dir_parent node n
 abbrev pub qid_at : HeldTree → ℕ → Option Qid
 qid_at tree number = option_map (qid_in number) (node_of tree number)
 
--- what refuses bytes that are no name; want of memory says nothing of them
+-- what refuses bytes that are no name; lack of memory says nothing of them
 abbrev pub bad_name_refusal : BadName → Option Refusal
 bad_name_refusal bad_names.NotUtf8 = Some refusals.BadName
 bad_name_refusal bad_names.Empty = Some refusals.BadName

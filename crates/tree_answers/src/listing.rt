@@ -1,6 +1,7 @@
-ghost use Rattle.std.specs.Prelude.{◌≡◌, ◌≤◌, ℕ, length, take, drop, Some, IfOk, IfSome, IfNone, IsSome, OnErr};
+ghost use Rattle.std.specs.Prelude.{◌≡◌, ◌≤◌, ℕ, length, take, Some, IfOk, IfSome, IfNone, IsSome, OnErr};
 ghost use Rattle.std.specs.List.{concat};
 ghost use Rattle.std.specs.Option.{option_copied};
+ghost use Rattle.outside.specs.Calls.{KeepsFrom};
 ghost use Rattle.tree_model.specs.Rows.{Content, is_dir};
 ghost use Rattle.tree_model.specs.Asked.{AreStats, HasCount, IsReplyTo, KeepsRest, bytes_put, list as list_request, plain_reply};
 ghost use Rattle.tree_model.specs.Step.{fitting, stats_behind};
@@ -75,13 +76,13 @@ fn copied(alloc: Global, name: Option<&[u8]>) -> Result<Option<Text>, AllocError
     }
 }
 
-// Puts the stats of a directory's nodes behind a name into `room`, from its front on, as many as fit, and gives how many bytes they have.
+// Puts the stats of a directory's nodes behind a name into `room`, from its front on, as many as fit, and returns how many bytes they have.
 fn put_stats(tree: &LiveTree, parent: u64, after: Option<&Text>, room: &mut [u8]) -> usize
     requires { IsTree tree.now }
     ensures bytes { (contents : ℕ → Content) → AreSizes tree.now contents → take result room.new ≡
         concat (fitting (length room.old) (stats_behind (live_rows contents tree.now) parent (option_copied after.entry))) }
     ensures form { AreStats (length room.old) (take result room.new) }
-    ensures rest { drop result room.new ≡ drop result room.old }
+    ensures rest { KeepsFrom result room.old room.new }
     ensures fits { result ≤ length room.old }
 {
     let mut used = 0;

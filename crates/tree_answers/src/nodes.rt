@@ -65,7 +65,7 @@ pub fn sync(tree: &LiveTree, number: u64) -> Reply
     }
 }
 
-/// States what each tree is.
+/// States what each tree is. It does nothing.
 pub(crate) fn is_tree(tree: &LiveTree)
     ensures { IsTree tree.now }
 {

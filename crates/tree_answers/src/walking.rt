@@ -1,5 +1,5 @@
 ghost use Rattle.std.specs.Prelude.{◌≡◌, ◌≤◌, ◌+◌, ◌*◌, ℕ, List, [], length, take, drop, true, Some, IfOk, IfErr, IfSome, IsSome, OnErr, slice_index};
-ghost use Rattle.tree_model.specs.Names.{IsWalk, names_in};
+ghost use Rattle.tree_model.specs.Names.{IsWalk, names_in, walk_limit};
 ghost use Rattle.tree_model.specs.Rows.{Row, row_of};
 ghost use Rattle.tree_model.specs.Asked.{HasCount, IsReplyTo, plain_reply, walk as walk_request};
 ghost use Rattle.tree_model.specs.Step.{says, walk_answer, walked_by};
@@ -18,7 +18,7 @@ use tree_model::{Names, Qid, Refusal, Reply};
 const PARENT: &[u8] = b"..";
 
 // The most names that a walk has.
-const NAME_LIMIT: usize = 16;
+const WALK_LIMIT: usize = 16;
 
 /// The answer to a walk from the node of a number along names, of which there are 16 at most: the qids of the nodes on the
 /// way, up to the first name that is refused, or the refusal of the first name. The error comes where memory runs out for a
@@ -72,14 +72,14 @@ fn qid_of(tree: &LiveTree, number: u64) -> Qid
 // The nodes on the way along names, `count` of them from the front, and what refused the name after them.
 #[derive(Drop)]
 struct Way {
-    qids: [Qid; 16],
+    qids: [Qid; WALK_LIMIT],
     count: usize,
     end: Option<Refusal>,
 }
 
 // A refusal at the first name is the reply, at a later one the nodes so far.
 fn walk_reply(way: Way) -> Reply
-    requires room { way.count ≤ 16 }
+    requires room { way.count ≤ walk_limit }
     requires own { IfSome way.end (λ refusal. is_own refusal ≡ true) }
     ensures answer { says (plain_reply result) ≡ walk_answer (take way.count way.qids, way.end) }
     ensures form { (n : ℕ) (names : List (List ℕ)) → IsWhole way.count way.end names
@@ -102,9 +102,9 @@ fn follow(alloc: Global, tree: &LiveTree, from: u64, names: &Names<'_>) -> Resul
     ensures way { IfOk result (λ w. IsWay tree.now from (names_in names.now.count names.now.bytes.now) (take w.count w.qids) w.end) }
     ensures whole { IfOk result (λ w. IsWhole w.count w.end (names_in names.now.count names.now.bytes.now)) }
     ensures own { IfOk result (λ w. IfSome w.end (λ refusal. is_own refusal ≡ true)) }
-    ensures room { IfOk result (λ w. w.count ≤ 16) }
+    ensures room { IfOk result (λ w. w.count ≤ walk_limit) }
 {
-    let mut qids = [qid_of(tree, from); NAME_LIMIT];
+    let mut qids = [qid_of(tree, from); WALK_LIMIT];
     let mut at = from;
     let mut bytes = names.bytes;
     for count in 0..names.count as usize {

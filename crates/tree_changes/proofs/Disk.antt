@@ -1,4 +1,4 @@
--- What stands at a path after one is written or removed, and host paths that are apart.
+-- What is at a path after one is written or removed, and host paths that are apart.
 use Rattle.std.proofs.Common.{◌≡◌, ◌≢◌, ℕ, List, ◌++◌, Some, None, refl, sym, ap₂, ◌∙◌, take, drop, take-append-drop}
 use Rattle.std.specs.FinMap.{get, insert, remove}
 use Rattle.outside.specs.Disk.{Node as Thing, Disk}

@@ -328,14 +328,6 @@ name_there s v o q l j y hq hl = go (is_name l (s.open_name j (s.seal j l))) ref
     go true e h = e
     go false e h = absurd (cc)
 
--- what has a child is a directory
-pub dir_above : (s : Sealing) (v : Folders) (o : List ℕ → Path) (q : Path) (u : List ℕ) (z n : Node) → node_at s v o q ≡ Some z → node_at s v o (u ∷ q) ≡ Some n → (i : List ℕ) × (z ≡ Dir i)
-unfolding node_at
-dir_above s v o q u (Dir i) n hz h = (i, refl)
-dir_above s v o q u (File c) n hz h = let w : ◌≡◌ {A = Option Node} None (Some n) = sym (ap (below s v o (u ∷ q) u) hz) ∙ h in absurd (cc)
-dir_above s v o q u (Link c) n hz h = let w : ◌≡◌ {A = Option Node} None (Some n) = sym (ap (below s v o (u ∷ q) u) hz) ∙ h in absurd (cc)
-dir_above s v o q u (Bad c) n hz h = let w : ◌≡◌ {A = Option Node} None (Some n) = sym (ap (below s v o (u ∷ q) u) hz) ∙ h in absurd (cc)
-
 -- nothing is seen in an empty folder
 pub never_seen : (s : Sealing) (d : Disk) (h u : List ℕ) → get d (host_entry h u) ≡ None → get d (host_inner h (s.long_of u) text_name) ≡ None → seen_at s d h u ≡ None
 never_seen s d h u none long = go (s.is_text u)

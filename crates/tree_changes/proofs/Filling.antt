@@ -85,7 +85,7 @@ no_mark_at s d i n b kn t kk text node far (inr w) = go b refl
     go true h = w.short (node.short h)
     go false h = some_there _ _ w.long (far h)
 
--- a node folder is at its long place exactly where nothing is at its short one
+-- a node folder is at its long place if and only if nothing is at its short one
 pub folder_at : (s : Sealing) (d : Disk) (F X : List ℕ) (b : Bool) (kn t : List ℕ) (kk : Kind) → IsNodeFolder s d F X b kn t kk → IsTrue b ↔ (entry_at s d F X ≡ None)
 folder_at s d F X true kn t kk n = ((λ h. n.short h), (λ h. refl))
 folder_at s d F X false kn t kk n = ((λ h. absurd (true≢false (sym h))), (λ h. absurd (some_there _ _ (entry_part s d F X (n.part refl) ∙ n.entry) h)))
@@ -93,7 +93,7 @@ folder_at s d F X false kn t kk n = ((λ h. absurd (true≢false (sym h))), (λ 
 pub file_at : (s : Sealing) (d : Disk) (F X y : List ℕ) → entry_at s d F X ≡ Some (Bytes y) → IsTrue false ↔ (entry_at s d F X ≡ None)
 file_at s d F X y it = ((λ h. absurd (true≢false (sym h))), (λ h. absurd (some_there _ _ it h)))
 
--- where a node stands: at its long place exactly where no entry is at its short one
+-- where a node stands: at its long place if and only if no entry is at its short one
 abbrev pub IsAt : Sealing → Disk → List ℕ → List ℕ → Bool → Type 0
 IsAt s d F X b = (b ≡ true → entry_at s d F X ≡ None) × (b ≡ false → entry_at s d F X ≢ None)
 

@@ -2,6 +2,7 @@ pub mod Disk
 pub mod Seeing
 pub mod Nodes
 pub mod Exact
+pub mod OneEntry
 pub mod Stands
 pub mod Creating
 pub mod Removing

@@ -5,7 +5,7 @@ use Rattle.std.proofs.lemmas.Slice.Eq.{bytes_eq-Decides}
 use Rattle.outside.specs.Disk.{Disk, Node as Thing, folder as Folder, file as Bytes, IsTree}
 use Rattle.clear_tree.specs.Walk.{Sealing, Kind, Plain, Named, Linked, Bare}
 use Rattle.clear_tree.specs.Places.{host_entry, host_inner, folder_kind, bytes_of, kind_where, long_kind, either_kind, short_at, folder_at, long_at, entry_at, seen_at, entry_of, entry_where, known, text_dir, text_symlink, text_contents, text_name}
-use Rattle.clear_tree.specs.Marks.{HasFurther, HasTwin, known_at}
+use Rattle.clear_tree.specs.Marks.{HasFurther, known_at}
 use Rattle.tree_changes.specs.Deeds.{entry_text}
 use Rattle.tree_changes.proofs.Seeing.{entry_some, entry_part, not_something, some_there, seen_text, long_shown, file_bytes, above_inner}
 
@@ -184,6 +184,3 @@ alone_folder s d F X b kn t kk text n f =
     let w = node_shown s d F X b kn t kk text n in
     f.there (ap (λ (z : List ℕ). get d (host_inner F z f.entry)) w.1
     ∙ n.only f.entry (λ z. f.unknown (z ∙ sym w.2 ∙ ap (known_at d F) (sym w.1))) (λ z. f.no_name (n.short z)))
-
-pub twinless_long : (s : Sealing) (d : Disk) (F X : List ℕ) (kn t : List ℕ) (kk : Kind) → IsNodeFolder s d F X true kn t kk → HasTwin s d F X → ⊥
-twinless_long s d F X kn t kk n w = w.short (n.short refl)

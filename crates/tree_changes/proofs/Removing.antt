@@ -11,9 +11,11 @@ use Rattle.clear_tree.proofs.Paths.{path_cases, same_path-from, same_path-apart}
 use Rattle.clear_tree.proofs.Leaf.{change_leaf, leaf_owner}
 use Rattle.clear_tree.proofs.Directory as directory
 use Rattle.tree_changes.specs.Trees.{AreTexts}
-use Rattle.tree_changes.proofs.Seeing.{some_there, looked, look_seen, node_kind}
+use Rattle.tree_changes.proofs.Seeing.{some_there, look_seen}
 use Rattle.tree_changes.proofs.Exact as exact
 use Rattle.tree_changes.proofs.Exact.{through, neither, SameForeign, foreign_to, foreign_from, IsPlace, name_there, has_foreign, is_shadowed_in}
+use Rattle.tree_changes.proofs.OneEntry as one
+use Rattle.tree_changes.proofs.OneEntry.{child_cases}
 use Rattle.tree_changes.proofs.Stands.{StandsFor}
 
 module _ (s : Sealing) (texts : AreTexts s) (d d' : Disk) (marks : Marks) (long : Path → Bool) (o : List ℕ → Path)
@@ -39,24 +41,15 @@ module _ (s : Sealing) (texts : AreTexts s) (d d' : Disk) (marks : Marks) (long 
   named : is_name n (s.open_name i (s.seal i n)) ≡ true
   named = name_there s v o p n i x at is_node
 
-  entry2 : (g u : List ℕ) → u ≢ text_dirid → (g ≡ s.folder_of i → u ≡ e → ⊥) → (g ≡ s.folder_of i → u ≡ e → ⊥) → get d' (host_entry g u) ≡ get d (host_entry g u)
-  entry2 g u nd h1 h2 = entry g u nd h1
-
-  inner2 : (g u l : List ℕ) → (g ≡ s.folder_of i → u ≡ e → ⊥) → (g ≡ s.folder_of i → u ≡ e → ⊥) → get d' (host_inner g u l) ≡ get d (host_inner g u l)
-  inner2 g u l h1 h2 = inner g u l h1
-
-  pub changed : ChangedAt v v' (s.folder_of i) (s.seal i n)
-  changed = record { others = λ g u ne. exact.others s texts d d' o n n i p e e own at named named place place entry2 inner2 g u ne ne }
+  changed : ChangedAt v v' (s.folder_of i) (s.seal i n)
+  changed = one.changed s texts d d' o n i p e own at named place entry inner
 
   look_old : look s v i n ≡ Some kk
   look_old = look_seen s v i n named ∙ shown
 
-  clean : (w : Disk) → (w ≡ d) ⊎ (w ≡ d') → (IsForeign s w i e → ⊥) × (IsForeign s w i e → ⊥)
-  clean w which = (one w which, one w which)
-    where
-      one : (w : Disk) → (w ≡ d) ⊎ (w ≡ d') → IsForeign s w i e → ⊥
-      one w (inr h) f = f.there (ap (λ (z : Disk). get z (host_entry (s.folder_of i) e)) h ∙ gone_entry)
-      one w (inl h) f = (subst (λ (z : Disk). IsForeign s z i e) h f).no_node (record { name = n; kind = kk; shown = look_old; known = good; place = sym at_e })
+  clean : (w : Disk) → (w ≡ d) ⊎ (w ≡ d') → IsForeign s w i e → ⊥
+  clean w (inr h) f = f.there (ap (λ (z : Disk). get z (host_entry (s.folder_of i) e)) h ∙ gone_entry)
+  clean w (inl h) f = (subst (λ (z : Disk). IsForeign s z i e) h f).no_node (record { name = n; kind = kk; shown = look_old; known = good; place = sym at_e })
 
   at_n : (w : Disk) → (w ≡ d) ⊎ (w ≡ d') → (y : Kind) → look s (folders_of s w) i n ≡ Some y → y ≢ Bare → entry_of s w (s.folder_of i) (s.seal i n) ≡ e
   at_n w (inr h) y l b =
@@ -65,7 +58,7 @@ module _ (s : Sealing) (texts : AreTexts s) (d d' : Disk) (marks : Marks) (long 
   at_n w (inl h) y l b = ap (λ (u : Disk). entry_of s u (s.folder_of i) (s.seal i n)) h ∙ at_e
 
   foreign_same : (q : Path) (j : List ℕ) → node_at s v o q ≡ Some (Dir j) → n ∷ p ≢ q → SameForeign s d d' j
-  foreign_same q j hq ne = exact.same_foreign s texts d d' o n n i p e e own at named named place place entry2 inner2 q j hq (copies q j hq ne) at_n at_n clean
+  foreign_same q j hq ne = one.same_foreign s texts d d' o n i p e own at named place entry inner q j hq (copies q j hq ne) at_n clean
 
   module _ (root' : get d' (host_folder (s.folder_of [])) ≡ Some Folder) (first' : IsOwner s v' o)
       (nodes' : (q : Path) → node_at s v' o q ≡ update same_path (node_at s v o) (n ∷ p) None q)
@@ -89,15 +82,8 @@ module _ (s : Sealing) (texts : AreTexts s) (d d' : Disk) (marks : Marks) (long 
     parent_other : (q : Path) (l : List ℕ) (y : Node) → node_at s v o (l ∷ q) ≡ Some y → n ∷ p ≢ q
     parent_other q l y hl h = some_there _ _ hl (ap (λ (z : Path). node_at s v o (l ∷ z)) (sym h) ∙ leaf l)
 
-    child_cases : (l : List ℕ) (q : Path) → ((l ≡ n) × (q ≡ p)) ⊎ (n ∷ p ≢ l ∷ q)
-    child_cases l q = go (path_cases (n ∷ p) (l ∷ q))
-      where
-        go : ((same_path (n ∷ p) (l ∷ q) ≡ true) × (n ∷ p ≡ l ∷ q)) ⊎ ((same_path (n ∷ p) (l ∷ q) ≡ false) × (n ∷ p ≢ l ∷ q)) → ((l ≡ n) × (q ≡ p)) ⊎ (n ∷ p ≢ l ∷ q)
-        go (inl h) = let e : n ∷ p ≡ l ∷ q = h.1 in let a : l ≡ n = cc in let c : q ≡ p = cc in inl (a, c)
-        go (inr h) = inr h.1
-
     shadowed' : (l : List ℕ) (q : Path) → IsTrue (marks.shadowed (l ∷ q)) ↔ IsShadowedIn s d' (node_at s v' o q) l (node_at s v' o (l ∷ q))
-    shadowed' l q = go (child_cases l q)
+    shadowed' l q = go (child_cases n p l q)
       where
         go : ((l ≡ n) × (q ≡ p)) ⊎ (n ∷ p ≢ l ∷ q) → IsTrue (marks.shadowed (l ∷ q)) ↔ IsShadowedIn s d' (node_at s v' o q) l (node_at s v' o (l ∷ q))
         go (inl h) =
@@ -110,14 +96,7 @@ module _ (s : Sealing) (texts : AreTexts s) (d d' : Disk) (marks : Marks) (long 
             (λ f. subst (λ (z : Option Node). IsShadowedIn s d' (node_at s v' o q) l z) now f)
         go (inr h) = through _ _ _ (st.marked.shadowed l q) (is_shadowed_in s d d' (node_at s v o q) (node_at s v' o q) (node_at s v o (l ∷ q)) (node_at s v' o (l ∷ q)) l
             (other (l ∷ q) h) (λ y hy. other q (parent_other q l y hy))
-            (λ j y hj hy.
-            let its = name_there s v o q l j y hj hy in
-            let nk = node_kind s v o q j l y hj hy in
-            let sn = (looked s v j l nk.0 nk.1).1 in
-            let far : l ∷ q ≢ n ∷ p = λ z. h (sym z) in (
-              exact.shadow_to s texts d d' o n n i p e e own at named named place place entry2 inner2 q j hj l its far far nk.0 sn,
-              exact.shadow_from s texts d d' o n n i p e e own at named named place place entry2 inner2 q j hj l its far far nk.0 sn,
-            )))
+            (λ j y hj hy. one.same_shadow s texts d d' o n i p e own at named place entry inner q j hj l y hy h))
 
     placed' : (l : List ℕ) (q : Path) (j : List ℕ) (y : Node) → node_at s v' o q ≡ Some (Dir j) → node_at s v' o (l ∷ q) ≡ Some y
         → IsTrue (long (l ∷ q)) ↔ (entry_at s d' (s.folder_of j) (s.seal j l) ≡ None)
@@ -125,8 +104,7 @@ module _ (s : Sealing) (texts : AreTexts s) (d d' : Disk) (marks : Marks) (long 
         let h : n ∷ p ≢ l ∷ q = λ z. some_there _ _ hl (here (l ∷ q) z) in
         let oldl : node_at s v o (l ∷ q) ≡ Some y = sym (other (l ∷ q) h) ∙ hl in
         let oldq : node_at s v o q ≡ Some (Dir j) = sym (other q (parent_other q l y oldl)) ∙ hq in
-        let far : l ∷ q ≢ n ∷ p = λ z. h (sym z) in
-        let same = exact.entry_at_kept s texts d d' o n n i p e e own at named named place place entry2 inner2 q j oldq l (name_there s v o q l j y oldq oldl) far far in
+        let same = one.entry_at_kept s texts d d' o n i p e own at named place entry inner q j oldq l y oldl h in
         through _ _ _ (st.placed l q j y oldq oldl) ((λ z. same ∙ z), (λ z. sym same ∙ z))
 
     at_other : (q : Path) → n ∷ p ≢ q → claimed s (node_at s v' o q) ≡ claimed s (node_at s v o q)

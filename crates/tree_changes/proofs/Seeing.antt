@@ -1,4 +1,4 @@
--- What a disk shows at a text, by what stands at its two places.
+-- What a disk shows at a text, by what is at its two places.
 use Rattle.std.proofs.Common.{◌≡◌, ◌≢◌, ℕ, Bool, true, false, cond, List, [], ◌∷◌, Option, Some, None, bytes_eq, refl, sym, ap, ap₂, ◌∙◌, subst, inl, inr, ◌⊎◌, true≢false}
 use Rattle.std.specs.FinMap.{get}
 use Rattle.std.proofs.lemmas.Bool.{cond-true, cases_Bool, and_parts}
@@ -162,11 +162,6 @@ node_kind s v o q j m y hq hm = go (look s v j m) refl
 
 pub none_below : (d : Disk) → IsTree d → (F X l : List ℕ) → get d (host_entry F X) ≡ None → get d (host_inner F X l) ≡ None
 none_below d tree F X l h = nothing _ (λ y e. some_there _ _ (tree.parents (host_inner F X l) (subst Rattle.std.proofs.Common.IsSome (sym e) refl)) h)
-
-pub none_in_file : (d : Disk) → IsTree d → (F X l b : List ℕ) → get d (host_entry F X) ≡ Some (Bytes b) → get d (host_inner F X l) ≡ None
-none_in_file d tree F X l b h = nothing _ (λ y e.
-    let f : get d (host_entry F X) ≡ Some Folder = tree.parents (host_inner F X l) (subst Rattle.std.proofs.Common.IsSome (sym e) refl) in
-    let z : ◌≡◌ {A = Option Thing} (Some Folder) (Some (Bytes b)) = sym f ∙ h in cc)
 
 pub above_inner : (d : Disk) → IsTree d → (F X l : List ℕ) (y : Thing) → get d (host_inner F X l) ≡ Some y → get d (host_entry F X) ≡ Some Folder
 above_inner d tree F X l y e = tree.parents (host_inner F X l) (subst Rattle.std.proofs.Common.IsSome (sym e) refl)

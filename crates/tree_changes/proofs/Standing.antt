@@ -84,7 +84,7 @@ module _ (s : Sealing) (d : Disk) (marks : Marks) (long : Path → Bool) (o : Li
   it_stands : StandsAs s d F X node_has.0
   it_stands = stands_as s d F X node_has.0 st.tree text node_seen node_has.2 (λ f. plain.unmarked (inl f))
 
-  -- a host file stands at the short place
+  -- a host file is at the short place
   pub as_plain : (y : List ℕ) → node_has.0 ≡ Plain y → b ≡ false → entry_at s d F X ≡ Some (Bytes y)
   as_plain y ky eb = go it_stands
     where

@@ -5,7 +5,7 @@ use Rattle.outside.specs.Disk.{Disk, Path as HostPath, folder as Folder, parent,
 use Rattle.outside.proofs.Trees.{tree_set}
 use Rattle.clear_tree.specs.Walk.{Sealing}
 use Rattle.clear_tree.specs.Places.{host_two, host_folder, text_d}
-use Rattle.clear_tree.proofs.Empty.{empty_vault, empty_is_clear}
+use Rattle.clear_tree.proofs.Empty.{empty_vault, empty_entry, empty_inner, bare_vault_is_clear}
 use Rattle.tree_changes.specs.Shapes.{EmptyVaultHasTree}
 use Rattle.tree_changes.proofs.Clear.{clear_rows_have_tree}
 use Rattle.tree_changes.proofs.Disk.{get_put, get_put_other}
@@ -45,5 +45,11 @@ module _ (s : Sealing) where
   unfolding d0 d1 d2 d3
   host = tree_set d2 (host_folder (s.folder_of [])) Folder tree2 (get_put d1 (host_two (s.folder_of [])) Folder) (inl refl)
 
+  pub root_there : IsFolder (empty_vault s) (host_folder (s.folder_of []))
+  unfolding d0 d1 d2
+  root_there = get_put d2 (host_folder (s.folder_of [])) Folder
+
 pub empty_vault_has_tree : EmptyVaultHasTree
-empty_vault_has_tree s now = (empty_vault s, _, clear_rows_have_tree s (empty_vault s) now _ (empty_is_clear s now) (host s))
+empty_vault_has_tree s now =
+    let clear = bare_vault_is_clear s (empty_vault s) now (root_there s) (empty_entry s (s.folder_of [])) (empty_inner s (s.folder_of [])) in
+    (empty_vault s, _, clear_rows_have_tree s (empty_vault s) now _ clear (host s))

@@ -1,4 +1,4 @@
--- The tree of a disk by path: its nodes, their marks, and which of them stand at their long place.
+-- The tree of a disk by path: its nodes, their marks, and which of them are at their long place.
 use Rattle.std.specs.Prelude.{◌≡◌, ◌≢◌, ◌↔◌, ℕ, Bool, true, false, cond, List, [], ◌∷◌, map, Some, None, IsTrue}
 use Rattle.std.specs.FinMap as finmap
 use Rattle.outside.specs.Disk.{Disk, IsFolder, IsTree}
@@ -20,7 +20,7 @@ pub record Tree : Type 0 where
   pub marks : Marks
   pub long : Path → Bool
 
--- a node below the root stands at its long place exactly where nothing stands for it at its short one
+-- a node below the root is at its long place if and only if nothing stands for it at its short one
 abbrev pub AreLong : Sealing → Disk → Tree → Type 0
 AreLong s d tree = (n : List ℕ) (p : Path) (i : List ℕ) (x : Node) → finmap.get tree.nodes p ≡ Some (Dir i) → finmap.get tree.nodes (n ∷ p) ≡ Some x
     → IsTrue (tree.long (n ∷ p)) ↔ (entry_at s d (s.folder_of i) (s.seal i n) ≡ None)

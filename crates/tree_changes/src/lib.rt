@@ -13,69 +13,71 @@
 ghost use Rattle.tree_changes.specs.Changes.{CreatesDirectory, CreatesFile, DoesAgain, EntriesAreOfPlaces, RemovesDirectory, RemovesFile, RemovesLink, RenamesDirectory, RenamesFile, RenamesLink, StaysBeside};
 ghost use Rattle.tree_changes.specs.Shapes.{ClearRowsHaveTree, DirectoryFollows, EmptyVaultHasTree, FileFollows, RemovalFollows, RenameFollows, ShapesAreOfClearRows, StepMakesDirectory, StepMakesFile, StepRemoves, StepRenames};
 
-/// A file is made, at its short or its long place.
+/// A file is made, at its short or its long place. It does nothing.
 pub fn creates_file()
     ensures { CreatesFile }
 {}
 
-/// A directory is made, with a folder of its own.
+/// A directory is made, with a folder of its own. It does nothing.
 pub fn creates_directory()
     ensures { CreatesDirectory }
 {}
 
-/// A file is removed, from its short or its long place.
+/// A file is removed, from its short or its long place. It does nothing.
 pub fn removes_file()
     ensures { RemovesFile }
 {}
 
-/// A link is removed.
+/// A link is removed. It does nothing.
 pub fn removes_link()
     ensures { RemovesLink }
 {}
 
-/// An empty directory is removed, with its folder and the copy of its identifier there.
+/// An empty directory is removed, with its folder and the copy of its identifier there. It does nothing.
 pub fn removes_directory()
     ensures { RemovesDirectory }
 {}
 
-/// A file is renamed, from either place to either: its bytes move whole, and a node folder comes or goes.
+/// A file is renamed, from either place to either: its bytes move whole, and a node folder comes or goes. It does nothing.
 pub fn renames_file()
     ensures { RenamesFile }
 {}
 
-/// A link is renamed.
+/// A link is renamed. It does nothing.
 pub fn renames_link()
     ensures { RenamesLink }
 {}
 
-/// A directory is renamed, with all that is in it: its `dir.c9r` moves, its folder stays.
+/// A directory is renamed, with all that is in it: its `dir.c9r` moves, its folder stays. It does nothing.
 pub fn renames_directory()
     ensures { RenamesDirectory }
 {}
 
-/// Done again on whatever a stop left of them, the deeds lead to the disk of the same tree.
+/// Done again on whatever a stop left of them, the deeds lead to the disk of the same tree. It does nothing.
 pub fn does_again()
     ensures { DoesAgain }
 {}
 
-/// Where the step makes a file or a directory, the rows after it have the shape of the tree that the deeds lead to.
+/// Where the step makes a file or a directory, the rows after it have the shape of the tree that the deeds lead to. It does
+/// nothing.
 pub fn creations_follow()
     ensures file { FileFollows }
     ensures directory { DirectoryFollows }
 {}
 
-/// Where the step removes a node, the rows after it have the shape of the tree that the deeds lead to.
+/// Where the step removes a node, the rows after it have the shape of the tree that the deeds lead to. It does nothing.
 pub fn removals_follow()
     ensures { RemovalFollows }
 {}
 
-/// Where the step gives a node a new name, the rows after it have the shape of the tree that the deeds lead to.
+/// Where the step gives a node a new name, the rows after it have the shape of the tree that the deeds lead to. It does
+/// nothing.
 pub fn renames_follow()
     ensures { RenameFollows }
 {}
 
 /// The same by requests: where the answer of a create, a remove or a change of name is no refusal and no place is taken, the
-/// deeds lead to the disk of a tree whose shape the step's rows have.
+/// deeds lead to the disk of a tree whose shape the step's rows have. It does nothing.
 pub fn steps_follow()
     ensures file { StepMakesFile }
     ensures directory { StepMakesDirectory }
@@ -83,20 +85,20 @@ pub fn steps_follow()
     ensures renamed { StepRenames }
 {}
 
-/// What the journal's two files hold does not matter to the tree.
+/// What the journal's two files hold does not matter to the tree. It does nothing.
 pub fn stays_beside()
     ensures { StaysBeside }
 {}
 
 /// The rows that a disk stands for have the shape of its tree, and there is such a disk; and rows of that shape are, by path, those
-/// that the disk stands for.
+/// that the disk stands for. It does nothing.
 pub fn clear_rows_have_shape()
     ensures have { ClearRowsHaveTree }
     ensures some { EmptyVaultHasTree }
     ensures same { ShapesAreOfClearRows }
 {}
 
-/// Each node's entry is that of its place.
+/// Each node's entry is that of its place. It does nothing.
 pub fn entries_are_of_places()
     ensures { EntriesAreOfPlaces }
 {}

@@ -93,9 +93,6 @@ AreBehind tree parent rest = AllByRecursion (λ (x : List ℕ × FoundNode). IsB
 abbrev pub AreSorted : Rest → Type 0
 AreSorted rest = IsStrictlySortedBy (slice_cmp nat_cmp) (names_of (all_found rest))
 
-pub head_behind : (tree : KeptTree) (parent : ℕ) (x : List ℕ × FoundNode) (rest all : Rest) → all ≡ x ∷ rest → AreBehind tree parent all → IsBehindLast tree parent x.0
-head_behind tree parent x rest all is h = (subst (AreBehind tree parent) is h).0
-
 later_behind : (keys : KeyPair) (old new : KeptTree) (parent : ℕ) (name : List ℕ) → Pushes keys old new parent name → (rest : Rest) → AllByRecursion (λ y. slice_cmp nat_cmp name y ≡ Less) (names_of (all_found rest)) → AreBehind new parent rest
 later_behind keys old new parent name push [] h = tt
 later_behind keys old new parent name push (x ∷ rest) h = (pushed_behind keys old new parent name push x.0 h.0, later_behind keys old new parent name push rest h.1)

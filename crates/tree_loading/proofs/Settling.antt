@@ -84,20 +84,12 @@ kind_file None size h = refl
 kind_file (Some Folder) size h = absurd (cc)
 kind_file (Some (Bytes b)) size h = refl
 
-kind_none : (o : Option Thing) → option_map kind_of o ≡ None → false ≡ is_folder o
-kind_none None h = refl
-kind_none (Some Folder) h = absurd (cc)
-kind_none (Some (Bytes b)) h = absurd (cc)
-
--- by the kind of what stands at a path, whether it is a folder
+-- by the kind of what is at a path, whether it is a folder
 pub told_folder : (contents : Option Disk) (path : List (List ℕ)) → Told contents (λ d. Some host.Dir ≡ kind_at d path) → Told contents (λ d. true ≡ is_folder (node_at d path))
 told_folder contents path t = told_then contents _ _ t (λ d h. kind_folder (node_at d path) (sym h))
 
 pub told_file : (contents : Option Disk) (path : List (List ℕ)) (size : ℕ) → Told contents (λ d. Some (host.File size) ≡ kind_at d path) → Told contents (λ d. false ≡ is_folder (node_at d path))
 told_file contents path size t = told_then contents _ _ t (λ d h. kind_file (node_at d path) size (sym h))
-
-pub told_none : (contents : Option Disk) (path : List (List ℕ)) → Told contents (λ d. None ≡ kind_at d path) → Told contents (λ d. false ≡ is_folder (node_at d path))
-told_none contents path t = told_then contents _ _ t (λ d h. kind_none (node_at d path) (sym h))
 
 pub was_claimed : (claimed added : Bool) → added ≡ not claimed → added ≡ false → claimed ≡ true
 was_claimed true added e h = refl

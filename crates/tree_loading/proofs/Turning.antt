@@ -1,6 +1,5 @@
 -- One turn of a load.
-use Rattle.std.proofs.Common.{◌≡◌, ◌≢◌, ℕ, zero, suc, ◌+◌, ◌-◌, ◌<◌, ◌≤◌, Bool, List, [], ◌∷◌, ◌++◌, length, Option, Some, None, IsSome, IsErrOf, Err, refl, sym, ap, ◌∙◌, subst, inl, inr, ◌⊎◌, arith, slice_get}
-use Rattle.std.specs.Option.{option_and_then}
+use Rattle.std.proofs.Common.{◌≡◌, ◌≢◌, ℕ, zero, suc, ◌+◌, ◌-◌, ◌<◌, ◌≤◌, Bool, List, [], ◌∷◌, ◌++◌, length, Option, Some, None, IsErrOf, Err, refl, sym, ap, ◌∙◌, subst, inl, inr, ◌⊎◌, arith, slice_get}
 use Rattle.std.proofs.lemmas.List.{length-map}
 use Rattle.outside.specs.Disk.{Disk, IsFolder}
 use Rattle.outside.specs.Calls.{Told}
@@ -22,7 +21,7 @@ use Rattle.directory_scan.specs.Scanned.{ScannedFolder, all_found, found_of}
 use Rattle.tree_loading.specs.declared.fault.LoadErr.TheVariants.{TooMany}
 use Rattle.tree_loading.specs.declared.nodes.Loading.{Loading}
 use Rattle.tree_model.specs.Step.{node_limit}
-use Rattle.tree_loading.specs.Under.{is_claimed, HasFolder, HasOwnFolder, IsReady, IsDirectoryAt}
+use Rattle.tree_loading.specs.Under.{is_claimed, HasFolder, HasOwnFolder, IsReady}
 use Rattle.tree_loading.specs.Added.{AddsAll}
 use Rattle.tree_loading.specs.Turned.{HasRoot, GoesOn, IsScanAt, IsNoDirectory, FindsTooMany}
 
@@ -152,12 +151,6 @@ told_many contents keys number count old scanned late at many is = (
   is,
   told_then contents _ _ at.told (λ d scan root loading. dir_many keys d number old root loading late scanned at.node at.identifier at.folder at.there at.what scan count many),
 )
-
--- the node of a scan is a directory
-pub scan_inside : (keys : KeyPair) (contents : Option Disk) (tree : KeptTree) (number : ℕ) (scanned : ScannedFolder) → IsScanAt keys contents tree number scanned → IsDirectoryAt tree number
-scan_inside keys contents tree number scanned at =
-    let f : option_and_then (λ (n : KeptNode). folder_in n.what) (node_of tree number) ≡ Some at.folder = ap (option_and_then (λ (n : KeptNode). folder_in n.what)) at.there ∙ ap folder_in at.what in
-    subst IsSome (sym f) refl
 
 -- paths can be made of a directory's folder
 pub own_path : (keys : KeyPair) (what : What) (identifier folder : List ℕ) → what ≡ KeptDir identifier folder → HasOwnFolder keys what → HasFolder keys identifier folder

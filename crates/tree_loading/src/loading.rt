@@ -52,7 +52,7 @@ pub fn load<R: Reads>(
     Ok(tree)
 }
 
-/// What loads a tree tells the rows that the disk stands for.
+/// What loads a tree tells the rows that the disk stands for. It does nothing.
 pub fn loading_is_clear()
     ensures { LoadingIsClear }
 {}

@@ -100,7 +100,7 @@ fn settle_text<R: Reads>(
     })
 }
 
-/// Whether a host folder stands at a path.
+/// Whether a host folder is at a path.
 pub(crate) fn is_there<R: Reads>(from: &mut R, path: &VaultPath) -> Result<bool, LoadErr>
     ensures there { IfOk result (λ there. Told (disk_in (R.log from.old)) (λ d. there ≡ is_folder (node_at d path.now))) }
     ensures root_is_there { IsErrOf result LoadErr.NoRoot → ⊥ }

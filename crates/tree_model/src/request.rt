@@ -32,7 +32,7 @@ pub enum Request<'a> {
         is_dir: bool,
         mode: u8,
     },
-    /// The bytes of a file from place `at` on, at most `count`.
+    /// The bytes of a file from offset `at` on, at most `count`.
     Read {
         node: u64,
         at: u64,
@@ -44,7 +44,7 @@ pub enum Request<'a> {
         after: Option<&'a str>,
         count: u32,
     },
-    /// Writes bytes at a place of a file.
+    /// Writes bytes at an offset of a file.
     Write {
         node: u64,
         at: u64,

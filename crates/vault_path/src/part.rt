@@ -5,6 +5,7 @@ ghost use Rattle.std.specs.Cmp.Lexicographic.{slice_cmp, texts_ties, texts_po, n
 ghost use Rattle.std.specs.Ordering.{nat_cmp, as_partial_cmp};
 ghost use Rattle.std.specs.Str.{bytes_eq};
 ghost use Rattle.vault_path.specs.Parts.{is_part_byte, is_part};
+ghost use Rattle.vault_path.specs.declared.part.TheConstants.{MAX_PART_LEN};
 
 use std::cmp::Ordering;
 use std::marker::Model;
@@ -14,18 +15,19 @@ const MAX_PART_LEN: usize = 255;
 /// Up to 255 bytes, kept in place.
 #[derive(Drop)]
 pub struct Part {
-    bytes: [u8; 255],
+    bytes: [u8; MAX_PART_LEN],
     used: usize,
 }
 
 impl Model for Part {
     ghost use Rattle.std.specs.Prelude.{ℕ, List, ◌≤◌, take};
+    ghost use Rattle.vault_path.specs.declared.part.TheConstants.{MAX_PART_LEN};
 
     ghost Value = { List ℕ };
 
     ghost view = { λ a. take a.used a.bytes };
 
-    ghost invariant = { λ a. a.used ≤ 255 };
+    ghost invariant = { λ a. a.used ≤ MAX_PART_LEN };
 }
 
 impl Part {
@@ -41,7 +43,7 @@ impl Part {
 
     /// The part of these bytes.
     pub fn from_bytes(part: &[u8]) -> Part
-        requires { length part.now ≤ 255 }
+        requires { length part.now ≤ MAX_PART_LEN }
         ensures { result ≡ part.now }
     {
         let mut bytes = [0; MAX_PART_LEN];
@@ -128,7 +130,7 @@ fn has_host_bytes(part: &[u8]) -> bool
 }
 
 fn has_fit_len(part: &[u8]) -> bool
-    ensures { result ≡ (nat_le 1 (length part.now) && nat_le (length part.now) 255) }
+    ensures { result ≡ (nat_le 1 (length part.now) && nat_le (length part.now) MAX_PART_LEN) }
 {
     !part.is_empty() && part.len() <= MAX_PART_LEN
 }

@@ -25,9 +25,6 @@ is_outlined ds d new can alike = λ q deep. ap outline (alike q (λ e. omega (ar
 same_alike : (a b : Disk) → b ≡ a → IsAlike a b
 same_alike a b same = λ q journal beside. ap (λ (d : Disk). node_at d q) same
 
-quiet_committed : (l : Log) → IsQuiet l → HasCommitted [] l l
-quiet_committed l quiet = record { at_rest = quiet; after = λ after does. same_alike after (now l) (sym does) }
-
 quiet_moment : (l : Log) → IsQuiet l → AnyMoment [] l l
 quiet_moment l quiet = λ after does. record {
   start = refl;
@@ -38,10 +35,6 @@ quiet_moment l quiet = λ after does. record {
       let same : image ≡ now l = quiet.steady.durable image here in
       subst (IsBeforeOrAfter (now l) after) (sym same) (now l, inl (quiet.closed, refl), inl (same_alike (now l) (now l) refl), quiet.no_folder);
 }
-
-pub nothing_committed : (log : Option Log) (ds : List PlainDeed) → ds ≡ [] → Told log IsQuiet → Changes log log (HasCommitted ds)
-nothing_committed None ds none quiet = tt
-nothing_committed (Some l) ds none quiet = subst (λ (x : List PlainDeed). HasCommitted x l l) (sym none) (quiet_committed l quiet)
 
 pub nothing_moved : (log : Option Log) (ds : List PlainDeed) → ds ≡ [] → Told log IsQuiet → Changes log log (AnyMoment ds)
 nothing_moved None ds none quiet = tt

@@ -104,11 +104,6 @@ pub told_no_folder : (log : Option Log) (ds : List PlainDeed) (path : Path) (bef
 told_no_folder None ds path before after can unfit = unfit
 told_no_folder (Some l) ds path before after can unfit = λ is. unfit (was_folder ds (now l) path can is)
 
-pub told_bytes : (log : Option Log) (ds : List PlainDeed) (P : Disk → Type 0) → Told log (λ l. CanWait ds (now l)) → Told (disk_in log) (λ d. (later : Disk) → DoesAll (in_order ds) d later → P later)
-    → Told (disk_in (option_map (laid_log ds) log)) P
-told_bytes None ds P can is = tt
-told_bytes (Some l) ds P can is = is (laid ds (now l)) can.does
-
 pub told_no_file : (log : Option Log) (ds : List PlainDeed) (path : Path) (before after : ℕ) → Told log (λ l. CanWait ds (now l))
     → IsUnfit (disk_in log) before after (λ d. (later : Disk) × DoesAll (in_order ds) d later × IsFile later path)
     → IsUnfit (disk_in (option_map (laid_log ds) log)) before after (λ d. IsFile d path)

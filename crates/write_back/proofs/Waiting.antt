@@ -7,16 +7,11 @@ use Rattle.outside.specs.Images.{Log, now}
 use Rattle.deeds.specs.Deeds.{PlainDeed}
 use Rattle.pending_files.specs.Pending.{HasRoom}
 use Rattle.pending_files.specs.Laid.{laid, CanWait}
-use Rattle.pending_files.proofs.Laying.{none_waits}
 use Rattle.held_changes.specs.Writing.{IsRewritten}
 use Rattle.content_changes.specs.Rewriting.{Rewriting, CanPutChunks, rewritten}
 use Rattle.content_deeds.specs.Deeds.{rewriting_in, RewritesLaid}
 use Rattle.content_deeds.proofs.Laying.{rewrites_laid}
 use Rattle.write_back.specs.Shown.{HasFile}
-
-pub none_told : (log : Option Log) (ds : List PlainDeed) → ds ≡ [] → Told log (λ l. CanWait ds (now l))
-none_told None ds none = tt
-none_told (Some l) ds none = subst (λ (x : List PlainDeed). CanWait x (now l)) (sym none) (none_waits (now l))
 
 module _ (ds : List PlainDeed) (path : Path) (len : ℕ) (r : Rewriting) (room : HasRoom ds path (length r.sealed)) (puts : CanPutChunks r.size len r.first r.sealed) (fits : r.size < 2 ^ 64) where
   one_put : (d : Disk) (bytes : List ℕ) → CanWait ds d → HasFile ds path len d → node_at (laid ds d) path ≡ Some (file bytes)

@@ -2,12 +2,12 @@ use Rattle.std.proofs.Common.{◌≡◌, ◌⊎◌, ◌∷◌, [], inr}
 use Rattle.std.proofs.lemmas.Result.{err_from_is_err_and}
 use Rattle.outside.specs.Calls.{Told}
 use Rattle.outside.specs.Images.{Log, now, IsSteady}
-use Rattle.outside.proofs.Told.{changed_from, told_through, through}
+use Rattle.outside.proofs.Told.{both_changed, changed_from, told_through, through}
 use Rattle.deeds.specs.Deeds.{PlainDeed, DoesAll, StaysAmid, in_order}
 use Rattle.deeds.specs.Plain.{plains}
 use Rattle.chunk_journal.specs.Journal.{journal_file, IsFound, IsRepeatable, StaysRecovered}
 use Rattle.chunk_journal.specs.Opening.{HasFolder, IsUnfitAt, LeavesFolder}
-use Rattle.chunk_journal.proofs.Gate.{both, LeavesParts, found_leaves, redone, shut_leaves}
+use Rattle.chunk_journal.proofs.Gate.{LeavesParts, found_leaves, redone, shut_leaves}
 use Rattle.chunk_journal.proofs.Openings.{damaged_by, told_back, leaves_folder, redone_all, ClosesBeside, HasRedone}
 use Rattle.std.proofs.Common.{List}
 use Rattle.chunk_journal.proofs.recovery.redo.Goals as goal
@@ -35,7 +35,7 @@ returns-in_err-close-clause-any_moment g c =
     let l2 = g.D.Reads.log c.close.new.folder in
     told_through l0 l1 l2 (IsFound bs) (λ x y. StaysAmid (in_order bs) x y × Done bs x y) (LeavesParts journal_file 0 (0 ∷ [])) (Stays bs)
     (λ x y z f p q repeatable. shut_leaves bs k repeatable x y z (redone bs k repeatable x y f p.0 p.1) q)
-    c.requires.found (both l0 l1 (StaysAmid (in_order bs)) (Done bs) c.in_ok-redo_deeds.ensures.amid c.in_ok-redo_deeds.ensures.done) c.in_err-close.ensures.any_moment
+    c.requires.found (both_changed l0 l1 (StaysAmid (in_order bs)) (Done bs) c.in_ok-redo_deeds.ensures.amid c.in_ok-redo_deeds.ensures.done) c.in_err-close.ensures.any_moment
 
 pub returns-in_err-close-clause-damaged : goal.returns-in_err-close-clause-damaged
 returns-in_err-close-clause-damaged g c =
@@ -64,4 +64,4 @@ returns-clause-any_moment g c =
     let l2 = g.D.Reads.log c.close.new.folder in
     told_through l0 l1 l2 (IsFound bs) (λ x y. StaysAmid (in_order bs) x y × Done bs x y) (LeavesParts journal_file 0 (0 ∷ [])) (Stays bs)
     (λ x y z f p q repeatable. shut_leaves bs k repeatable x y z (redone bs k repeatable x y f p.0 p.1) q)
-    c.requires.found (both l0 l1 (StaysAmid (in_order bs)) (Done bs) c.in_ok-redo_deeds.ensures.amid c.in_ok-redo_deeds.ensures.done) c.in_ok-close.ensures.any_moment
+    c.requires.found (both_changed l0 l1 (StaysAmid (in_order bs)) (Done bs) c.in_ok-redo_deeds.ensures.amid c.in_ok-redo_deeds.ensures.done) c.in_ok-close.ensures.any_moment

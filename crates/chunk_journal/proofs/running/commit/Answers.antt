@@ -1,12 +1,12 @@
 use Rattle.std.proofs.Common.{refl, arith}
 use Rattle.outside.specs.Disk.{Disk}
 use Rattle.outside.specs.Images.{Log, now}
-use Rattle.outside.proofs.Told.{told_new, told_through, changed_by}
+use Rattle.outside.proofs.Told.{told_new, told_through, both_changed, changed_by}
 use Rattle.deeds.specs.Deeds.{DoesAll, in_order}
 use Rattle.deeds.specs.Plain.{plains}
 use Rattle.deeds.proofs.Phases.{cause_then}
 use Rattle.chunk_journal.specs.Journal.{IsQuiet, IsReady, IsAlike, StaysShut, AnyMoment, HasCommitted}
-use Rattle.chunk_journal.proofs.Gate.{both, with_old}
+use Rattle.chunk_journal.proofs.Gate.{with_old}
 use Rattle.chunk_journal.proofs.Commits.{run_ready, made_leaves, then_leaves, then_committed}
 use Rattle.chunk_journal.proofs.running.commit.Goals as goal
 
@@ -36,7 +36,7 @@ returns-in_err-commit_ready-clause-any_moment g c =
     let l1 = g.D.Reads.log c.make_ready.new.folder in
     let l2 = g.D.Reads.log c.commit_ready.new.folder in
     told_through l0 l1 l2 IsQuiet (λ x y. StaysShut x y × Ready x y) (AnyMoment bs) (AnyMoment bs) (λ x y z q p any. then_leaves bs c.requires.repeatable x y z q p.0 p.1.1 any)
-    c.requires.quiet (both l0 l1 StaysShut Ready c.in_ok-make_ready.ensures.any_moment c.in_ok-make_ready.ensures.ready) c.in_err-commit_ready.ensures.any_moment
+    c.requires.quiet (both_changed l0 l1 StaysShut Ready c.in_ok-make_ready.ensures.any_moment c.in_ok-make_ready.ensures.ready) c.in_err-commit_ready.ensures.any_moment
 
 pub returns-clause-any_moment : goal.returns-clause-any_moment
 returns-clause-any_moment g c =
@@ -45,7 +45,7 @@ returns-clause-any_moment g c =
     let l1 = g.D.Reads.log c.make_ready.new.folder in
     let l2 = g.D.Reads.log c.commit_ready.new.folder in
     told_through l0 l1 l2 IsQuiet (λ x y. StaysShut x y × Ready x y) (AnyMoment bs) (AnyMoment bs) (λ x y z q p any. then_leaves bs c.requires.repeatable x y z q p.0 p.1.1 any)
-    c.requires.quiet (both l0 l1 StaysShut Ready c.in_ok-make_ready.ensures.any_moment c.in_ok-make_ready.ensures.ready) c.in_ok-commit_ready.ensures.any_moment
+    c.requires.quiet (both_changed l0 l1 StaysShut Ready c.in_ok-make_ready.ensures.any_moment c.in_ok-make_ready.ensures.ready) c.in_ok-commit_ready.ensures.any_moment
 
 pub returns-clause-committed : goal.returns-clause-committed
 returns-clause-committed g c =

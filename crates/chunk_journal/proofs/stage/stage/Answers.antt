@@ -1,10 +1,9 @@
 use Rattle.std.proofs.Common.{◌≡◌}
 use Rattle.outside.specs.Images.{Synced, now, adds, IsSound}
-use Rattle.outside.proofs.Told.{through}
+use Rattle.outside.proofs.Told.{both_changed, through}
 use Rattle.deeds.specs.Grammar.{behind_gate}
 use Rattle.deeds.specs.Plain.{plains}
 use Rattle.chunk_journal.specs.Stages.{KeepsShut, HasWritten, HasStaged}
-use Rattle.chunk_journal.proofs.Gate.{both}
 use Rattle.chunk_journal.proofs.Pieces.{staged_synced, keeps_synced, front_shut, with_new}
 use Rattle.chunk_journal.proofs.stage.stage.Goals as goal
 
@@ -24,4 +23,4 @@ returns-clause-any_moment g c =
     let l1 = g.D.Reads.log c.write_pieces.new.folder in
     let l2 = g.D.Reads.log c.sync.new.self in
     through l0 l1 l2 (λ x y. KeepsShut x y × HasWritten bs x y) (λ mid new. new ≡ adds mid Synced) KeepsShut
-    (λ old mid new p is. keeps_synced old mid new p.0 (front_shut (behind_gate bs) (now old) (now mid) p.1) is) (both l0 l1 KeepsShut (HasWritten bs) c.in_ok-write_pieces.ensures.any_moment c.in_ok-write_pieces.ensures.written) c.in_ok-sync.ensures.synced
+    (λ old mid new p is. keeps_synced old mid new p.0 (front_shut (behind_gate bs) (now old) (now mid) p.1) is) (both_changed l0 l1 KeepsShut (HasWritten bs) c.in_ok-write_pieces.ensures.any_moment c.in_ok-write_pieces.ensures.written) c.in_ok-sync.ensures.synced

@@ -1,5 +1,6 @@
-use Rattle.std.proofs.Common.{◌≡◌, ◌++◌, List, refl, arith}
+use Rattle.std.proofs.Common.{◌≡◌, ◌++◌, List, Option, refl, arith}
 use Rattle.std.proofs.lemmas.Result.{err_from_is_err_and}
+use Rattle.outside.specs.Calls.{Changes}
 use Rattle.outside.specs.Images.{Log, now, IsSteady}
 use Rattle.outside.proofs.Told.{through, changed_by, told_new, unchanged}
 use Rattle.deeds.specs.declared.phase.Phase.TheVariants as phases
@@ -15,6 +16,45 @@ Done xs old new = IsSteady new × DoesAll xs (now old) (now new)
 
 done_then : (xs ys : List PlainDeed) (a b c : Log) → Done xs a b → Done ys b c → Done (xs ++ ys) a c
 done_then xs ys a b c first second = (second.0, does_then xs ys (now a) (now b) (now c) first.1 second.1)
+
+does : (xs : List PlainDeed) (a b : Option Log) → Changes a b (Done xs) → Changes a b (λ old new. DoesAll xs (now old) (now new))
+does xs a b did = changed_by a b (Done xs) (λ old new. DoesAll xs (now old) (now new)) (λ x y k. k.1) did
+
+-- ---- the phases one after another, from each log to the next
+
+module _ (ds : List PlainDeed) where
+  abbrev made : List PlainDeed
+  made = of_phase phases.Make ds
+
+  abbrev moved : List PlainDeed
+  moved = of_phase phases.Move ds
+
+  abbrev removed : List PlainDeed
+  removed = of_phase phases.Remove ds
+
+  first_amid : (l0 l1 : Option Log) → Changes l0 l1 (StaysAmid made) → Changes l0 l1 (StaysAmid (made ++ moved ++ removed))
+  first_amid l0 l1 first = changed_by l0 l1 (StaysAmid (made ++ moved)) (StaysAmid (made ++ moved ++ removed)) (stays_front (made ++ moved) removed)
+      (changed_by l0 l1 (StaysAmid made) (StaysAmid (made ++ moved)) (stays_front made moved) first)
+
+  module _ (l0 l1 l2 : Option Log) where
+    two_done : Changes l0 l1 (Done made) → Changes l1 l2 (Done moved) → Changes l0 l2 (Done (made ++ moved))
+    two_done first second = through l0 l1 l2 (Done made) (Done moved) (Done (made ++ moved)) (done_then made moved) first second
+
+    moved_amid : Changes l0 l1 (StaysAmid made) → Changes l1 l2 (StaysAmid moved) → Changes l0 l2 (StaysAmid (made ++ moved))
+    moved_amid first second = through l0 l1 l2 (StaysAmid made) (StaysAmid moved) (StaysAmid (made ++ moved)) (stays_then made moved) first second
+
+    two_amid : Changes l0 l1 (StaysAmid made) → Changes l1 l2 (StaysAmid moved) → Changes l0 l2 (StaysAmid (made ++ moved ++ removed))
+    two_amid first second = changed_by l0 l2 (StaysAmid (made ++ moved)) (StaysAmid (made ++ moved ++ removed)) (stays_front (made ++ moved) removed) (moved_amid first second)
+
+    module _ (l3 : Option Log) where
+      all_done : Changes l0 l1 (Done made) → Changes l1 l2 (Done moved) → Changes l2 l3 (Done removed) → Changes l0 l3 (Done (made ++ moved ++ removed))
+      all_done first second third = through l0 l2 l3 (Done (made ++ moved)) (Done removed) (Done (made ++ moved ++ removed)) (done_then (made ++ moved) removed) (two_done first second) third
+
+      all_amid : Changes l0 l1 (StaysAmid made) → Changes l1 l2 (StaysAmid moved) → Changes l2 l3 (StaysAmid removed) → Changes l0 l3 (StaysAmid (made ++ moved ++ removed))
+      all_amid first second third =
+          through l0 l2 l3 (StaysAmid (made ++ moved)) (StaysAmid removed) (StaysAmid (made ++ moved ++ removed)) (stays_then (made ++ moved) removed) (moved_amid first second) third
+
+-- ---- the answers
 
 pub do_phase-requires-clause-within : goal.do_phase-requires-clause-within
 do_phase-requires-clause-within g c = within_batch (plains c.args.deeds.now) c.requires.batch.each
@@ -33,87 +73,32 @@ do_phase-requires-3-clause-steady g c = told_new (g.F.Reads.log c.do_phase.new.f
 
 pub returns-clause-done : goal.returns-clause-done
 returns-clause-done g c =
-    let ds = plains c.args.deeds.now in
-    let a = of_phase phases.Make ds in
-    let b = of_phase phases.Move ds in
-    let d = of_phase phases.Remove ds in
-    let l0 = g.F.Reads.log c.args.folder.now in
-    let f0 = g.F.Reads.faults c.args.folder.now in
-    let l1 = g.F.Reads.log c.do_phase.new.folder in
-    let f1 = g.F.Reads.faults c.do_phase.new.folder in
-    let l2 = g.F.Reads.log c.do_phase-2.new.folder in
-    let f2 = g.F.Reads.faults c.do_phase-2.new.folder in
-    let l3 = g.F.Reads.log c.do_phase-3.new.folder in
-    let f3 = g.F.Reads.faults c.do_phase-3.new.folder in
-    through l0 l2 l3 (Done (a ++ b)) (Done d) (Done (a ++ b ++ d)) (done_then (a ++ b) d) (through l0 l1 l2 (Done a) (Done b) (Done (a ++ b)) (done_then a b) c.in_ok-do_phase.ensures.done c.in_ok-do_phase-2.ensures.done) c.in_ok-do_phase-3.ensures.done
+    all_done (plains c.args.deeds.now) (g.F.Reads.log c.args.folder.now) (g.F.Reads.log c.do_phase.new.folder) (g.F.Reads.log c.do_phase-2.new.folder) (g.F.Reads.log c.do_phase-3.new.folder)
+    c.in_ok-do_phase.ensures.done c.in_ok-do_phase-2.ensures.done c.in_ok-do_phase-3.ensures.done
 
 pub returns-clause-amid : goal.returns-clause-amid
 returns-clause-amid g c =
-    let ds = plains c.args.deeds.now in
-    let a = of_phase phases.Make ds in
-    let b = of_phase phases.Move ds in
-    let d = of_phase phases.Remove ds in
-    let l0 = g.F.Reads.log c.args.folder.now in
-    let f0 = g.F.Reads.faults c.args.folder.now in
-    let l1 = g.F.Reads.log c.do_phase.new.folder in
-    let f1 = g.F.Reads.faults c.do_phase.new.folder in
-    let l2 = g.F.Reads.log c.do_phase-2.new.folder in
-    let f2 = g.F.Reads.faults c.do_phase-2.new.folder in
-    let l3 = g.F.Reads.log c.do_phase-3.new.folder in
-    let f3 = g.F.Reads.faults c.do_phase-3.new.folder in
-    through l0 l2 l3 (StaysAmid (a ++ b)) (StaysAmid d) (StaysAmid (a ++ b ++ d)) (stays_then (a ++ b) d) (through l0 l1 l2 (StaysAmid a) (StaysAmid b) (StaysAmid (a ++ b)) (stays_then a b) c.in_ok-do_phase.ensures.amid c.in_ok-do_phase-2.ensures.amid) c.in_ok-do_phase-3.ensures.amid
+    all_amid (plains c.args.deeds.now) (g.F.Reads.log c.args.folder.now) (g.F.Reads.log c.do_phase.new.folder) (g.F.Reads.log c.do_phase-2.new.folder) (g.F.Reads.log c.do_phase-3.new.folder)
+    c.in_ok-do_phase.ensures.amid c.in_ok-do_phase-2.ensures.amid c.in_ok-do_phase-3.ensures.amid
 
 pub returns-in_err-do_phase-clause-amid : goal.returns-in_err-do_phase-clause-amid
 returns-in_err-do_phase-clause-amid g c =
-    let ds = plains c.args.deeds.now in
-    let a = of_phase phases.Make ds in
-    let b = of_phase phases.Move ds in
-    let d = of_phase phases.Remove ds in
-    let l0 = g.F.Reads.log c.args.folder.now in
-    let f0 = g.F.Reads.faults c.args.folder.now in
-    let l1 = g.F.Reads.log c.do_phase.new.folder in
-    let f1 = g.F.Reads.faults c.do_phase.new.folder in
-    changed_by l0 l1 (StaysAmid (a ++ b)) (StaysAmid (a ++ b ++ d)) (stays_front (a ++ b) d) (changed_by l0 l1 (StaysAmid a) (StaysAmid (a ++ b)) (stays_front a b) c.in_err-do_phase.ensures.amid)
+    first_amid (plains c.args.deeds.now) (g.F.Reads.log c.args.folder.now) (g.F.Reads.log c.do_phase.new.folder) c.in_err-do_phase.ensures.amid
 
 pub returns-in_err-do_phase-2-clause-amid : goal.returns-in_err-do_phase-2-clause-amid
 returns-in_err-do_phase-2-clause-amid g c =
-    let ds = plains c.args.deeds.now in
-    let a = of_phase phases.Make ds in
-    let b = of_phase phases.Move ds in
-    let d = of_phase phases.Remove ds in
-    let l0 = g.F.Reads.log c.args.folder.now in
-    let f0 = g.F.Reads.faults c.args.folder.now in
-    let l1 = g.F.Reads.log c.do_phase.new.folder in
-    let f1 = g.F.Reads.faults c.do_phase.new.folder in
-    let l2 = g.F.Reads.log c.do_phase-2.new.folder in
-    let f2 = g.F.Reads.faults c.do_phase-2.new.folder in
-    changed_by l0 l2 (StaysAmid (a ++ b)) (StaysAmid (a ++ b ++ d)) (stays_front (a ++ b) d) (through l0 l1 l2 (StaysAmid a) (StaysAmid b) (StaysAmid (a ++ b)) (stays_then a b) c.in_ok-do_phase.ensures.amid c.in_err-do_phase-2.ensures.amid)
+    two_amid (plains c.args.deeds.now) (g.F.Reads.log c.args.folder.now) (g.F.Reads.log c.do_phase.new.folder) (g.F.Reads.log c.do_phase-2.new.folder) c.in_ok-do_phase.ensures.amid c.in_err-do_phase-2.ensures.amid
 
 pub returns-in_err-do_phase-3-clause-amid : goal.returns-in_err-do_phase-3-clause-amid
 returns-in_err-do_phase-3-clause-amid g c =
-    let ds = plains c.args.deeds.now in
-    let a = of_phase phases.Make ds in
-    let b = of_phase phases.Move ds in
-    let d = of_phase phases.Remove ds in
-    let l0 = g.F.Reads.log c.args.folder.now in
-    let f0 = g.F.Reads.faults c.args.folder.now in
-    let l1 = g.F.Reads.log c.do_phase.new.folder in
-    let f1 = g.F.Reads.faults c.do_phase.new.folder in
-    let l2 = g.F.Reads.log c.do_phase-2.new.folder in
-    let f2 = g.F.Reads.faults c.do_phase-2.new.folder in
-    let l3 = g.F.Reads.log c.do_phase-3.new.folder in
-    let f3 = g.F.Reads.faults c.do_phase-3.new.folder in
-    through l0 l2 l3 (StaysAmid (a ++ b)) (StaysAmid d) (StaysAmid (a ++ b ++ d)) (stays_then (a ++ b) d) (through l0 l1 l2 (StaysAmid a) (StaysAmid b) (StaysAmid (a ++ b)) (stays_then a b) c.in_ok-do_phase.ensures.amid c.in_ok-do_phase-2.ensures.amid) c.in_err-do_phase-3.ensures.amid
+    all_amid (plains c.args.deeds.now) (g.F.Reads.log c.args.folder.now) (g.F.Reads.log c.do_phase.new.folder) (g.F.Reads.log c.do_phase-2.new.folder) (g.F.Reads.log c.do_phase-3.new.folder)
+    c.in_ok-do_phase.ensures.amid c.in_ok-do_phase-2.ensures.amid c.in_err-do_phase-3.ensures.amid
 
 pub returns-in_err-do_phase-clause-unfit : goal.returns-in_err-do_phase-clause-unfit
 returns-in_err-do_phase-clause-unfit g c =
     let ds = plains c.args.deeds.now in
-    let a = of_phase phases.Make ds in
-    let b = of_phase phases.Move ds in
-    let d = of_phase phases.Remove ds in
     let l0 = g.F.Reads.log c.args.folder.now in
     let f0 = g.F.Reads.faults c.args.folder.now in
-    let l1 = g.F.Reads.log c.do_phase.new.folder in
     let f1 = g.F.Reads.faults c.do_phase.new.folder in
     let q = err_from_is_err_and c.from_residual.result c.from_residual.ensures.1 in
     rw (q.1, q.2) (refused_in phases.Make ds l0 l0 f0 f0 f1 c.in_err-do_phase.field-0.0 (unchanged l0 l0 (λ old new. now new ≡ now old) refl (λ l. refl)) (omega arith) c.in_err-do_phase.ensures.unfit)
@@ -121,29 +106,18 @@ returns-in_err-do_phase-clause-unfit g c =
 pub returns-in_err-do_phase-2-clause-unfit : goal.returns-in_err-do_phase-2-clause-unfit
 returns-in_err-do_phase-2-clause-unfit g c =
     let ds = plains c.args.deeds.now in
-    let a = of_phase phases.Make ds in
-    let b = of_phase phases.Move ds in
-    let d = of_phase phases.Remove ds in
     let l0 = g.F.Reads.log c.args.folder.now in
-    let f0 = g.F.Reads.faults c.args.folder.now in
     let l1 = g.F.Reads.log c.do_phase.new.folder in
+    let f0 = g.F.Reads.faults c.args.folder.now in
     let f1 = g.F.Reads.faults c.do_phase.new.folder in
-    let l2 = g.F.Reads.log c.do_phase-2.new.folder in
     let f2 = g.F.Reads.faults c.do_phase-2.new.folder in
     let q = err_from_is_err_and c.from_residual-in_err-do_phase-2.result c.from_residual-in_err-do_phase-2.ensures.1 in
-    rw (q.1, q.2) (refused_in phases.Move ds l0 l1 f0 f1 f2 c.in_err-do_phase-2.field-0.0 (changed_by l0 l1 (Done a) (λ old new. DoesAll a (now old) (now new)) (λ x y k. k.1) c.in_ok-do_phase.ensures.done) (c.in_ok-do_phase.ensures.cause.later) c.in_err-do_phase-2.ensures.unfit)
+    rw (q.1, q.2) (refused_in phases.Move ds l0 l1 f0 f1 f2 c.in_err-do_phase-2.field-0.0 (does (made ds) l0 l1 c.in_ok-do_phase.ensures.done) (c.in_ok-do_phase.ensures.cause.later) c.in_err-do_phase-2.ensures.unfit)
 
 pub returns-in_err-do_phase-2-clause-cause : goal.returns-in_err-do_phase-2-clause-cause
 returns-in_err-do_phase-2-clause-cause g c =
-    let ds = plains c.args.deeds.now in
-    let a = of_phase phases.Make ds in
-    let b = of_phase phases.Move ds in
-    let d = of_phase phases.Remove ds in
-    let l0 = g.F.Reads.log c.args.folder.now in
     let f0 = g.F.Reads.faults c.args.folder.now in
-    let l1 = g.F.Reads.log c.do_phase.new.folder in
     let f1 = g.F.Reads.faults c.do_phase.new.folder in
-    let l2 = g.F.Reads.log c.do_phase-2.new.folder in
     let f2 = g.F.Reads.faults c.do_phase-2.new.folder in
     let q = err_from_is_err_and c.from_residual-in_err-do_phase-2.result c.from_residual-in_err-do_phase-2.ensures.1 in
     rw (q.1, q.2) (cause_then f0 f1 f2 _ (c.in_ok-do_phase.ensures.cause.later) c.in_err-do_phase-2.ensures.cause)
@@ -151,33 +125,19 @@ returns-in_err-do_phase-2-clause-cause g c =
 pub returns-in_err-do_phase-3-clause-unfit : goal.returns-in_err-do_phase-3-clause-unfit
 returns-in_err-do_phase-3-clause-unfit g c =
     let ds = plains c.args.deeds.now in
-    let a = of_phase phases.Make ds in
-    let b = of_phase phases.Move ds in
-    let d = of_phase phases.Remove ds in
     let l0 = g.F.Reads.log c.args.folder.now in
-    let f0 = g.F.Reads.faults c.args.folder.now in
     let l1 = g.F.Reads.log c.do_phase.new.folder in
-    let f1 = g.F.Reads.faults c.do_phase.new.folder in
     let l2 = g.F.Reads.log c.do_phase-2.new.folder in
+    let f0 = g.F.Reads.faults c.args.folder.now in
     let f2 = g.F.Reads.faults c.do_phase-2.new.folder in
-    let l3 = g.F.Reads.log c.do_phase-3.new.folder in
     let f3 = g.F.Reads.faults c.do_phase-3.new.folder in
     let q = err_from_is_err_and c.from_residual-in_err-do_phase-3.result c.from_residual-in_err-do_phase-3.ensures.1 in
-    rw (q.1, q.2) (refused_in phases.Remove ds l0 l2 f0 f2 f3 c.in_err-do_phase-3.field-0.0 (changed_by l0 l2 (Done (a ++ b)) (λ old new. DoesAll (a ++ b) (now old) (now new)) (λ x y k. k.1) (through l0 l1 l2 (Done a) (Done b) (Done (a ++ b)) (done_then a b) c.in_ok-do_phase.ensures.done c.in_ok-do_phase-2.ensures.done)) (omega (arith, c.in_ok-do_phase.ensures.cause.later, c.in_ok-do_phase-2.ensures.cause.later)) c.in_err-do_phase-3.ensures.unfit)
+    rw (q.1, q.2) (refused_in phases.Remove ds l0 l2 f0 f2 f3 c.in_err-do_phase-3.field-0.0 (does (made ds ++ moved ds) l0 l2 (two_done ds l0 l1 l2 c.in_ok-do_phase.ensures.done c.in_ok-do_phase-2.ensures.done)) (omega (arith, c.in_ok-do_phase.ensures.cause.later, c.in_ok-do_phase-2.ensures.cause.later)) c.in_err-do_phase-3.ensures.unfit)
 
 pub returns-in_err-do_phase-3-clause-cause : goal.returns-in_err-do_phase-3-clause-cause
 returns-in_err-do_phase-3-clause-cause g c =
-    let ds = plains c.args.deeds.now in
-    let a = of_phase phases.Make ds in
-    let b = of_phase phases.Move ds in
-    let d = of_phase phases.Remove ds in
-    let l0 = g.F.Reads.log c.args.folder.now in
     let f0 = g.F.Reads.faults c.args.folder.now in
-    let l1 = g.F.Reads.log c.do_phase.new.folder in
-    let f1 = g.F.Reads.faults c.do_phase.new.folder in
-    let l2 = g.F.Reads.log c.do_phase-2.new.folder in
     let f2 = g.F.Reads.faults c.do_phase-2.new.folder in
-    let l3 = g.F.Reads.log c.do_phase-3.new.folder in
     let f3 = g.F.Reads.faults c.do_phase-3.new.folder in
     let q = err_from_is_err_and c.from_residual-in_err-do_phase-3.result c.from_residual-in_err-do_phase-3.ensures.1 in
     rw (q.1, q.2) (cause_then f0 f2 f3 _ (omega (arith, c.in_ok-do_phase.ensures.cause.later, c.in_ok-do_phase-2.ensures.cause.later)) c.in_err-do_phase-3.ensures.cause)

@@ -2,15 +2,16 @@ use Rattle.std.proofs.Common.{◌≡◌, ℕ, List, length, take, drop, sym, ap,
 use Rattle.std.proofs.lemmas.List.{take_at}
 use Rattle.outside.specs.Changes.{bytes_or_none}
 use Rattle.outside.specs.Images.{disk_in}
+use Rattle.outside.proofs.Told.{told_then}
 use Rattle.deeds.specs.Reshape.{written}
 use Rattle.deeds.specs.Plain.{plain_ranges}
 use Rattle.deeds.specs.Deeds.{reshaped}
 use Rattle.pending_files.specs.Later.{Shows}
-use Rattle.pending_files.proofs.Shown.{told_more, read_shows, shown_cut}
+use Rattle.pending_files.proofs.Shown.{read_shows, shown_cut}
 use Rattle.pending_files.proofs.reading.read_reshaped.Goals as goal
 
 pub returns-clause-bytes : goal.returns-clause-bytes
-returns-clause-bytes g c = told_more (disk_in (g.R.Reads.log c.args.folder.now)) _ _ (λ d read was there can long.
+returns-clause-bytes g c = told_then (disk_in (g.R.Reads.log c.args.folder.now)) _ _ c.in_ok-read.ensures.bytes (λ d read was there can long.
     let rs = plain_ranges c.args.ranges.now in
     let count = c.shown_count-count.result in
     let window = c.overlay.new.window in
@@ -20,4 +21,4 @@ returns-clause-bytes g c = told_more (disk_in (g.R.Reads.log c.args.folder.now))
     let laid = c.overlay.ensures.shown was can shows in
     let whole : length window ≡ count = c.overlay.ensures.long ∙ filled in
     let is = shown_cut (written rs was) window c.args.at c.args.len long (omega (arith, whole, c.shown_count-count.ensures)) laid in
-    (c.shown_count-count.ensures, take_at window (drop count c.args.out.now) count whole ∙ is ∙ ap (λ (k : ℕ). take k (drop c.args.at (reshaped c.args.len rs was))) whole)) c.in_ok-read.ensures.bytes
+    (c.shown_count-count.ensures, take_at window (drop count c.args.out.now) count whole ∙ is ∙ ap (λ (k : ℕ). take k (drop c.args.at (reshaped c.args.len rs was))) whole))
