@@ -9,7 +9,7 @@ use Rattle.std.proofs.lemmas.List.FromFn.{length-range_with_len}
 use Rattle.outside.specs.Calls.{Told, Changes, Extends}
 use Rattle.outside.specs.Disk.{Disk, Path as HostPath, node_at as thing_at, file as host_file}
 use Rattle.outside.specs.Images.{Log, now}
-use Rattle.outside.proofs.Told.{told_then, told_both, told_from, told_new, changed_by, changed_from, unchanged}
+use Rattle.outside.proofs.Told.{told_then, told_both, told_from, told_new, changed_by, both_changed, changed_from, unchanged}
 use Rattle.deeds.specs.Deeds.{PlainDeed}
 use Rattle.deeds.specs.Repeatable.{journal_file, new_file}
 use Rattle.pending_files.specs.Pending.{IsInside, HasRoom}
@@ -36,7 +36,7 @@ use Rattle.file_changes.specs.Steps.{ChangesContent}
 use Rattle.file_changes.specs.Files.{IsSealedFor, IsSealedIn}
 use Rattle.file_changes.specs.Waiting.{HasPut, HasWritten, IsAtRestOver, IsFlush, IsNotFlushed, MayBeFlushed}
 use Rattle.file_changes.proofs.Standing.{there, host, old, old_long, answered, shows, still_stands}
-use Rattle.file_changes.proofs.Telling.{Stands, both_changed}
+use Rattle.file_changes.proofs.Telling.{Stands}
 
 -- ---- a change that waits
 

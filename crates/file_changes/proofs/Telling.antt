@@ -3,7 +3,7 @@ use Rattle.std.proofs.Common.{◌≡◌, ◌++◌, ℕ, List, Option, Some, None
 use Rattle.outside.specs.Calls.{Told, Changes, Extends, Rose}
 use Rattle.outside.specs.Disk.{Disk, Path as HostPath}
 use Rattle.outside.specs.Images.{Log, now, disk_in}
-use Rattle.outside.proofs.Told.{told_then, told_both, told_always, changed_by, changed_from}
+use Rattle.outside.proofs.Told.{told_then, told_both, told_always, changed_by, both_changed, changed_from}
 use Rattle.deeds.specs.Deeds.{PlainDeed, in_order}
 use Rattle.deeds.proofs.Doing.{same_run}
 use Rattle.chunk_journal.specs.Journal.{AnyMoment, HasCommitted}
@@ -31,7 +31,7 @@ use Rattle.file_changes.specs.Causes.{ContentCause, write_refusal}
 use Rattle.change_plans.specs.Files.{IsFileOf}
 use Rattle.file_changes.specs.Files.{HasFileFor, IsSealedFor, IsSealedIn}
 use Rattle.file_changes.specs.Held.{rewritten_tree, RowsAreRewritten}
-use Rattle.file_changes.specs.Rewritten.{DrawsNonces, HasRewritten}
+use Rattle.file_changes.specs.Rewritten.{DrawsNonces, HasRewritten, MayHaveRewritten}
 use Rattle.file_changes.specs.Steps.{ChangesContent}
 use Rattle.file_changes.proofs.Standing.{there, host, old, content_of_row, has_file, made, answered, shows}
 
@@ -39,12 +39,6 @@ use Rattle.file_changes.proofs.Standing.{there, host, old, content_of_row, has_f
 of_disk : (log : Option Log) (P : Disk → Type 0) → Told (disk_in log) P → Told log (λ (l : Log). P (now l))
 of_disk None P p = tt
 of_disk (Some l) P p = p
-
-pub both_changed : {X : Type 0} (a b : Option X) (P Q : X → X → Type 0) → Changes a b P → Changes a b Q → Changes a b (λ x y. P x y × Q x y)
-both_changed None None P Q p q = tt
-both_changed None (Some y) P Q p q = absurd p
-both_changed (Some x) None P Q p q = absurd p
-both_changed (Some x) (Some y) P Q p q = (p, q)
 
 -- the change makes nothing of it
 abbrev pub IsDamagedIn : KeyPair → HostPath → ℕ → (Content → Option Content) → Option Log → Type 0
@@ -66,7 +60,7 @@ pub never_early : (s : Sealing) (live : HeldTree) (claims : List (List ℕ × �
     → ChangesContent s live claims number change modified second request answer → (d : Disk) → IsLate s request d live claims
 never_early s live claims number change modified second request answer its d contents stands = ap (λ (o : Option Refusal). is_some o) (its d contents stands).late
 
--- The file of a number stands at this path in a tree that stands for what is told; its keys were read.
+-- The file of a number is at this path in a tree that stands for what is told; its keys were read.
 module _ (keys read : KeyPair) (same : read ≡ keys) (live : HeldTree) (claims : List (List ℕ × ℕ)) (number size clear : ℕ) (is : IsFileOf live number size clear) (path : HostPath) (path_is : path_of live number ≡ Some path) (log : Option Log)
     (rest : Told log (Stands (sealing_of keys) live claims)) where
   abbrev s : Sealing
@@ -142,6 +136,14 @@ module _ (keys read : KeyPair) (same : read ≡ keys) (live : HeldTree) (claims 
         content_may_have_changed =
             changed_from log log' Made (AnyMoment deeds) (MayHaveChanged s request second live live' claims claims')
             (λ x y m moments. record { deeds = deeds; makes = m.0; late = late (now x); any_moment = moments }) told_made any_moment
+
+        pub content_may_have_rewritten : (drew drew' : Option (List ℕ)) → Extends drew drew' (nonces_of r.sealed) → Changes log log' (MayHaveRewritten (sealing_of keys) request second live live' claims claims' drew drew')
+        content_may_have_rewritten drew drew' drawn =
+            changed_from log log' Made (AnyMoment deeds) (MayHaveRewritten s request second live live' claims claims' drew drew')
+            (λ x y m moments. record {
+              changed = record { deeds = deeds; makes = m.0; late = late (now x); any_moment = moments };
+              nonces = changed_by drew drew' (λ (a b : List ℕ). b ≡ a ++ nonces_of r.sealed) (DrawsNonces deeds) (λ a b more. record { path = path; rewriting = r; are = refl; drew = more }) drawn;
+            }) told_made any_moment
 
         module _ (drew drew' : Option (List ℕ)) (drawn : Extends drew drew' (nonces_of r.sealed)) (committed : Changes between log' (HasCommitted (deeds_of path r))) where
           pub content_rewritten : Changes log log' (HasRewritten (sealing_of keys) request second answer live live' claims claims' drew drew')

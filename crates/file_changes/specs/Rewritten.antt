@@ -11,7 +11,7 @@ use Rattle.live_tree.specs.Held.{HeldTree}
 use Rattle.content_changes.specs.Rewriting.{Rewriting}
 use Rattle.content_writer.specs.Sealed.{nonces_of}
 use Rattle.content_deeds.specs.Deeds.{deeds_of}
-use Rattle.node_changes.specs.Changed.{HasChanged}
+use Rattle.node_changes.specs.Changed.{HasChanged, MayHaveChanged}
 
 -- The deeds rewrite a host file in chunks whose nonces were drawn for them, one after the other, and nothing else was drawn.
 pub record DrawsNonces (deeds : List PlainDeed) (old new : List ℕ) : Type 0 where
@@ -23,4 +23,9 @@ pub record DrawsNonces (deeds : List PlainDeed) (old new : List ℕ) : Type 0 wh
 -- it was made, by such deeds
 pub record HasRewritten (s : Sealing) (request : PlainRequest) (second : ℕ) (answer : Answer) (live live' : HeldTree) (claims claims' : List (List ℕ × ℕ)) (drew drew' : Option (List ℕ)) (old new : Log) : Type 0 where
   pub changed : HasChanged s request second answer live live' claims claims' old new
+  pub nonces : Changes drew drew' (DrawsNonces changed.deeds)
+
+-- its commit failed: it may have been made, by such deeds
+pub record MayHaveRewritten (s : Sealing) (request : PlainRequest) (second : ℕ) (live live' : HeldTree) (claims claims' : List (List ℕ × ℕ)) (drew drew' : Option (List ℕ)) (old new : Log) : Type 0 where
+  pub changed : MayHaveChanged s request second live live' claims claims' old new
   pub nonces : Changes drew drew' (DrawsNonces changed.deeds)

@@ -10,7 +10,7 @@ ghost use Rattle.node_changes.specs.Changed.{IsAtRest, HasChanged, MayHaveChange
 ghost use Rattle.node_changes.specs.Causes.{ErrCause, IfBroken, IfRefused, IsUnchanged};
 ghost use Rattle.file_changes.specs.Causes.{ContentCause, write_refusal};
 ghost use Rattle.change_plans.specs.Files.{IsResizable, IsWritable};
-ghost use Rattle.file_changes.specs.Rewritten.{HasRewritten};
+ghost use Rattle.file_changes.specs.Rewritten.{HasRewritten, MayHaveRewritten};
 ghost use Rattle.file_changes.specs.Steps.{IsResizing};
 ghost use Rattle.file_changes.specs.Waiting.{HasPut, HasWritten, IsAtRestOver, IsNotFlushed};
 ghost use Rattle.pending_files.specs.Laid.{laid_log};
@@ -196,6 +196,10 @@ impl FileChanges {
             → IsResizing (sealing_of tree.old.keys) tree.old.live tree.old.claims number len modified now request answer
             → OnOk result (Changes (D.log journal.old) (D.log journal.new) (HasRewritten (sealing_of tree.old.keys)
             request now answer tree.old.live tree.new.live tree.old.claims tree.new.claims (E.drawn entropy.old) (E.drawn entropy.new))) }
+        ensures nonces_broken { (request : PlainRequest) (answer : Answer)
+            → IsResizing (sealing_of tree.old.keys) tree.old.live tree.old.claims number len modified now request answer
+            → IfErr result (λ error. IfBroken error (Changes (D.log journal.old) (D.log journal.new) (MayHaveRewritten (sealing_of tree.old.keys)
+            request now tree.old.live tree.new.live tree.old.claims tree.new.claims (E.drawn entropy.old) (E.drawn entropy.new)))) }
         ensures later { D.faults journal.old ≤ D.faults journal.new }
         ensures entropy { E.faults entropy.old ≤ E.faults entropy.new }
         ensures keys { tree.new.keys ≡ tree.old.keys }

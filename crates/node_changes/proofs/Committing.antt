@@ -4,7 +4,7 @@ use Rattle.std.specs.Option.{option_map_or}
 use Rattle.outside.specs.Calls.{Told, Changes}
 use Rattle.outside.specs.Disk.{Disk}
 use Rattle.outside.specs.Images.{Log, now}
-use Rattle.outside.proofs.Told.{told_then, changed_from}
+use Rattle.outside.proofs.Told.{told_then, both_changed, changed_from}
 use Rattle.deeds.specs.Deeds.{PlainDeed, DoesAll, in_order}
 use Rattle.chunk_journal.specs.Journal.{IsQuiet, AnyMoment, HasCommitted}
 use Rattle.tree_model.specs.declared.refusal.Refusal.{Refusal}
@@ -17,12 +17,6 @@ use Rattle.tree_history.specs.History.{is_refusal}
 use Rattle.clear_tree.specs.Walk.{Sealing}
 use Rattle.live_tree.specs.Held.{HeldTree, live_rows}
 use Rattle.node_changes.specs.Changed.{IsAtRest, LeadsOn, MakesStep, IsStepAnswer, HasChanged, MayHaveChanged}
-
-pub both_changed : {X : Type 0} (a b : Option X) (P Q : X → X → Type 0) → Changes a b P → Changes a b Q → Changes a b (λ x y. P x y × Q x y)
-both_changed None None P Q p q = tt
-both_changed None (Some y) P Q p q = absurd p
-both_changed (Some x) None P Q p q = absurd p
-both_changed (Some x) (Some y) P Q p q = (p, q)
 
 -- ---- refusals before the work
 

@@ -18,7 +18,7 @@ use Rattle.tree_model.specs.Step.{Answer}
 use Rattle.clear_tree.specs.Walk.{Sealing}
 use Rattle.clear_tree.specs.Places.{host_folder}
 use Rattle.directory_scan.specs.Format.{sealing_of}
-use Rattle.tree_changes.specs.Deeds.{Place, create_file_deeds}
+use Rattle.tree_changes.specs.Deeds.{Place, create_file_deeds, create_dir_deeds}
 use Rattle.live_tree.specs.Held.{HeldTree, live_rows, IsTree}
 use Rattle.tree_history.specs.History.{is_refusal}
 use Rattle.name_places.specs.declared.directory.NewDirectory.{NewDirectory}
@@ -28,11 +28,11 @@ use Rattle.name_places.specs.Asked.{IsTaken}
 use Rattle.name_places.specs.Asked.{identifier_in as drawn_in}
 use Rattle.node_changes.specs.declared.site.Site.{Site}
 use Rattle.node_changes.specs.Causes.{RefusalCause}
-use Rattle.node_changes.specs.Changed.{IsAtRest, MakesStep, MayHaveChanged, MayRefuse}
-use Rattle.node_changes.specs.Placed.{taken_for, DrawsHeader, IsIdentifierOf, GoesOn}
+use Rattle.node_changes.specs.Changed.{IsAtRest, MakesStep, MayRefuse}
+use Rattle.node_changes.specs.Placed.{taken_for, DrawsHeader, DrawsIdentifier, IsIdentifierOf, GoesOn}
 use Rattle.node_changes.proofs.Committing.{late_by}
-use Rattle.node_changes.specs.Creation.{HasCreated, IsDraw}
-use Rattle.node_changes.specs.Creating.{DrawsHead, DrawsIf, IsPlaceRefusal, IsRefusal, IsSite, IsSiteRefusal, IsUntaken, MakesOn}
+use Rattle.node_changes.specs.Creation.{HasCreated, IsDraw, IsFoundTaken, MakesDrawn, MayHaveCreated}
+use Rattle.node_changes.specs.Creating.{DrawsDirectory, DrawsHead, DrawsIf, IsPlaceRefusal, IsRefusal, IsSite, IsSiteRefusal, IsUntaken, MakesOn}
 use Rattle.node_changes.proofs.Makings.{told_taken, is_late, is_accepted, never_removed}
 
 -- ---- what was drawn
@@ -71,6 +71,11 @@ module _ (keys : KeyPair) (is_dir : Bool) where
     unspent = λ none made. let no : Some directory.identifier ≡ None = none in absurd cc;
   }
 
+  -- a place is tested before a file's header is drawn
+  pub found_taken : (directory : Option NewDirectory) (drew drew' : Option (List ℕ)) (refusal : Refusal) → DrawsIf keys is_dir directory drew drew' → IsFoundTaken is_dir drew drew' refusal
+  found_taken None drew drew' refusal h = λ path is file. h.1
+  found_taken (Some directory) drew drew' refusal h = λ path is file. absurd (true≢false (sym h.0 ∙ file))
+
   pub own_folder : (directory : Option NewDirectory) (drew drew' : Option (List ℕ)) → DrawsIf keys is_dir directory drew drew'
       → IfSome directory (λ (d : NewDirectory). d.folder ≡ (sealing_of keys).folder_of d.identifier)
   own_folder None drew drew' h = tt
@@ -81,11 +86,26 @@ module _ (keys : KeyPair) (is_dir : Bool) where
   own_path None drew drew' h = tt
   own_path (Some directory) drew drew' h = h.1.is.path
 
+-- a directory is made of what was drawn for it
+pub directory_drawn : (keys : KeyPair) (drew drew' : Option (List ℕ)) (directory : NewDirectory) → DrawsDirectory keys directory drew drew' → (place : Place) (text : List ℕ) (deeds : List PlainDeed)
+    → deeds ≡ create_dir_deeds place text directory.folder directory.identifier → Changes drew drew' (DrawsIdentifier (sealing_of keys) deeds directory.identifier)
+directory_drawn keys drew drew' directory draws place text deeds are =
+    changed_by drew drew' (λ (old new : List ℕ). new ≡ old ++ draws.bytes) (DrawsIdentifier (sealing_of keys) deeds directory.identifier)
+    (λ old new e. record {
+      bytes = draws.bytes;
+      sixteen = draws.sixteen;
+      drew = e;
+      is = draws.is.identifier;
+      place = place;
+      text = text;
+      are = are ∙ ap (λ (own : List ℕ). create_dir_deeds place text own directory.identifier) draws.is.folder;
+    }) draws.drawn
+
 pub header_drawn : (keys : KeyPair) (drew drew' : Option (List ℕ)) (header : List ℕ) → DrawsHead keys drew drew' header → (place : Place) (text : List ℕ) (deeds : List PlainDeed) → deeds ≡ create_file_deeds place text header
     → Changes drew drew' (DrawsHeader keys deeds)
 header_drawn keys drew drew' header draws place text deeds are =
     changed_by drew drew' (λ (old new : List ℕ). new ≡ old ++ draws.head.nonce ++ draws.head.key) (DrawsHeader keys deeds)
-    (λ old new e. record { head = draws.head; drew = e; place = place; text = text; are = are ∙ ap (λ (h : List ℕ). create_file_deeds place text h) draws.is }) draws.drawn
+    (λ old new e. record { head = draws.head; nonce = draws.nonce; key = draws.key; drew = e; place = place; text = text; are = are ∙ ap (λ (h : List ℕ). create_file_deeds place text h) draws.is }) draws.drawn
 
 pub head_changes : (keys : KeyPair) (drew drew' : Option (List ℕ)) (header : List ℕ) → DrawsHead keys drew drew' header → Changes drew drew' GoesOn
 head_changes keys drew drew' header draws = changed_by drew drew' (λ (old new : List ℕ). new ≡ old ++ draws.head.nonce ++ draws.head.key) GoesOn (λ old new e. (draws.head.nonce ++ draws.head.key, e ∙ append_assoc old draws.head.nonce draws.head.key)) draws.drawn
@@ -93,6 +113,10 @@ head_changes keys drew drew' header draws = changed_by drew drew' (λ (old new :
 -- where nothing was drawn before
 pub header_partly : (drew mid drew' : Option (List ℕ)) → mid ≡ drew → Changes mid drew' GoesOn → Changes drew drew' GoesOn
 header_partly drew mid drew' same changes = subst (λ (d : Option (List ℕ)). Changes d drew' GoesOn) same changes
+
+-- and no other refusal is of a place
+pub never_taken : (is_dir : Bool) (drew drew' : Option (List ℕ)) (refusal : Refusal) → ((path : HostPath) → refusal ≡ refusals.PlaceTaken path → ⊥) → IsFoundTaken is_dir drew drew' refusal
+never_taken is_dir drew drew' refusal none = λ path is file. absurd (none path is)
 
 -- ---- refusals
 
@@ -176,15 +200,6 @@ place_cases site drawn live claims disk failed (refusals.Exhausted ticket) h = a
 place_cases site drawn live claims disk failed refusals.RandomFault h = absurd h
 place_cases site drawn live claims disk failed refusals.OutOfMemory h = absurd h
 
-pub place_cause : (site : Site) (drawn : Option NewDirectory) (live : HeldTree) (claims : List (List ℕ × ℕ)) (disk : Option Disk) (failed E : Type 0) (parent : ℕ) (name : List ℕ) (is_directory : Bool) (mode : ℕ) (refusal : Refusal)
-    → IsPlaceRefusal site drawn live claims disk failed refusal → RefusalCause (create parent name is_directory mode) failed E refusal
-place_cause site drawn live claims disk failed E parent name is_directory mode refusal is = go (place_cases site drawn live claims disk failed refusal is)
-  where
-    go : ((refusal ≡ refusals.DeviceFault) × failed) ⊎ ((path : HostPath) × (refusal ≡ refusals.PlaceTaken path) × AreTaken site drawn live claims disk path)
-        → RefusalCause (create parent name is_directory mode) failed E refusal
-    go (inl h) = subst (RefusalCause (create parent name is_directory mode) failed E) (sym h.0) h.1
-    go (inr h) = subst (RefusalCause (create parent name is_directory mode) failed E) (sym h.1) tt
-
 module _ (keys : KeyPair) (parts : EntriesAreParts keys) (live : HeldTree) (claims : List (List ℕ × ℕ)) (parent : ℕ) (site : Site) (at : IsSite (sealing_of keys) live parent site) (is : IsTree live)
     (name : List ℕ) (clear : clear_name name ≡ Ok site.name) (is_directory : Bool) (mode second : ℕ) where
   abbrev k : Sealing
@@ -238,32 +253,35 @@ module _ (keys : KeyPair) (request : PlainRequest) (second : ℕ) (live live' : 
     can_be_done old rest free =
         told_then old (λ (l : Log). MakesStep o request second deeds (now l) live live' claims claims') (λ (l : Log). (after : Disk) × DoesAll (in_order deeds) (now l) after) (told_makes old rest free) (λ l m. (m.after, m.does))
 
-    pub has_created : (drew drew' : Option (List ℕ)) → (drawn ≡ None → Changes drew drew' (DrawsHeader keys deeds)) → (old new : Option Log) → Told old (IsAtRest (sealing_of keys) live claims)
+    pub has_created : (drew drew' : Option (List ℕ)) → MakesDrawn keys deeds drawn drew drew' → (old new : Option Log) → Told old (IsAtRest (sealing_of keys) live claims)
         → Told (disk_in old) (IsUntaken (sealing_of keys) request drawn live claims) → Changes old new (AnyMoment deeds) → Changes old new (HasCommitted deeds)
         → Changes old new (HasCreated keys request second answer drawn live live' claims claims' drew drew')
-    has_created drew drew' header None None rest free any committed = tt
-    has_created drew drew' header None (Some y) rest free any committed = absurd any
-    has_created drew drew' header (Some x) None rest free any committed = absurd any
-    has_created drew drew' header (Some x) (Some y) rest free any committed =
+    has_created drew drew' made_of None None rest free any committed = tt
+    has_created drew drew' made_of None (Some y) rest free any committed = absurd any
+    has_created drew drew' made_of (Some x) None rest free any committed = absurd any
+    has_created drew drew' made_of (Some x) (Some y) rest free any committed =
         let it = makes (now x) rest.contents rest.stands (free rest.contents rest.stands) in
         record {
           changed = record { deeds = deeds; makes = it.0; answer_is = it.1; any_moment = any; committed = committed };
           untaken = free rest.contents rest.stands;
-          header = header;
+          made_of = made_of;
         }
 
-    pub may_have_created : is_refusal answer.reply ≡ false → (old new : Option Log) → Told old (IsAtRest (sealing_of keys) live claims) → Told (disk_in old) (IsUntaken (sealing_of keys) request drawn live claims) → Changes old new (AnyMoment deeds)
-        → Changes old new (MayHaveChanged (sealing_of keys) request second live live' claims claims')
-    may_have_created accepted None None rest free any = tt
-    may_have_created accepted None (Some y) rest free any = absurd any
-    may_have_created accepted (Some x) None rest free any = absurd any
-    may_have_created accepted (Some x) (Some y) rest free any =
+    pub may_have_created : is_refusal answer.reply ≡ false → (drew drew' : Option (List ℕ)) → MakesDrawn keys deeds drawn drew drew' → (old new : Option Log) → Told old (IsAtRest (sealing_of keys) live claims) → Told (disk_in old) (IsUntaken (sealing_of keys) request drawn live claims) → Changes old new (AnyMoment deeds)
+        → Changes old new (MayHaveCreated keys request second drawn live live' claims claims' drew drew')
+    may_have_created accepted drew drew' made_of None None rest free any = tt
+    may_have_created accepted drew drew' made_of None (Some y) rest free any = absurd any
+    may_have_created accepted drew drew' made_of (Some x) None rest free any = absurd any
+    may_have_created accepted drew drew' made_of (Some x) (Some y) rest free any =
         let it = makes (now x) rest.contents rest.stands (free rest.contents rest.stands) in
         record {
-          deeds = deeds;
-          makes = it.0;
-          late = λ others more. late_by (live_rows others live) request second answer (it.1 others more) accepted;
-          any_moment = any;
+          changed = record {
+            deeds = deeds;
+            makes = it.0;
+            late = λ others more. late_by (live_rows others live) request second answer (it.1 others more) accepted;
+            any_moment = any;
+          };
+          made_of = made_of;
         }
 
   pub told_refused : (refusal : Refusal) (old : Option Log) → Told old (IsAtRest (sealing_of keys) live claims) → Told (disk_in old) (IsRefusal (sealing_of keys) request second drawn refusal live claims)

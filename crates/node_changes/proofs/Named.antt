@@ -4,7 +4,7 @@ use Rattle.std.specs.Option.{unwrap_or}
 use Rattle.outside.specs.Disk.{Disk}
 use Rattle.outside.specs.Calls.{Told, Changes}
 use Rattle.outside.specs.Images.{Log, now, disk_in}
-use Rattle.outside.proofs.Told.{told_then, told_always, changed_from}
+use Rattle.outside.proofs.Told.{told_then, told_always, both_changed, changed_from}
 use Rattle.deeds.specs.Deeds.{PlainDeed, DoesAll, in_order}
 use Rattle.deeds.specs.Repeatable.{IsRepeatable}
 use Rattle.chunk_journal.specs.Journal.{AnyMoment, HasCommitted}
@@ -38,7 +38,6 @@ use Rattle.node_changes.specs.Placed.{taken_for}
 use Rattle.node_changes.specs.Removal.{place_in}
 use Rattle.node_changes.specs.Renaming.{IsRenamingIn, IsRenaming, HasRenamed}
 use Rattle.node_changes.specs.NewName.{IsNewName, IsNameRefusal, IsPlaceRefusal, IsStuck, IsRenameRefusal, AreNaming, IsNamedTree, RowsAreNamed, CanBeGiven, RenamesOn, dated_if, place_with}
-use Rattle.node_changes.proofs.Committing.{both_changed}
 use Rattle.node_changes.proofs.Naming.{never_removed, given, not_kept_back}
 use Rattle.node_changes.proofs.Placing.{folder_is, found_is, taken_is, free, can_rename, never_stuck}
 use Rattle.node_changes.proofs.Renames.{CanRename, leads, does, makes}
@@ -86,7 +85,7 @@ module _ (s : Sealing) (live : HeldTree) (claims : List (List ℕ × ℕ)) (numb
 -- ---- with a new name
 
 -- an mtime that is set leaves what the tree stands on
-dating_stands : (s : Sealing) (d : Disk) (live : HeldTree) (claims : List (List ℕ × ℕ)) (contents : ℕ → Content) (number : ℕ) (modified : Option ℕ) → StandsOn s d live claims contents → StandsOn s d (dated_if live number modified) claims contents
+pub dating_stands : (s : Sealing) (d : Disk) (live : HeldTree) (claims : List (List ℕ × ℕ)) (contents : ℕ → Content) (number : ℕ) (modified : Option ℕ) → StandsOn s d live claims contents → StandsOn s d (dated_if live number modified) claims contents
 dating_stands s d live claims contents number None stands = stands
 dating_stands s d live claims contents number (Some modified) stands = record {
   tree = stands.tree;

@@ -4,9 +4,7 @@ use Rattle.std.specs.Option.{option_and_then}
 use Rattle.std.specs.FinMap.{get}
 use Rattle.outside.specs.Disk.{Disk}
 use Rattle.tree_model.specs.Rows.{root}
-use Rattle.clear_tree.specs.declared.node.What.{What}
 use Rattle.clear_tree.specs.declared.node.What.TheVariants as whats
-use Rattle.clear_tree.specs.Built.{kept_what}
 use Rattle.clear_tree.specs.Walk.{Path, Sealing, Node, Dir}
 use Rattle.clear_tree.specs.Places.{folders_of}
 use Rattle.clear_tree.specs.Kept.{What as KeptWhat, KeptDir, folder_in}
@@ -89,13 +87,6 @@ never_folderless live is number parent held above there same up none =
     let a = above_there live is number held there in
     let e : above ≡ a.0 = one_held live held.kept.parent above a.0 (ap (node_of live) (sym same) ∙ up) a.1 in
     true≢false (sym (subst (λ (o : Option (List ℕ)). IsSome o) (ap (λ (z : HeldNode). folder_in z.kept.what) (sym e) ∙ none) a.2))
-
--- what has a folder is a directory
-pub never_other : (what : What) (folder : List ℕ) → folder_in (kept_what what) ≡ Some folder → ((i f : List ℕ) → what ≡ whats.Dir i f → ⊥) → ⊥
-never_other (whats.File size) folder e other = cc
-never_other (whats.Link size) folder e other = cc
-never_other (whats.Bad text) folder e other = cc
-never_other (whats.Dir i f) folder e other = other i f refl
 
 pub directory_is : (what : KeptWhat) (i f folder : List ℕ) → what ≡ KeptDir i f → folder_in what ≡ Some folder → what ≡ KeptDir i folder
 directory_is what i f folder e is = let w : ◌≡◌ {A = Option (List ℕ)} (Some f) (Some folder) = ap folder_in (sym e) ∙ is in let same : f ≡ folder = cc in e ∙ ap (KeptDir i) same

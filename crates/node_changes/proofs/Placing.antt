@@ -34,7 +34,7 @@ use Rattle.node_changes.proofs.Nodes.{IsBelow, is_below, place_is, above_there}
 use Rattle.node_changes.proofs.Creations.{dir_node}
 use Rattle.node_changes.proofs.Renames.{CanRename}
 
--- something stands at the place of a node
+-- something is at the place of a node
 module _ (s : Sealing) (d : Disk) (tree : Tree) (texts : AreTexts s) (of : IsTreeOf s d tree) (p : Path) (i n : List ℕ) (x : Node) (dir : get tree.nodes p ≡ Some (Dir i)) (stands : get tree.nodes (n ∷ p) ≡ Some x) where
   abbrev F : List ℕ
   F = s.folder_of i
@@ -62,7 +62,7 @@ module _ (s : Sealing) (d : Disk) (tree : Tree) (texts : AreTexts s) (of : IsTre
   pub entry_there : get d (host_entry (s.folder_of i) (place_of s i n (tree.long (n ∷ p))).entry) ≢ None
   entry_there = by_place (tree.long (n ∷ p)) (is_at s d F X (tree.long (n ∷ p)) (of.placed n p i x dir stands))
 
--- nothing stands at a place that isn't taken
+-- nothing is at a place that isn't taken
 pub entry_untaken : (keys : KeyPair) (d : Disk) (i m : List ℕ) (long : Bool) → (long ≡ false → (sealing_of keys).is_part ((sealing_of keys).seal i m) ≡ true)
     → (entry_at (sealing_of keys) d ((sealing_of keys).folder_of i) ((sealing_of keys).seal i m) ≡ None) → (get d (host_entry ((sealing_of keys).folder_of i) ((sealing_of keys).long_of ((sealing_of keys).seal i m))) ≡ None)
     → get d (host_entry ((sealing_of keys).folder_of i) (place_of (sealing_of keys) i m long).entry) ≡ None

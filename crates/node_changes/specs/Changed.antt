@@ -93,7 +93,7 @@ pub record MayHaveChanged (s : Sealing) (request : PlainRequest) (second : ℕ) 
 -- ---- refusals
 
 -- A refusal of a change that made nothing: the step's own; the folder's or the random source's fault once the work had begun; a place that
--- is taken, where the step would answer; or want of memory for a node that is there.
+-- is taken, where the step would answer; or lack of memory for a node that is there.
 abbrev pub MayRefuse : Sealing → PlainRequest → ℕ → Option HostPath → Refusal → Disk → HeldTree → List (List ℕ × ℕ) → Type 0
 MayRefuse s request second taken refusals.DeviceFault d live claims = IsLate s request d live claims
 MayRefuse s request second taken refusals.RandomFault d live claims = IsLate s request d live claims

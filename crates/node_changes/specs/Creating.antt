@@ -25,8 +25,8 @@ use Rattle.name_places.specs.New.{IsNewPlace, IsNewDirectory}
 use Rattle.name_places.specs.Asked.{IsTaken}
 use Rattle.node_changes.specs.declared.site.Site.{Site}
 use Rattle.node_changes.specs.Changed.{StandsOn, MakesStep, IsStepAnswer, MayRefuse}
-use Rattle.node_changes.specs.Placed.{taken_for, DrawsHeader, IsIdentifierOf}
-use Rattle.node_changes.specs.Creation.{IsDraw}
+use Rattle.node_changes.specs.Placed.{taken_for, IsIdentifierOf}
+use Rattle.node_changes.specs.Creation.{IsDraw, IsFoundTaken, MakesDrawn}
 
 -- ---- where it is to stand
 
@@ -45,7 +45,7 @@ pub record IsSite (s : Sealing) (live : HeldTree) (parent : ℕ) (site : Site) :
   pub short : length site.place.text < 2 ^ 32
 
 -- Why a node can't be made, before anything is drawn and the folder is read, so that no place is found taken: as the step refuses it, or for
--- want of memory where the number has a node.
+-- lack of memory where the number has a node.
 abbrev pub IsSiteRefusal : HeldTree → ℕ → List ℕ → Refusal → Type 0
 IsSiteRefusal live parent name refusals.OutOfMemory =
     (contents : ℕ → Content) (is_dir : Bool) (mode second : ℕ) → (step (live_rows contents live) (create parent name is_dir mode) second).answer ≢ refuses refusals.Removed
@@ -62,7 +62,7 @@ name_fault_refusal Forbidden = refusals.BadName
 name_fault_refusal (TooLong n) = refusals.NameTooLong
 name_fault_refusal Memory = refusals.OutOfMemory
 
--- Why a node can't stand at its site, given what says that the folder failed: it failed, or a path that the node needs is taken.
+-- Why a node can't be at its site, given what says that the folder failed: it failed, or a path that the node needs is taken.
 abbrev pub IsPlaceRefusal : Site → Option NewDirectory → HeldTree → List (List ℕ × ℕ) → Option Disk → Type 0 → Refusal → Type 0
 IsPlaceRefusal site drawn live claims disk failed refusals.DeviceFault = failed
 IsPlaceRefusal site drawn live claims disk failed (refusals.PlaceTaken path) = Told disk (IsTaken site.folder site.place drawn live claims (Some path))
@@ -73,6 +73,8 @@ IsPlaceRefusal site drawn live claims disk failed refusal = ⊥
 -- a directory by 16 bytes that were drawn
 pub record DrawsDirectory (keys : KeyPair) (directory : NewDirectory) (drew drew' : Option (List ℕ)) : Type 0 where
   pub bytes : List ℕ
+  pub sixteen : length bytes ≡ 16
+  pub drawn : Changes drew drew' (λ old new. new ≡ old ++ bytes)
   pub is : IsNewDirectory (sealing_of keys) bytes directory
   pub first : Changes drew drew' (IsIdentifierOf directory.identifier)
 
@@ -84,6 +86,8 @@ DrawsIf keys is_dir (Some directory) drew drew' = (is_dir ≡ true) × DrawsDire
 -- the header of a nonce and a content key that were drawn
 pub record DrawsHead (keys : KeyPair) (drew drew' : Option (List ℕ)) (header : List ℕ) : Type 0 where
   pub head : Head
+  pub nonce : length head.nonce ≡ 12
+  pub key : length head.key ≡ 32
   pub is : header ≡ sealed_header keys head
   pub opens : header_opens keys header ≡ Some head
   pub drawn : Changes drew drew' (λ old new. new ≡ old ++ head.nonce ++ head.key)
@@ -110,7 +114,7 @@ pub record IsReady (keys : KeyPair) (request : PlainRequest) (is_dir : Bool) (se
   pub draw : IsDraw is_dir drawn drew drew'
   pub makes : MakesOn (sealing_of keys) request second answer drawn live live' claims claims' deeds
   pub untaken : Told disk (IsUntaken (sealing_of keys) request drawn live claims)
-  pub header : drawn ≡ None → Changes drew drew' (DrawsHeader keys deeds)
+  pub made_of : MakesDrawn keys deeds drawn drew drew'
 
 -- the refusal is one that the disk that reads give allows, where the tree in memory stands for it
 abbrev pub IsRefusal : Sealing → PlainRequest → ℕ → Option (List ℕ) → Refusal → HeldTree → List (List ℕ × ℕ) → Disk → Type 0
@@ -121,3 +125,4 @@ pub record HasRefused (keys : KeyPair) (request : PlainRequest) (is_dir : Bool) 
   pub drawn : Option (List ℕ)
   pub draw : IsDraw is_dir drawn drew drew'
   pub refused : Told disk (IsRefusal (sealing_of keys) request second drawn refusal live claims)
+  pub found : IsFoundTaken is_dir drew drew' refusal

@@ -59,7 +59,7 @@ IsRefusedAs live number name refusal =
     (contents : ℕ → Content) (c : PlainChange) (modified : Option ℕ) (second : ℕ) → IsRenamingIn live number name modified c contents
     → (step (live_rows contents live) (change number c) second).answer ≡ refuses refusal
 
--- Why a node can't be given a name, before the folder is read: as the step refuses it, or for want of memory where the number has a node.
+-- Why a node can't be given a name, before the folder is read: as the step refuses it, or for lack of memory where the number has a node.
 abbrev pub IsNameRefusal : HeldTree → ℕ → List ℕ → Refusal → Type 0
 IsNameRefusal live number name refusals.Removed = IsRefusedAs live number name refusals.Removed
 IsNameRefusal live number name refusals.NotPermitted = IsRefusedAs live number name refusals.NotPermitted
@@ -71,13 +71,13 @@ IsNameRefusal live number name refusals.OutOfMemory =
     → (step (live_rows contents live) (change number c) second).answer ≢ refuses refusals.Removed
 IsNameRefusal live number name refusal = ⊥
 
--- Why a node can't stand at a new place, given what says that the folder failed: it failed, or the place is taken.
+-- Why a node can't be at a new place, given what says that the folder failed: it failed, or the place is taken.
 abbrev pub IsPlaceRefusal : NewName → HeldTree → List (List ℕ × ℕ) → Option Disk → Type 0 → Refusal → Type 0
 IsPlaceRefusal new live claims disk failed refusals.DeviceFault = failed
 IsPlaceRefusal new live claims disk failed (refusals.PlaceTaken path) = Told disk (IsTaken new.folder new.place None live claims (Some path))
 IsPlaceRefusal new live claims disk failed refusal = ⊥
 
--- No disk has such a node where nothing stands at the new place: no host path can be made of its entry, or that is the new entry.
+-- No disk has such a node where nothing is at the new place: no host path can be made of its entry, or that is the new entry.
 pub record IsStuck (live : HeldTree) (number : ℕ) (new : NewName) : Type 0 where
   pub held : HeldNode
   pub there : node_of live number ≡ Some held

@@ -10,7 +10,7 @@ use Rattle.tree_model.specs.Asked.{PlainRequest, look, walk, open_node, create, 
 use Rattle.clear_tree.specs.Walk.{Sealing}
 use Rattle.clear_tree.specs.Kept.{What, KeptFile, KeptLink, KeptDir, KeptBad}
 use Rattle.tree_changes.specs.Taken.{taken}
-use Rattle.tree_changes.specs.Deeds.{Place, create_file_deeds}
+use Rattle.tree_changes.specs.Deeds.{Place, create_file_deeds, create_dir_deeds}
 use Rattle.live_tree.specs.Held.{HeldNode, HeldTree, node_of}
 use Rattle.name_places.specs.New.{identifier_of}
 use Rattle.name_places.specs.Claims.{claims_in}
@@ -73,10 +73,23 @@ abbrev pub IfDrawn : Option (List ℕ) → (List ℕ → Type 0) → Type 0
 IfDrawn None P = ⊤
 IfDrawn (Some identifier) P = P identifier
 
--- The deeds make a file whose header holds the nonce and the content key that were drawn for it, and nothing else was drawn.
+-- The deeds make a file whose header holds the nonce of 12 bytes and the content key of 32 that were drawn for it, and nothing else was drawn.
 pub record DrawsHeader (keys : KeyPair) (deeds : List PlainDeed) (old new : List ℕ) : Type 0 where
   pub head : Head
+  pub nonce : length head.nonce ≡ 12
+  pub key : length head.key ≡ 32
   pub drew : new ≡ old ++ head.nonce ++ head.key
   pub place : Place
   pub text : List ℕ
   pub are : deeds ≡ create_file_deeds place text (sealed_header keys head)
+
+-- The deeds make a directory whose identifier, which its file keeps and whose folder is made, is that of the 16 bytes that were drawn for it,
+-- and nothing else was drawn.
+pub record DrawsIdentifier (s : Sealing) (deeds : List PlainDeed) (identifier : List ℕ) (old new : List ℕ) : Type 0 where
+  pub bytes : List ℕ
+  pub sixteen : length bytes ≡ 16
+  pub drew : new ≡ old ++ bytes
+  pub is : identifier ≡ identifier_of bytes
+  pub place : Place
+  pub text : List ℕ
+  pub are : deeds ≡ create_dir_deeds place text (s.folder_of identifier) identifier

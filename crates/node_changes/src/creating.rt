@@ -8,7 +8,7 @@ ghost use Rattle.file_chunks.specs.Header.{header_opens};
 ghost use Rattle.tree_model.specs.Names.{clear_name};
 ghost use Rattle.tree_model.specs.Asked.{create, qid};
 ghost use Rattle.tree_model.specs.Step.{says};
-ghost use Rattle.tree_changes.specs.Deeds.{Place as PlainPlace, create_file_deeds as file_deeds_of};
+ghost use Rattle.tree_changes.specs.Deeds.{Place as PlainPlace, create_dir_deeds as dir_deeds_of, create_file_deeds as file_deeds_of};
 ghost use Rattle.tree_model.specs.Rows.{is_dir as is_directory};
 ghost use Rattle.clear_tree.specs.Built.{HasHostFolder, kept_what};
 ghost use Rattle.clear_tree.specs.Kept.{kind_of};
@@ -42,7 +42,7 @@ use vault_path::Text;
 
 impl VaultTree {
     /// Makes a file without content, or a directory, of a name in the directory of a number, at a second since 1970-01-01, and
-    /// gives its qid. For a directory 16 bytes are drawn for its identifier, for a file a nonce and a content key for its header.
+    /// returns its qid. For a directory 16 bytes are drawn for its identifier, for a file a nonce and a content key for its header.
     /// Memory is taken before anything changes. After `Broken` the folder's count of faults rose, and the tree in memory is the
     /// one with the node. It takes O(log n) steps, where n numbers were given so far.
     pub fn create<D: Folder, E: Entropy>(
@@ -77,7 +77,7 @@ impl VaultTree {
         }
     }
 
-    // Makes a node in the tree in memory, and gives the deeds that make it. Where it is refused nothing changed.
+    // Makes a node in the tree in memory, and returns the deeds that make it. Where it is refused nothing changed.
     fn make<R: Reads, E: Entropy>(
         &mut self,
         folder: &mut R,
@@ -130,7 +130,7 @@ impl VaultTree {
         }
     }
 
-    // Makes a file at a site in the tree in memory, and gives the deeds that make it. Where memory runs out nothing changed.
+    // Makes a file at a site in the tree in memory, and returns the deeds that make it. Where memory runs out nothing changed.
     fn make_file(
         &mut self,
         parent: u64,
@@ -182,6 +182,8 @@ impl VaultTree {
         ensures makes { (name : List ℕ) (mode : ℕ) → clear_name name ≡ Ok site.name → IfOk result (λ deeds.
             MakesOn (sealing_of self.old.keys) (create parent name true mode) now (says (qid (new_qid self.old.live true)))
             (Some directory.now.identifier) self.old.live self.new.live self.old.claims self.new.claims (plains deeds.items)) }
+        ensures deeds { IfOk result (λ deeds. (place : PlainPlace) × (text : List ℕ)
+            × (plains deeds.items ≡ dir_deeds_of place text directory.now.folder directory.now.identifier)) }
         ensures batch { IfOk result (λ deeds. IsBatch (plains deeds.items)) }
         ensures repeatable { IfOk result (λ deeds. IsRepeatable (plains deeds.items)) }
         ensures same_live { OnErr result (self.new.live ≡ self.old.live) }

@@ -67,7 +67,7 @@ impl VaultTree {
         }
     }
 
-    // Takes a node out of the tree in memory, and gives the deeds that remove it. Where it is refused nothing changed.
+    // Takes a node out of the tree in memory, and returns the deeds that remove it. Where it is refused nothing changed.
     fn take_out(&mut self, number: u64, now: u32) -> Result<Vec<Deed>, Refusal>
         ensures made { IfOk result (λ deeds.
             LeadsOn (sealing_of self.old.keys) (remove number) now (says done) self.old.live self.new.live self.old.claims self.new.claims (plains deeds.items)) }

@@ -89,7 +89,7 @@ impl VaultTree {
         }
     }
 
-    // Gives a node another name in the tree in memory, and gives the deeds that do so on the disk. Where it is refused nothing
+    // Gives a node another name in the tree in memory, and returns the deeds that do so on the disk. Where it is refused nothing
     // changed.
     fn give_name<R: Reads>(
         &mut self,

@@ -18,12 +18,12 @@ pub struct VaultTree {
     pub(crate) live: LiveTree,
     // Which nodes name which folders.
     pub(crate) claims: Claims,
-    // The most characters of a text that stands at its short place.
+    // The most characters of a text that is at its short place.
     pub(crate) threshold: u32,
 }
 
 impl VaultTree {
-    /// The tree of a vault with these keys. `threshold` is the most characters of a sealed name's text that stands at its short
+    /// The tree of a vault with these keys. `threshold` is the most characters of a sealed name's text that is at its short
     /// place, 1 to 250. Fails only where memory runs out.
     pub fn new(
         alloc: Global,

@@ -13,7 +13,7 @@ ghost use Rattle.store_history.specs.Ends.{ClosingsRecover, FailedOpeningsRecove
 ghost use Rattle.store_history.specs.Turns.{BrokenTurnsAdd, ChangedTurnsAdd, FlushedTurnsAdd, FlushesStand, QuietTurnsAdd, StoppedTurnsAdd, UnflushedTurnsAdd};
 
 /// Each turn adds an entry to whatever history the store stood for: one that changes nothing on the disk, also where a write waits, one whose change is committed,
-/// one whose commit fails, and one of a store that stopped.
+/// one whose commit fails, and one of a store that stopped. It does nothing.
 pub fn turns_add_entries()
     ensures quiet { QuietTurnsAdd }
     ensures changed { ChangedTurnsAdd }
@@ -22,7 +22,7 @@ pub fn turns_add_entries()
 {}
 
 /// What a store stands for, it stands for once what waits is committed, and an entry that is added then is added to that; where the commit
-/// fails an entry is added that says so.
+/// fails an entry is added that says so. It does nothing.
 pub fn flushes_stand()
     ensures stand { FlushesStand }
     ensures add { FlushedTurnsAdd }
@@ -30,14 +30,15 @@ pub fn flushes_stand()
 {}
 
 /// A vault whose journal is opened and whose tree is loaded stands for no entries, from the rows on of what its folder recovers to;
-/// where it isn't opened a stop recovers to what was found.
+/// where it isn't opened a stop recovers to what was found. It does nothing.
 pub fn openings_stand()
     ensures stand { OpeningsStand }
     ensures failed { FailedOpeningsRecover }
 {}
 
 /// A stop at any moment recovers to a prefix of the history that holds all that was synced; of a store none of whose commits failed and in
-/// which nothing waits the disk shows all entries; and where the commit of what waits fails at the end, a stop still recovers to a prefix.
+/// which nothing waits the disk shows all entries; and where the commit of what waits fails at the end, a stop still recovers
+/// to a prefix. It does nothing.
 pub fn stores_recover()
     ensures recover { StoresRecover }
     ensures whole { StoresAreWhole }

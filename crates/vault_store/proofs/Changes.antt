@@ -143,7 +143,7 @@ module _ (keys : KeyPair) (live : HeldTree) (claims : List (List ℕ × ℕ)) (e
   plan_refused sizes refusal own is =
       reply_by refusal own (λ d. own_may s (change number c) second (path_on d) refusal d live claims own (λ contents stands. is contents (sizes d live claims contents stands) second))
 
-  -- want of memory
+  -- lack of memory
   pub memory_refused : IsSome (node_of live number) → Replies refusals.OutOfMemory
   memory_refused there =
       let node = some_is (node_of live number) there in

@@ -52,13 +52,7 @@ use Rattle.vault_store.proofs.Turns.{HasDrawn, IsCome, broken_turn, not_made, re
 
 -- ---- the step
 
--- what refuses a request before the work is the step's answer
-pub early_answer : (rows : Rows) (request : PlainRequest) (second : ℕ) (refusal : Refusal) → early_refusal rows request ≡ Some refusal → (step rows request second).answer ≡ refuses refusal
-unfolding step
-early_answer rows request second refusal is =
-    ap (λ (o : Option Refusal). (option_map_or (λ refusal. stepped rows (refuses refusal)) o (option_map_or (λ row. work rows row request second) (row_of rows (node_of request)) (stepped rows (refuses refusals.Removed)))).answer) is
-
--- where nothing does, the step is the work on the row
+-- where nothing refuses a request before the work, the step is the work on the row
 late_step : (rows : Rows) (request : PlainRequest) (second : ℕ) (row : Row) → row_of rows (node_of request) ≡ Some row → early_refusal rows request ≡ None → step rows request second ≡ work rows row request second
 late_step rows request second row there none =
     step_worked rows request second row there (sym (ap (λ (o : Option Row). option_map_or (λ row. early rows row request) o (Some refusals.Removed)) there) ∙ none)

@@ -19,11 +19,7 @@ use Rattle.clear_tree.specs.Queue.{In}
 use Rattle.directory_scan.specs.Format.{sealing_of}
 use Rattle.row_versions.specs.Versions.{wrapped}
 use Rattle.live_tree.specs.Held.{HeldTree, IsTree, live_row, live_rows, node_of}
-use Rattle.live_tree.specs.Changes.{dated}
 use Rattle.live_tree.proofs.Held.{in_found}
-use Rattle.held_changes.proofs.Writing.{dating_holds}
-use Rattle.held_changes.proofs.Contents.{dating_keeps_contents}
-use Rattle.name_places.proofs.Lowest.{dating_keeps}
 use Rattle.tree_answers.proofs.Members.{IsMapped, find_in, map_in}
 use Rattle.tree_answers.proofs.Rows.{row_there}
 use Rattle.change_plans.specs.Plans.{IsPlanned, IsPlannedIn}
@@ -31,6 +27,7 @@ use Rattle.change_plans.specs.declared.planning.Plan.TheVariants as plans
 use Rattle.node_changes.specs.Changed.{StandsOn, ShowsRows}
 use Rattle.node_changes.specs.Placed.{taken_for}
 use Rattle.store_history.specs.Turns.{Turn, made_of}
+use Rattle.node_changes.proofs.Named.{dating_stands}
 use Rattle.vault_store.specs.Dated.{IsDated}
 use Rattle.vault_store.specs.Open.{running, counted}
 use Rattle.vault_store.specs.Outcome.{HasReply}
@@ -68,15 +65,6 @@ set_same contents live number row good there own =
 
 -- ---- a node's mtime
 
-dated_stands : (s : Sealing) (d : Disk) (live : HeldTree) (claims : List (List ℕ × ℕ)) (contents : ℕ → Content) (number modified : ℕ) → StandsOn s d live claims contents → StandsOn s d (dated live number modified) claims contents
-dated_stands s d live claims contents number modified stands = record {
-  tree = stands.tree;
-  is = stands.is;
-  holds = dating_holds s stands.tree live number modified stands.holds;
-  claimed = dating_keeps s live claims number modified stands.claimed;
-  are = dating_keeps_contents s stands.tree live number modified contents stands.holds stands.are;
-}
-
 dated_shows : (s : Sealing) (d : Disk) (live live' : HeldTree) (claims : List (List ℕ × ℕ)) (contents : ℕ → Content) (number : ℕ) (asked : Option ℕ) (row : Row) → IsDated live live' number asked
     → row_of (live_rows contents live) number ≡ Some row → row.number ≡ number → StandsOn s d live claims contents
     → ShowsRows s (set_row (live_rows contents live) (record row { modified = unwrap_or asked row.modified })) d live' claims
@@ -85,7 +73,7 @@ dated_shows s d live live' claims contents number None row same there own stands
     (record { contents = contents; stands = stands; shows = ap wrapped (sym (set_same contents live number row stands.holds.is_tree there own)) })
 dated_shows s d live live' claims contents number (Some modified) row is there own stands = record {
   contents = contents;
-  stands = subst (λ (l : HeldTree). StandsOn s d l claims contents) (sym is.0) (dated_stands s d live claims contents number modified stands);
+  stands = subst (λ (l : HeldTree). StandsOn s d l claims contents) (sym is.0) (dating_stands s d live claims contents number (Some modified) stands);
   shows = is.1 contents row there;
 }
 

@@ -33,12 +33,13 @@ use Rattle.node_changes.specs.Removal.{IsRemovalRefusal}
 use Rattle.stop_history.specs.Stable.{is_kept}
 use Rattle.store_history.specs.Store.{StoreView, bounded}
 use Rattle.store_history.specs.Turns.{IsFlushed, IsQuietTurn, IsTurn, Turn, made_of}
+use Rattle.node_changes.proofs.Committing.{early_step}
 use Rattle.vault_store.specs.declared.answering.Broken.{Broken}
 use Rattle.vault_store.specs.Open.{running, counted, view_of}
 use Rattle.vault_store.specs.Outcome.{HasNotFlushed, HasReply, IsFormed, IsFrom, IsOutcome}
 use Rattle.vault_store.specs.Quiet.{IsStill}
 use Rattle.tree_answers.specs.Answers.{IsOwn, IsStepOf}
-use Rattle.vault_store.proofs.ContentTurns.{content_refused, early_answer}
+use Rattle.vault_store.proofs.ContentTurns.{content_refused}
 use Rattle.vault_store.proofs.Lookups.{looked_up, plain_read, reading_keeps}
 use Rattle.vault_store.proofs.Replies.{no_bytes, said_unplaced}
 use Rattle.vault_store.proofs.Turns.{IsCome, come_undrawn, draws_made, refused_reply, told_path, told_path_is}
@@ -290,7 +291,7 @@ removal_refused keys live claims entries folder source number second refusal buf
     (come_undrawn keys keys folder folder source (remove number) refl (omega arith)) (record { live = refl; claims = refl; log = refl })
     (cause_rises number (Rose folder.faults folder.faults) (Rose source.faults source.faults) refusal cause)
     (told_always (disk_in folder.log) _ (λ d contents stands path e. absurd (not_placed number refusal path cause e)))
-    (told_always (disk_in folder.log) _ (λ d. removal_may (sealing_of keys) number second None refusal d live claims cause (λ contents stands. early_answer (live_rows contents live) (remove number) second refusal (is contents))))
+    (told_always (disk_in folder.log) _ (λ d. removal_may (sealing_of keys) number second None refusal d live claims cause (λ contents stands. early_step (live_rows contents live) (remove number) second refusal (is contents))))
 
 -- ---- syncs
 
@@ -313,5 +314,5 @@ sync_late live number contents reply is not = by (early_refusal (live_rows conte
     by : (o : Option Refusal) → early_refusal (live_rows contents live) (sync number) ≡ o → IsNone o
     by None none = refl
     by (Some refusal) early =
-        let both : says (plain_reply reply) ≡ refuses refusal = is contents 0 ∙ early_answer (live_rows contents live) (sync number) 0 refusal early in
+        let both : says (plain_reply reply) ≡ refuses refusal = is contents 0 ∙ early_step (live_rows contents live) (sync number) 0 refusal early in
         absurd (refused_is reply not refusal (ap (λ (a : Answer). a.reply) both))

@@ -202,7 +202,7 @@ module _ (keys : KeyPair) (live : HeldTree) (claims : List (List ℕ × ℕ)) (b
   refused_answer : (refusal : Refusal) (buffer : List ℕ) → answer_in request (refused refusal) buffer ≡ refuses refusal
   refused_answer refusal buffer = ap (λ (bytes : List ℕ). record { reply = refused refusal; bytes = bytes }) (no_bytes request refusal buffer)
 
-  -- want of memory for a node that is there
+  -- lack of memory for a node that is there
   pub memory_read : (buffer : List ℕ) → MayLackMemory request → ((contents : ℕ → Content) (second : ℕ) → (step (live_rows contents live) request second).answer ≢ refuses refusals.Removed)
       → IsRead (replies.Refused refusals.OutOfMemory) buffer buffer
   memory_read buffer may other = record {
@@ -216,7 +216,7 @@ module _ (keys : KeyPair) (live : HeldTree) (claims : List (List ℕ × ℕ)) (b
     rest = refl;
   }
 
-  -- a reply, or want of memory for it
+  -- a reply, or lack of memory for it
   pub or_lacks_memory : (made : Result Reply AllocError) (reply : Reply) (buffer buffer' : List ℕ) → reply ≡ result_unwrap_or made (replies.Refused refusals.OutOfMemory) → OnErr made (buffer' ≡ buffer)
       → MayLackMemory request → OnErr made ((contents : ℕ → Content) (second : ℕ) → (step (live_rows contents live) request second).answer ≢ refuses refusals.Removed)
       → IfOk made (λ r. IsRead r buffer buffer') → IsRead reply buffer buffer'

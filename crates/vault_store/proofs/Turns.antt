@@ -23,7 +23,7 @@ use Rattle.node_changes.specs.declared.error.ChangeErr.{ChangeErr}
 use Rattle.node_changes.specs.declared.error.ChangeErr.TheVariants as change_errs
 use Rattle.node_changes.specs.Causes.{ErrCause, IfBroken, IfRefused, IsUnchanged, RefusalCause}
 use Rattle.node_changes.specs.Changed.{StandsOn, ShowsRows, HasChanged, MayHaveChanged, MayRefuse}
-use Rattle.node_changes.specs.Creation.{HasCreated, IsDraw}
+use Rattle.node_changes.specs.Creation.{HasCreated, IsDraw, MayHaveCreated}
 use Rattle.node_changes.specs.Placed.{GoesOn, IfDrawn, IsIdentifierOf, taken_for}
 use Rattle.node_changes.specs.Renaming.{HasRenamed}
 use Rattle.store_history.specs.Store.{StoreView, bounded}
@@ -46,11 +46,6 @@ told_before None None P Q h p = tt
 told_before None (Some y) P Q h p = absurd p
 told_before (Some x) None P Q h p = absurd p
 told_before (Some x) (Some y) P Q h p = h x y p
-
--- of the log that tells a disk
-pub told_log : (a : Option Log) (P : Disk → Type 0) → Told (disk_in a) P → Told a (λ log. P (now log))
-told_log None P p = tt
-told_log (Some x) P p = p
 
 -- the path that a disk tells, or another where none is told
 abbrev pub told_path : Option Disk → (Disk → Option HostPath) → Option HostPath → Option HostPath
@@ -344,6 +339,15 @@ module _ (keys : KeyPair) (request : PlainRequest) (second : ℕ) (answer : Answ
 
   pub changes_created : Changes a b Created → Changes a b (HasChanged (sealing_of keys) request second answer live live' claims claims')
   changes_created is = changed_by a b Created (HasChanged (sealing_of keys) request second answer live live' claims claims') (λ x y made. made.changed) is
+
+  may_have_created : Changes a b (MayHaveCreated keys request second drawn live live' claims claims' drew drew') → Changes a b (MayHaveChanged (sealing_of keys) request second live live' claims claims')
+  may_have_created is =
+      changed_by a b (MayHaveCreated keys request second drawn live live' claims claims' drew drew') (MayHaveChanged (sealing_of keys) request second live live' claims claims') (λ x y may. may.changed) is
+
+  pub broken_created : (error : ChangeErr) → IfBroken error (Changes a b (MayHaveCreated keys request second drawn live live' claims claims' drew drew'))
+      → IfBroken error (Changes a b (MayHaveChanged (sealing_of keys) request second live live' claims claims'))
+  broken_created change_errs.Broken is = may_have_created is
+  broken_created (change_errs.Refused refusal) is = tt
 
   pub untaken_created : Changes a b Created → Told (disk_in a) (λ d. taken_for (sealing_of keys) d live request drawn ≡ None)
   untaken_created is = told_before a b Created (λ d. taken_for (sealing_of keys) d live request drawn ≡ None) (λ x y made. made.untaken) is

@@ -1,7 +1,7 @@
 use Rattle.std.proofs.Common.{arith}
 use Rattle.tree_model.specs.Contents.{resized}
 use Rattle.directory_scan.specs.Format.{sealing_of}
-use Rattle.file_changes.proofs.Telling.{at_rest, told_file, content_changed, content_may_have_changed, content_rewritten, content_refused, content_cause, request_cause}
+use Rattle.file_changes.proofs.Telling.{at_rest, told_file, content_changed, content_may_have_changed, content_may_have_rewritten, content_rewritten, content_refused, content_cause, request_cause}
 use Rattle.file_changes.proofs.room.FileChanges.resize.Goals as goal
 
 pub seal_length-requires-clause-sized : goal.seal_length-requires-clause-sized
@@ -62,6 +62,21 @@ returns-in-Err-commit-clause-broken g c = λ request answer its.
     (λ content. resized content c.args.len) c.args.modified c.args.now request answer its
     c.seal_length.new.self c.in-Ok.ensures.resized c.deeds_rewrite.ensures c.sealed_file-file.ensures.inside c.in-Ok.ensures.puttable c.commit.new.tree.live c.commit.new.tree.claims
     c.in-Err-commit.ensures.live c.in-Err-commit.ensures.claims c.in-Err-commit.ensures.rows (g.D.Reads.log c.seal_length.new.folder) c.in-Ok.ensures.log (g.D.Reads.log c.commit.new.journal) c.in-Err-commit.ensures.any_moment
+
+pub returns-in-Err-commit-clause-nonces_broken : goal.returns-in-Err-commit-clause-nonces_broken
+returns-in-Err-commit-clause-nonces_broken g c = λ request answer its.
+    let keys = c.args.tree.now.keys in
+    let live = c.args.tree.now.live in
+    let claims = c.args.tree.now.claims in
+    let file = c.sealed_file-file.result in
+    let is = c.sealed_file-file.ensures.file _ _ c.requires.file.is in
+    let path_is = c.sealed_file-file.ensures.path in
+    let log = g.D.Reads.log c.args.journal.now in
+    content_may_have_rewritten keys c.keys.result.now c.keys.ensures live claims c.args.number file.size c.requires.file.clear is file.path path_is log (at_rest (sealing_of keys) live claims log c.requires.rest)
+    (λ content. resized content c.args.len) c.args.modified c.args.now request answer its
+    c.seal_length.new.self c.in-Ok.ensures.resized c.deeds_rewrite.ensures c.sealed_file-file.ensures.inside c.in-Ok.ensures.puttable c.commit.new.tree.live c.commit.new.tree.claims
+    c.in-Err-commit.ensures.live c.in-Err-commit.ensures.claims c.in-Err-commit.ensures.rows (g.D.Reads.log c.seal_length.new.folder) c.in-Ok.ensures.log (g.D.Reads.log c.commit.new.journal) c.in-Err-commit.ensures.any_moment
+    (g.E.Entropy.drawn c.args.entropy.now) (g.E.Entropy.drawn c.seal_length.new.entropy) c.in-Ok.ensures.drawn
 
 pub returns-in-Err-clause-refused : goal.returns-in-Err-clause-refused
 returns-in-Err-clause-refused g c = λ request answer its.

@@ -43,9 +43,10 @@ returns-in-Ok-commit-clause-came g c = λ mode.
       drawn = ready.drawn;
       draw = ready.draw;
       changed = has_created old.keys (create c.args.parent c.args.name.now c.args.is_dir mode) c.args.now old.live new.live old.claims new.claims ready.drawn (says (qid (new_qid c.args.self.now.live c.args.is_dir))) (plains c.deref.result.now) ready.makes
-          drew drew' ready.header (g.D.Reads.log c.args.journal.now) (g.D.Reads.log c.commit.new.self) c.requires.rest ready.untaken any committed;
+          drew drew' ready.made_of (g.D.Reads.log c.args.journal.now) (g.D.Reads.log c.commit.new.self) c.requires.rest ready.untaken any committed;
       broken = tt;
       refused = tt;
+      found = tt;
     })
 
 pub returns-in-Ok-clause-came : goal.returns-in-Ok-clause-came
@@ -62,8 +63,9 @@ returns-in-Ok-clause-came g c = λ mode.
       draw = ready.draw;
       changed = tt;
       broken = may_have_created old.keys (create c.args.parent c.args.name.now c.args.is_dir mode) c.args.now old.live new.live old.claims new.claims ready.drawn (says (qid (new_qid c.args.self.now.live c.args.is_dir))) (plains c.deref.result.now) ready.makes
-          refl (g.D.Reads.log c.args.journal.now) (g.D.Reads.log c.commit.new.self) c.requires.rest ready.untaken any;
+          refl (g.E.Entropy.drawn c.args.entropy.now) (g.E.Entropy.drawn c.make.new.entropy) ready.made_of (g.D.Reads.log c.args.journal.now) (g.D.Reads.log c.commit.new.self) c.requires.rest ready.untaken any;
       refused = tt;
+      found = tt;
     }
 
 pub returns-clause-came : goal.returns-clause-came
@@ -78,4 +80,5 @@ returns-clause-came g c = λ mode.
       changed = tt;
       broken = tt;
       refused = told_refused old.keys (create c.args.parent c.args.name.now c.args.is_dir mode) c.args.now old.live new.live old.claims new.claims it.drawn c.in-Err.refusal (g.D.Reads.log c.args.journal.now) c.requires.rest it.refused;
+      found = it.found;
     }

@@ -13,7 +13,7 @@ use Rattle.name_places.specs.Asked.{IsTaken}
 use Rattle.name_places.specs.Asked.{identifier_in as drawn_in}
 use Rattle.node_changes.specs.Placed.{GoesOn, IsIdentifierOf}
 use Rattle.node_changes.specs.Creating.{DrawsHead, DrawsIf, IsPlaceRefusal, IsRefusal, IsUntaken, MakesOn, new_qid}
-use Rattle.node_changes.proofs.Draws.{no_draw, file_draw, drew_directory, own_folder, header_drawn, head_changes, header_partly, cause_more, site_refused, random_refused, memory_refused, place_refused, untaken}
+use Rattle.node_changes.proofs.Draws.{no_draw, file_draw, drew_directory, found_taken, never_taken, own_folder, directory_drawn, header_drawn, head_changes, header_partly, cause_more, site_refused, random_refused, memory_refused, place_refused, untaken}
 use Rattle.node_changes.proofs.tree.VaultTree.make.Goals as goal
 
 pub returns-in_err-site-clause-refused : goal.returns-in_err-site-clause-refused
@@ -28,6 +28,7 @@ returns-in_err-site-clause-refused g c = λ mode.
       draw = no_draw c.args.is_dir drew drew refl;
       refused = told_always (disk_in (g.R.Reads.log c.args.folder.now)) (IsRefusal s asked c.args.now None c.in_err-site.field-0.0 old.live old.claims)
           (site_refused s old.live old.claims c.args.parent c.args.name.now c.args.is_dir mode c.args.now None c.in_err-site.field-0.0 c.in_err-site.ensures.refusal (c.in_err-site.ensures.cause c.args.is_dir mode));
+      found = λ path is file. refl;
     })
 
 pub returns-in_err-site-clause-cause : goal.returns-in_err-site-clause-cause
@@ -48,6 +49,7 @@ returns-in_default-clause-refused g c = λ mode.
       draw = no_draw c.args.is_dir drew drew' c.in_default.ensures.unspent;
       refused = told_always (disk_in (g.R.Reads.log c.args.folder.now)) (IsRefusal s asked c.args.now None refusals.RandomFault old.live old.claims)
           (random_refused old.keys c.entries_are_parts.ensures old.live old.claims c.args.parent c.in_ok-site.site c.in_ok-site.ensures.site c.len-count.ensures.tree c.args.name.now c.in_ok-site.ensures.name c.args.is_dir mode c.args.now None);
+      found = λ path is file. c.in_default.ensures.unspent;
     }
 
 pub returns-in_err-check_places-clause-refused : goal.returns-in_err-check_places-clause-refused
@@ -67,6 +69,7 @@ returns-in_err-check_places-clause-refused g c = λ mode.
           disk directory (own_folder old.keys c.args.is_dir directory drew drew' draws) failed c.in_err-check_places.field-0.0
           (subst (λ (o : Option NewDirectory). IsPlaceRefusal c.in_ok-site.site o c.args.self.now.live c.args.self.now.claims (disk_in (g.R.Reads.log c.args.folder.now)) (Rose (g.R.Reads.faults c.args.folder.now) (g.R.Reads.faults c.check_places.new.folder)) c.in_err-check_places.field-0.0)
           c.as_ref.ensures.value c.in_err-check_places.ensures.refusal);
+      found = found_taken old.keys c.args.is_dir directory drew drew' c.in_err-check_places.field-0.0 draws;
     })
 
 pub returns-in_default-draw_header-clause-refused : goal.returns-in_default-draw_header-clause-refused
@@ -83,6 +86,7 @@ returns-in_default-draw_header-clause-refused g c = λ mode.
       draw = file_draw c.args.is_dir drew drew' none.0 (header_partly drew mid drew' none.1 c.in_default-draw_header.ensures.partly);
       refused = told_always (disk_in (g.R.Reads.log c.args.folder.now)) (IsRefusal s asked c.args.now None refusals.RandomFault old.live old.claims)
           (random_refused old.keys c.entries_are_parts.ensures old.live old.claims c.args.parent c.in_ok-site.site c.in_ok-site.ensures.site c.len-count.ensures.tree c.args.name.now c.in_ok-site.ensures.name c.args.is_dir mode c.args.now None);
+      found = never_taken c.args.is_dir drew drew' refusals.RandomFault (λ path is. absurd cc);
     }
 
 pub returns-in-Ok-make_directory-clause-ready : goal.returns-in-Ok-make_directory-clause-ready
@@ -95,6 +99,7 @@ returns-in-Ok-make_directory-clause-ready g c = λ mode.
     let directory = c.in-Ok.directory in
     let draws = c.in-Ok.ensures.drawn in
     let some = subst (λ (o : Option NewDirectory). DrawsIf c.args.self.now.keys c.args.is_dir o (g.E.Entropy.drawn c.args.entropy.now) (g.E.Entropy.drawn c.draw_directory.new.entropy)) c.in-Some.is c.in-Ok.ensures.drawn in
+    let made = c.in-Ok-make_directory.ensures.deeds in
     record {
       drawn = Some c.in-Some.directory.identifier;
       draw = record {
@@ -110,7 +115,10 @@ returns-in-Ok-make_directory-clause-ready g c = λ mode.
           (untaken old.keys c.entries_are_parts.ensures old.live old.claims c.args.parent c.in_ok-site.site c.in_ok-site.ensures.site c.len-count.ensures.tree c.args.name.now c.in_ok-site.ensures.name c.args.is_dir mode c.args.now
           disk directory (own_folder old.keys c.args.is_dir directory drew drew' draws)
           (subst (λ (o : Option NewDirectory). Told (disk_in (g.R.Reads.log c.args.folder.now)) (IsTaken c.in_ok-site.site.folder c.in_ok-site.site.place o c.args.self.now.live c.args.self.now.claims None)) c.as_ref.ensures.value c.in_ok-check_places.ensures.untaken));
-      header = λ e. absurd cc;
+      made_of = record {
+        directory = directory_drawn old.keys drew drew' c.in-Some.directory some.1 made.0 made.1 (plains c.in-Ok-make_directory.deeds.items) made.2;
+        file = λ e. absurd cc;
+      };
     }
 
 pub returns-in-Err-clause-refused : goal.returns-in-Err-clause-refused
@@ -126,6 +134,7 @@ returns-in-Err-clause-refused g c = λ mode.
       draw = drew_directory old.keys c.args.is_dir directory drew drew' c.in-Ok.ensures.drawn;
       refused = told_always (disk_in (g.R.Reads.log c.args.folder.now)) (IsRefusal s asked c.args.now (drawn_in directory) refusals.OutOfMemory old.live old.claims)
           (memory_refused old.keys c.entries_are_parts.ensures old.live old.claims c.args.parent c.in_ok-site.site c.in_ok-site.ensures.site c.len-count.ensures.tree c.args.name.now c.in_ok-site.ensures.name c.args.is_dir mode c.args.now (drawn_in directory));
+      found = never_taken c.args.is_dir drew drew' refusals.OutOfMemory (λ path is. absurd cc);
     }
 
 pub returns-in-Ok-make_file-clause-ready : goal.returns-in-Ok-make_file-clause-ready
@@ -150,7 +159,10 @@ returns-in-Ok-make_file-clause-ready g c = λ mode.
           (untaken old.keys c.entries_are_parts.ensures old.live old.claims c.args.parent c.in_ok-site.site c.in_ok-site.ensures.site c.len-count.ensures.tree c.args.name.now c.in_ok-site.ensures.name c.args.is_dir mode c.args.now
           disk directory (own_folder old.keys c.args.is_dir directory drew mid draws)
           (subst (λ (o : Option NewDirectory). Told (disk_in (g.R.Reads.log c.args.folder.now)) (IsTaken c.in_ok-site.site.folder c.in_ok-site.site.place o c.args.self.now.live c.args.self.now.claims None)) c.as_ref.ensures.value c.in_ok-check_places.ensures.untaken));
-      header = λ e. header_drawn old.keys drew drew' c.in-Ok-draw_header.header head made.0 made.1 (plains c.in-Ok-make_file.deeds.items) made.2;
+      made_of = record {
+        directory = tt;
+        file = λ e. header_drawn old.keys drew drew' c.in-Ok-draw_header.header head made.0 made.1 (plains c.in-Ok-make_file.deeds.items) made.2;
+      };
     }
 
 pub returns-in-Err-make_file-clause-refused : goal.returns-in-Err-make_file-clause-refused
@@ -167,4 +179,5 @@ returns-in-Err-make_file-clause-refused g c = λ mode.
       draw = file_draw c.args.is_dir drew drew' none.0 (header_partly drew mid drew' none.1 (head_changes old.keys mid drew' c.in-Ok-draw_header.header c.in-Ok-draw_header.ensures.drawn));
       refused = told_always (disk_in (g.R.Reads.log c.args.folder.now)) (IsRefusal s asked c.args.now None refusals.OutOfMemory old.live old.claims)
           (memory_refused old.keys c.entries_are_parts.ensures old.live old.claims c.args.parent c.in_ok-site.site c.in_ok-site.ensures.site c.len-count.ensures.tree c.args.name.now c.in_ok-site.ensures.name c.args.is_dir mode c.args.now None);
+      found = never_taken c.args.is_dir drew drew' refusals.OutOfMemory (λ path is. absurd cc);
     }

@@ -22,6 +22,9 @@ returns-clause-makes c = λ name mode clear.
     c.in_default.ensures.rows
     (rw (c.add.ensures.claims, ← c.next.ensures) c.in_ok-is_new.ensures.claims)
 
+pub returns-clause-deeds : goal.returns-clause-deeds
+returns-clause-deeds c = (place_by c.args.site.folder c.as_bytes.result.now c.args.site.place.long, c.as_bytes-2.result.now, c.in_ok-deeds.ensures.deeds)
+
 pub returns-in-Err-clause-same_claims : goal.returns-in-Err-clause-same_claims
 returns-in-Err-clause-same_claims c =
     elim c.if-is_new.branch [

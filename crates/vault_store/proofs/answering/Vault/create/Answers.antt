@@ -5,8 +5,9 @@ use Rattle.directory_scan.specs.Format.{sealing_of}
 use Rattle.tree_model.specs.Asked.{create}
 use Rattle.live_tree.specs.Held.{HeldTree, live_rows}
 use Rattle.change_plans.specs.Plans.{IsCreationRefusal}
+use Rattle.node_changes.proofs.Committing.{early_step}
 use Rattle.vault_store.specs.Open.{view_of}
-use Rattle.vault_store.proofs.ContentTurns.{early_answer, own_reply}
+use Rattle.vault_store.proofs.ContentTurns.{own_reply}
 use Rattle.vault_store.proofs.Flushes.{flush_failed}
 use Rattle.vault_store.proofs.Rests.{rest_waits, rests}
 use Rattle.vault_store.proofs.Turns.{come_undrawn}
@@ -24,7 +25,7 @@ returns-in-Some-clause-outcome g c = λ entries mode buffer.
     refused_outcome store store folder folder source source request c.args.now (rest_waits (sealing_of tree.keys) tree.live tree.claims back.waiting folder.log c.requires.rest) c.in-Some.refusal buffer
     (own_reply tree.keys tree.keys tree.live tree.live tree.claims tree.claims entries (over back.waiting folder) (over back.waiting folder) source source request c.args.now
     (come_undrawn tree.keys tree.keys (over back.waiting folder) (over back.waiting folder) source request refl (omega arith)) c.in-Some.refusal buffer (record { live = refl; claims = refl; log = refl }) c.in-Some.ensures.own
-    (λ d contents stands. early_answer (live_rows contents tree.live) request c.args.now c.in-Some.refusal
+    (λ d contents stands. early_step (live_rows contents tree.live) request c.args.now c.in-Some.refusal
     (subst (λ (l : HeldTree). IsCreationRefusal l c.args.parent c.args.name.now (Some c.in-Some.refusal)) c.live.ensures c.in-Some.ensures.refusal contents c.args.is_dir mode)))
 
 pub returns-clause-outcome : goal.returns-clause-outcome

@@ -1,11 +1,11 @@
 use Rattle.std.proofs.Common.{refl, [], None, Ok, subst}
 use Rattle.outside.specs.Views.{entropy_view, folder_view}
 use Rattle.tree_model.specs.declared.reply.Reply.TheVariants as replies
-use Rattle.tree_model.specs.Asked.{create, qid}
+use Rattle.tree_model.specs.Asked.{create, done, qid}
 use Rattle.tree_model.specs.Step.{says}
 use Rattle.vault_store.specs.Open.{view_of}
 use Rattle.vault_store.specs.Outcome.{IsWork}
-use Rattle.vault_store.proofs.Turns.{changed_reply, change_err, draws, always_placed, changes_created, untaken_created}
+use Rattle.vault_store.proofs.Turns.{changed_reply, change_err, draws, always_placed, broken_created, changes_created, untaken_created}
 use Rattle.vault_store.proofs.answering.Vault.create_idle.Goals as goal
 
 pub returns-in-Ok-clause-outcome : goal.returns-in-Ok-clause-outcome
@@ -38,4 +38,6 @@ returns-in-Err-clause-outcome g c = λ entries mode buffer.
     (record { keys_are = c.in-Err.ensures.keys; folder = c.in-Err.ensures.later; entropy = c.in-Err.ensures.entropy; may_draw = came.draw.directory; drawn_is = draws c.args.is_dir came.drawn source.drawn source'.drawn came.draw; unspent = came.draw.unspent })
     c.in-Err.ensures.unchanged (c.in-Err.ensures.cause mode)
     (always_placed c.args.self.now.tree.keys c.create.new.self.keys c.args.self.now.tree.live c.create.new.self.live c.args.self.now.tree.claims c.create.new.self.claims entries before after source source' request c.args.now
-    came.drawn (λ rows. refl)) came.refused tt came.broken)
+    came.drawn (λ rows. refl)) came.refused tt
+    (broken_created c.args.self.now.tree.keys request c.args.now (says done) came.drawn c.args.self.now.tree.live c.create.new.self.live c.args.self.now.tree.claims c.create.new.self.claims source.drawn source'.drawn before.log after.log
+    c.in-Err.error came.broken))

@@ -6,8 +6,9 @@ use Rattle.tree_model.specs.Asked.{open_node, qid}
 use Rattle.tree_model.specs.Step.{says}
 use Rattle.live_tree.specs.Held.{HeldTree, live_rows}
 use Rattle.change_plans.specs.Files.{IsResizable}
+use Rattle.node_changes.proofs.Committing.{early_step}
 use Rattle.vault_store.specs.Open.{view_of}
-use Rattle.vault_store.proofs.ContentTurns.{come_drawing, early_answer, open_early, own_reply, truncation_here}
+use Rattle.vault_store.proofs.ContentTurns.{come_drawing, open_early, own_reply, truncation_here}
 use Rattle.vault_store.proofs.Flushes.{put_err, written}
 use Rattle.vault_store.proofs.Rests.{rest_waits}
 use Rattle.vault_store.proofs.Turns.{come_undrawn}
@@ -25,7 +26,7 @@ returns-in-Some-clause-outcome g c = λ entries buffer.
     refused_outcome store store folder folder source source request c.args.now (rest_waits (sealing_of tree.keys) tree.live tree.claims back.waiting folder.log c.requires.rest) c.in-Some.refusal buffer
     (own_reply tree.keys tree.keys tree.live tree.live tree.claims tree.claims entries (over back.waiting folder) (over back.waiting folder) source source request c.args.now
     (come_undrawn tree.keys tree.keys (over back.waiting folder) (over back.waiting folder) source request refl (omega arith)) c.in-Some.refusal buffer (record { live = refl; claims = refl; log = refl }) c.in-Some.ensures.own
-    (λ d contents stands. early_answer (live_rows contents tree.live) request c.args.now c.in-Some.refusal
+    (λ d contents stands. early_step (live_rows contents tree.live) request c.args.now c.in-Some.refusal
     (open_early tree.keys c.keys.result.now tree.live c.live.result.now tree.claims c.args.number c.args.mode (Some c.in-Some.refusal) c.keys.ensures c.live.ensures c.have_sizes.ensures c.in-Some.ensures.refusal d contents stands)))
 
 pub returns-in-Ok-clause-outcome : goal.returns-in-Ok-clause-outcome

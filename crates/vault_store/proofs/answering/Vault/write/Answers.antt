@@ -4,8 +4,9 @@ use Rattle.directory_scan.specs.Format.{sealing_of}
 use Rattle.tree_model.specs.declared.reply.Reply.TheVariants as replies
 use Rattle.tree_model.specs.Asked.{write}
 use Rattle.live_tree.specs.Held.{live_rows}
+use Rattle.node_changes.proofs.Committing.{early_step}
 use Rattle.vault_store.specs.Open.{view_of}
-use Rattle.vault_store.proofs.ContentTurns.{come_drawing, early_answer, empty_write, own_reply, still_reply, write_early}
+use Rattle.vault_store.proofs.ContentTurns.{come_drawing, empty_write, own_reply, still_reply, write_early}
 use Rattle.vault_store.proofs.Flushes.{put_err, written}
 use Rattle.vault_store.proofs.Rests.{rest_waits}
 use Rattle.vault_store.proofs.Turns.{come_undrawn}
@@ -23,7 +24,7 @@ returns-in-Some-clause-outcome g c = λ entries buffer.
     refused_outcome store store folder folder source source request c.args.now (rest_waits (sealing_of tree.keys) tree.live tree.claims back.waiting folder.log c.requires.rest) c.in-Some.refusal buffer
     (own_reply tree.keys tree.keys tree.live tree.live tree.claims tree.claims entries (over back.waiting folder) (over back.waiting folder) source source request c.args.now
     (come_undrawn tree.keys tree.keys (over back.waiting folder) (over back.waiting folder) source request refl (omega arith)) c.in-Some.refusal buffer (record { live = refl; claims = refl; log = refl }) c.in-Some.ensures.own
-    (λ d contents stands. early_answer (live_rows contents tree.live) request c.args.now c.in-Some.refusal
+    (λ d contents stands. early_step (live_rows contents tree.live) request c.args.now c.in-Some.refusal
     (write_early tree.keys c.keys.result.now tree.live c.live.result.now tree.claims c.args.number c.args.at _ (Some c.in-Some.refusal) c.keys.ensures c.live.ensures c.have_sizes.ensures c.in-Some.ensures.refusal c.args.bytes.now refl d contents stands)))
 
 pub returns-then-is_empty-clause-outcome : goal.returns-then-is_empty-clause-outcome
