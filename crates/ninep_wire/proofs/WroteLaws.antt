@@ -1,7 +1,7 @@
 -- One write after another, and a write before what was written.
 use Rattle.std.proofs.Common.{◌≡◌, ℕ, ◌+◌, ◌<◌, ◌≤◌, List, [], ◌∷◌, ◌++◌, length, get_or, take, drop, sym, ap, subst, ◌∙◌, append_assoc, arith}
 use Rattle.std.specs.List.{flat_map, AllByRecursion}
-use Rattle.std.proofs.lemmas.List.{take_at, drop_at, take-append-drop, length-append, length-take, length-drop, drop-drop, append-nil, take_more}
+use Rattle.std.proofs.lemmas.List.{take_at, take-append-drop, length-append, length-take, length-drop, drop-drop, append-nil, take_more}
 use Rattle.std.proofs.lemmas.List.Concat.{flat_map-cons, flat_map-append}
 use Rattle.std.proofs.lemmas.Slice.{drop-append-drop}
 use Rattle.tree_model.specs.declared.stat.Qid.{Qid}
@@ -33,13 +33,6 @@ Wrote-then {a} {b} {c} {i} {j} {k} {s} {t} p q =
       is = q.is ∙ ap (λ (w : List ℕ). (w ++ t) ++ drop k b) front ∙ ap (λ (w : List ℕ). ((take i a ++ s) ++ t) ++ w) back ∙ ap (λ (w : List ℕ). w ++ drop k a) (append_assoc (take i a) s t);
     }
 
-pub Wrote-none : (a : List ℕ) (i : ℕ) → i ≤ length a → Wrote a a i i []
-Wrote-none a i h = record {
-  end = omega arith;
-  fits = h;
-  is = sym (ap (λ (w : List ℕ). w ++ drop i a) (append-nil (take i a)) ∙ take-append-drop i a);
-}
-
 -- bytes that stay
 pub Wrote-stays : (a : List ℕ) (i j n : ℕ) → j ≡ i + n → j ≤ length a → Wrote a a i j (take n (drop i a))
 Wrote-stays a i j n e h =
@@ -58,21 +51,6 @@ Wrote-and_stays {a} {b} {i} {j} {s} p k m n e f h =
     let stays : Wrote b b j k (take n (drop j b)) = Wrote-stays b j k n f (omega (arith, h, same_length p)) in
     let after : drop j b ≡ drop m a = same_after p j (omega arith) ∙ ap (λ (x : ℕ). drop x a) (sym e) in
     subst (λ (w : List ℕ). Wrote a b i k (s ++ take n w)) after (Wrote-then p stays)
-
--- a head that is written before a text that was written
-pub Wrote-before : {a b c : List ℕ} {i k : ℕ} {head text : List ℕ} → Wrote a b i k text → Wrote b c 0 i head → Wrote a c 0 k (head ++ text)
-Wrote-before {a} {b} {c} {i} {k} {head} {text} p q =
-    let len : length (take i a) ≡ i = omega (arith, length-take i a, p.end, p.fits) in
-    let back : drop i b ≡ text ++ drop k a = ap (drop i) (p.is ∙ append_assoc (take i a) text (drop k a)) ∙ drop_at (take i a) (text ++ drop k a) i len in
-    record {
-      end = omega (arith, p.end, q.end, length-append head text);
-      fits = p.fits;
-      is = q.is ∙ ap (λ (w : List ℕ). head ++ w) back ∙ sym (append_assoc head text (drop k a));
-    }
-
--- what is written from the front on
-pub at_front : {a b : List ℕ} {k : ℕ} {text : List ℕ} → Wrote a b 0 k text → (k ≡ length text) × (b ≡ text ++ drop (length text) a)
-at_front {a} {b} {k} {text} p = let e : k ≡ length text = omega (arith, p.end) in (e, p.is ∙ ap (λ (n : ℕ). text ++ drop n a) e)
 
 -- one more qid
 pub Wrote-more : {a b c : List ℕ} {i j k : ℕ} (qids : List Qid) (n : ℕ) (d : Qid) → n < length qids → Wrote a b i j (flat_map qid (take n qids)) → Wrote b c j k (qid (get_or qids n d))

@@ -1,14 +1,15 @@
 -- What an R-message and a stat need to be written, and what a write leaves.
 use Rattle.std.specs.Prelude.{◌≡◌, ℕ, ◌+◌, ◌*◌, ◌<◌, ◌≤◌, ◌^◌, List, ◌++◌, length, take, drop, ⊤}
 use Rattle.tree_model.specs.declared.stat.Stat.{Stat}
+use Rattle.tree_model.specs.Names.{walk_limit}
 use Rattle.ninep_wire.specs.declared.r_message.RMessage.{RMessage}
 use Rattle.ninep_wire.specs.declared.r_message.RMessage.TheVariants as messages
 
--- an R-message that has a spelling: a text below 2^16 bytes, at most 16 qids, a size below 2^32
+-- an R-message that has a spelling: a text below 2^16 bytes, at most walk_limit qids, a size below 2^32
 abbrev pub HasForm : RMessage → Type 0
 HasForm (messages.Version msize text) = length text.now < 2 ^ 16
 HasForm (messages.Error text) = length text.now < 2 ^ 16
-HasForm (messages.Walk count qids) = (count ≤ 16) × (count ≤ length qids.now)
+HasForm (messages.Walk count qids) = (count ≤ walk_limit) × (count ≤ length qids.now)
 HasForm (messages.Read count) = count + 11 < 2 ^ 32
 HasForm message = ⊤
 

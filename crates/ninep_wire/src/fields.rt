@@ -1,4 +1,4 @@
-//! Readers of fields: each gives a value and the bytes after it.
+//! Readers of fields: each returns a value and the bytes after it.
 
 ghost use Rattle.std.specs.Prelude.{◌≡◌, length, IfOk};
 ghost use Rattle.tree_model.specs.Names.{names_in, AreNames, IsWalk};

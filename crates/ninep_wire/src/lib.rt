@@ -9,6 +9,8 @@
 //!     link.write(&out[..size])?;
 //! }
 //! ```
+//!
+//! Laws: `t_spellings_are_apart`, `r_spellings_are_apart` and `stats_are_apart`, which do nothing.
 #![tactic(auto)]
 
 mod change;

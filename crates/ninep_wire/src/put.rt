@@ -1,4 +1,4 @@
-//! Writers of fields: each writes from a place on, and gives the place after what it wrote.
+//! Writers of fields: each writes from an offset on, and returns the offset after what it wrote.
 
 ghost use Rattle.std.specs.Prelude.{◌≡◌, ◌+◌, ◌*◌, ◌<◌, ◌≤◌, ◌^◌, length};
 ghost use Rattle.std.specs.List.{flat_map, AllByRecursion};

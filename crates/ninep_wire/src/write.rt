@@ -2,6 +2,7 @@
 
 ghost use Rattle.std.specs.Prelude.{◌≡◌, ℕ, ◌+◌, ◌*◌, ◌<◌, ◌≤◌, ◌^◌, List, ◌++◌, length, take, drop};
 ghost use Rattle.std.specs.List.{flat_map, AllByRecursion};
+ghost use Rattle.tree_model.specs.Names.{walk_limit};
 ghost use Rattle.tree_model.specs.Wire.{number, string, IsString, qid, IsQid, plain_stat, stat_fields, spelled_stat};
 ghost use Rattle.ninep_wire.specs.RMessage.{r_kind, r_fields, spelled_r, HasRFields, IsRMessage};
 ghost use Rattle.ninep_wire.specs.Stat.{IsStat};
@@ -47,7 +48,7 @@ fn put_version(out: &mut [u8], msize: u32, version: &str) -> usize
 }
 
 fn put_walk(out: &mut [u8], qids: &[Qid]) -> usize
-    requires count { length qids.now ≤ 16 }
+    requires count { length qids.now ≤ walk_limit }
     requires room { 9 + 13 * length qids.now ≤ length out.old }
     ensures bytes { Wrote out.old out.new HEADER result (number 2 (length qids.now) ++ flat_map qid qids.now) }
     ensures count { result ≡ 9 + 13 * length qids.now }
@@ -115,7 +116,7 @@ fn put_fields(reply: &RMessage<'_>, out: &mut [u8]) -> usize
 }
 
 fn put_header(out: &mut [u8], size: u32, kind: u8, tag: u16) -> usize
-    requires { 7 ≤ length out.old }
+    requires { HEADER ≤ length out.old }
     ensures { Wrote out.old out.new 0 result (number 4 size ++ number 1 kind ++ number 2 tag) }
 {
     let at = put_u32(out, 0, size);
@@ -123,7 +124,7 @@ fn put_header(out: &mut [u8], size: u32, kind: u8, tag: u16) -> usize
     put_u16(out, at, tag)
 }
 
-/// Writes an R-message with its tag at the front of `out`, and gives how many bytes it has. No memory is taken.
+/// Writes an R-message with its tag at the front of `out`, and returns how many bytes it has. No memory is taken.
 pub fn write_reply(reply: &RMessage<'_>, tag: u16, out: &mut [u8]) -> usize
     requires form { HasForm reply.now }
     requires room { r_size reply.now ≤ length out.old }
@@ -139,8 +140,13 @@ pub fn write_reply(reply: &RMessage<'_>, tag: u16, out: &mut [u8]) -> usize
 /// The fields of a stat before its names.
 fn put_numbers(stat: &Stat<'_>, out: &mut [u8], at: usize) -> usize
     requires { at + 39 ≤ length out.old }
-    ensures formed { (stat.now.kind < 2 ^ 16) × (stat.now.device < 2 ^ 32) × IsQid stat.now.qid × (stat.now.mode < 2 ^ 32) × (stat.now.accessed < 2 ^ 32)
-        × (stat.now.modified < 2 ^ 32) × (stat.now.length < 2 ^ 64) }
+    ensures kind { stat.now.kind < 2 ^ 16 }
+    ensures device { stat.now.device < 2 ^ 32 }
+    ensures qid { IsQid stat.now.qid }
+    ensures mode { stat.now.mode < 2 ^ 32 }
+    ensures accessed { stat.now.accessed < 2 ^ 32 }
+    ensures modified { stat.now.modified < 2 ^ 32 }
+    ensures long { stat.now.length < 2 ^ 64 }
     ensures bytes { Wrote out.old out.new at result (number 2 stat.now.kind ++ number 4 stat.now.device ++ qid stat.now.qid ++ number 4 stat.now.mode ++ number 4 stat.now.accessed ++ number 4 stat.now.modified ++ number 8 stat.now.length) }
 {
     let at = put_u16(out, at, stat.kind);
@@ -167,7 +173,7 @@ fn put_stat_fields(stat: &Stat<'_>, out: &mut [u8]) -> usize
     put_string(out, at, stat.modifier)
 }
 
-/// Writes a stat at the front of `out`, and gives how many bytes it has. No memory is taken.
+/// Writes a stat at the front of `out`, and returns how many bytes it has. No memory is taken.
 pub fn write_stat(stat: &Stat<'_>, out: &mut [u8]) -> usize
     requires fits { stat_size stat.now < 2 ^ 16 }
     requires room { stat_size stat.now + 2 ≤ length out.old }

@@ -1,6 +1,7 @@
 //! A tree for tests: a root with one file `a`, which holds `hello`.
 
-ghost use Rattle.std.specs.Prelude.{◌≡◌, ◌≤◌, length, take, drop, IfOk, OnErr};
+ghost use Rattle.std.specs.Prelude.{◌≡◌, ◌≤◌, length, take, IfOk, OnErr};
+ghost use Rattle.outside.specs.Calls.{KeepsFrom};
 ghost use Rattle.tree_model.specs.Asked.{AreStats};
 
 use ninep_wire::write_stat;
@@ -41,7 +42,7 @@ const STAT_LEN: u32 = 65;
 fn put_stats(after: Option<&str>, count: u32, buffer: &mut [u8]) -> Result<u32, Refusal>
     requires { count ≤ length buffer.old }
     ensures stats { IfOk result (λ n. AreStats count (take n buffer.new) × (length (take n buffer.new) ≡ n)) }
-    ensures rest { IfOk result (λ n. drop n buffer.new ≡ drop n buffer.old) }
+    ensures rest { IfOk result (λ n. KeepsFrom n buffer.old buffer.new) }
     ensures refused { OnErr result (buffer.new ≡ buffer.old) }
 {
     if after.is_some() {

@@ -1,7 +1,6 @@
 -- The ways in which a message is answered.
-use Rattle.std.proofs.Common.{◌≡◌, ℕ, ◌-◌, ◌≤◌, List, [], ◌++◌, length, take, drop, Some, None, Result, Ok, refl, sym, ap, subst, ◌∙◌, arith}
-use Rattle.std.proofs.lemmas.List.{append-nil, drop_at, drop_all, take_at, length-take, length-drop, length-append}
-use borrow.Rule.Slice.PartMut.{put_mid, post_of}
+use Rattle.std.proofs.Common.{◌≡◌, ℕ, ◌≤◌, List, [], ◌++◌, length, take, drop, Some, None, Result, Ok, refl, sym, ap, subst, ◌∙◌, arith}
+use Rattle.std.proofs.lemmas.List.{take_at, length-take, length-drop, length-append}
 use Rattle.tree_model.specs.Asked.{PlainRequest, Asked}
 use Rattle.ninep_wire.specs.declared.fault.WireErr.{WireErr}
 use Rattle.ninep_wire.specs.TMessage.{PlainMessage}
@@ -40,13 +39,6 @@ asked_for s next frame m second out tag answer request entry read acts asked at 
 -- the first so many bytes are no more than that
 pub within : (n most : ℕ) (out : List ℕ) → n ≤ most → length (take n out) ≤ most
 within n most out le = omega (arith, length-take n out)
-
--- the end of a list from an offset on, after it was written
-pub put_end : (a : ℕ) (xs ys : List ℕ) → a ≤ length xs → drop a (put_mid a (length xs - a) xs ys) ≡ ys
-put_end a xs ys le =
-    let none : post_of a (length xs - a) xs ≡ [] = drop_all (length xs - a) (drop a xs) (omega (arith, length-drop a xs)) in
-    let front : length (take a xs) ≡ a = omega (arith, length-take a xs) in
-    drop_at (take a xs) (ys ++ post_of a (length xs - a) xs) a front ∙ ap (λ (w : List ℕ). ys ++ w) none ∙ append-nil ys
 
 -- what was written in front of a rest of this length
 pub written : (text old new : List ℕ) (n : ℕ) → new ≡ text ++ drop n old → length new ≡ length old → n ≤ length old → take n new ≡ text

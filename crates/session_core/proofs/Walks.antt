@@ -1,7 +1,7 @@
 -- The change that a walk makes.
-use Rattle.std.proofs.Common.{◌≡◌, ℕ, zero, suc, ◌-◌, ◌<◌, ◌≤◌, eqb, true, false, List, [], ◌∷◌, length, take, drop, get_or, Option, Some, None, refl, sym, ap, ◌∙◌, arith}
+use Rattle.std.proofs.Common.{◌≡◌, ℕ, zero, suc, ◌-◌, ◌<◌, ◌≤◌, eqb, true, List, [], ◌∷◌, length, take, drop, get_or, Option, Some, None, refl, sym, ap, ◌∙◌, arith}
 use Rattle.std.specs.List.{last_or}
-use Rattle.std.proofs.lemmas.Bool.{ne_eqb, eq-eqb}
+use Rattle.std.proofs.lemmas.Bool.{eq-eqb}
 use Rattle.std.proofs.lemmas.List.{length-take}
 use denote.Bor.{Bor}
 use Rattle.tree_model.specs.declared.stat.Qid.{Qid}
@@ -36,15 +36,6 @@ walked_all newfid n count qids d place some all le is s names bytes len can =
     let same : eqb (length (take count qids)) (length names) ≡ true = eq-eqb _ _ (omega (arith, length-take count qids, len, all)) in (
       ap (set s newfid) is ∙ sym (rw (same, last_of_front qids count d some le) refl),
       can,
-      refl,
-    )
-
--- none or not all were
-pub walked_part : (newfid n count : ℕ) (qids : List Qid) → (count ≡ n → ⊥) → count ≤ length qids → IsWalkChange newfid n (take count qids) changes.Nothing
-walked_part newfid n count qids part le s names bytes len can =
-    let other : eqb (length (take count qids)) (length names) ≡ false = ne_eqb _ _ (λ e. part (omega (arith, length-take count qids, len, e))) in (
-      sym (rw other refl),
-      tt,
       refl,
     )
 

@@ -4,7 +4,8 @@ use Rattle.std.specs.FinMap as map
 use Rattle.tree_model.specs.declared.request.Request.{Request}
 use Rattle.tree_model.specs.declared.stat.Qid.{Qid}
 use Rattle.tree_model.specs.Wire.{stat_limit}
-use Rattle.tree_model.specs.Asked.{PlainRequest, stat_of, PlainReply, qid, walked, count, stat, done, refused, plain_request, bytes_put, count_limit, CanAsk, AreStats, IsReplyTo}
+use Rattle.tree_model.specs.Asked as asked
+use Rattle.tree_model.specs.Asked.{PlainRequest, PlainReply, qid, walked, count, stat, done, refused, plain_request, bytes_put, count_limit, CanAsk, AreStats, IsReplyTo}
 use Rattle.ninep_wire.specs.TMessage as t
 use Rattle.ninep_wire.specs.TMessage.{PlainTMessage}
 use Rattle.ninep_wire.specs.declared.r_message.RMessage.{RMessage}
@@ -14,6 +15,7 @@ use Rattle.session_core.specs.declared.action.Action.{Action}
 use Rattle.session_core.specs.declared.action.Action.TheVariants as actions
 use Rattle.session_core.specs.declared.change.Change.{Change}
 use Rattle.session_core.specs.declared.texts.Denial.{Denial}
+use Rattle.session_core.specs.declared.exchange.TheConstants.{READ_OFFSET, STAT_OFFSET}
 use Rattle.session_core.specs.Denial.{denial_text}
 use Rattle.session_core.specs.State.{State, least_message, header_room, limit}
 use Rattle.session_core.specs.Action as session
@@ -52,13 +54,22 @@ IsSuited s message reply bytes = ⊥
 
 -- where the bytes of a reply stand in the R-message: a stat's behind its n[2], others behind their count[4]
 abbrev pub bytes_offset : PlainRequest → ℕ
-bytes_offset (stat_of n) = 9
-bytes_offset request = 11
+bytes_offset (asked.look n) = READ_OFFSET
+bytes_offset (asked.walk n names) = READ_OFFSET
+bytes_offset (asked.open_node n mode) = READ_OFFSET
+bytes_offset (asked.create n name is_dir mode) = READ_OFFSET
+bytes_offset (asked.read n at most) = READ_OFFSET
+bytes_offset (asked.list n after most) = READ_OFFSET
+bytes_offset (asked.write n at bytes) = READ_OFFSET
+bytes_offset (asked.remove n) = READ_OFFSET
+bytes_offset (asked.stat_of n) = STAT_OFFSET
+bytes_offset (asked.change n c) = READ_OFFSET
+bytes_offset (asked.sync n) = READ_OFFSET
 
--- the bytes of a reply stand at their place in an R-message
+-- the bytes of a reply are at their place in an R-message
 abbrev pub AreInPlace : PlainTMessage → PlainReply → List ℕ → List ℕ → Type 0
-AreInPlace (t.read f offset most) (count n) out bytes = bytes ≡ take n (drop 11 out)
-AreInPlace (t.stat f) (stat n) out bytes = bytes ≡ take n (drop 9 out)
+AreInPlace (t.read f offset most) (count n) out bytes = bytes ≡ take n (drop READ_OFFSET out)
+AreInPlace (t.stat f) (stat n) out bytes = bytes ≡ take n (drop STAT_OFFSET out)
 AreInPlace message reply out bytes = ⊤
 
 -- what an object may be asked; each of its replies can be answered, and its bytes are put to their place
@@ -85,8 +96,8 @@ IsFormed s message (actions.Ask request) = IsAskable s message request
 
 -- what the code answers to a reply, and changes then, is what the session does
 pub record IsOutcome (s : State) (message : PlainTMessage) (reply : PlainReply) (out bytes : List ℕ) (answer : RMessage) (change : Change) : Type 0 where
-  pub is : outcome_of s message reply bytes ≡ outcome (plain_r answer out) (changed s change (drop 11 out))
-  pub sayable : IsSayable s (limit s) answer change (drop 11 out)
+  pub is : outcome_of s message reply bytes ≡ outcome (plain_r answer out) (changed s change (drop READ_OFFSET out))
+  pub sayable : IsSayable s (limit s) answer change (drop READ_OFFSET out)
   pub keeps : size_after s change ≡ s.size
 
 -- and so for all bytes that a reply can have put there

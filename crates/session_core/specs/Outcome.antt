@@ -42,7 +42,7 @@ read_on offset bytes fid =
     if fid.is_dir then record { node = fid.node; is_dir = fid.is_dir; opened = option_map (opened_on offset bytes) fid.opened }
     else fid
 
--- newfid is the last node walked to, exactly where all names were walked
+-- newfid is the last node walked to, if and only if all names were walked
 abbrev pub walk_outcome : State → ℕ → List (List ℕ) → List Qid → State
 walk_outcome s newfid names qids =
     if length qids == length names then option_map_or (λ q. set s newfid (closed q)) (last_or None qids) s else s

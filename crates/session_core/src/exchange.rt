@@ -76,8 +76,17 @@ fn bytes_offset(request: &Request<'_>) -> usize
     ensures { result ≡ bytes_offset (plain_request request.now) }
 {
     match request {
+        Request::Look { .. } => READ_OFFSET,
+        Request::Walk { .. } => READ_OFFSET,
+        Request::OpenNode { .. } => READ_OFFSET,
+        Request::Create { .. } => READ_OFFSET,
+        Request::Read { .. } => READ_OFFSET,
+        Request::List { .. } => READ_OFFSET,
+        Request::Write { .. } => READ_OFFSET,
+        Request::Remove { .. } => READ_OFFSET,
         Request::StatOf { .. } => STAT_OFFSET,
-        _ => READ_OFFSET,
+        Request::Change { .. } => READ_OFFSET,
+        Request::Sync { .. } => READ_OFFSET,
     }
 }
 

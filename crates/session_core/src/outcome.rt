@@ -3,6 +3,7 @@
 ghost use Rattle.std.specs.Prelude.{◌≡◌, ◌≤◌, take};
 ghost use Rattle.tree_model.specs.Asked as asked;
 ghost use Rattle.tree_model.specs.Asked.{plain_reply, HasCount};
+ghost use Rattle.tree_model.specs.Names.{walk_limit};
 ghost use Rattle.ninep_wire.specs.Plain.{plain_t, HasNames};
 ghost use Rattle.session_core.specs.State.{closed, open_with, HasGoodSize};
 ghost use Rattle.session_core.specs.Slot.{placed};
@@ -85,7 +86,7 @@ fn qid_outcome<'a>(session: &Session, message: &TMessage<'_>, qid: Qid) -> (RMes
 
 /// newfid is put at the last node, where all names were walked.
 fn walk_change(newfid: u32, names: u16, count: usize, qids: &[Qid; 16]) -> Change
-    requires count { count ≤ 16 }
+    requires count { count ≤ walk_limit }
     ensures { IsWalkChange newfid names (take count qids.now) result }
 {
     if count == 0 || count != usize::from(names) {
@@ -101,7 +102,7 @@ fn walked_outcome<'a>(
     qids: &'a [Qid; 16],
 ) -> (RMessage<'a>, Change)
     requires good { HasGoodSize session.now }
-    requires count { count ≤ 16 }
+    requires count { count ≤ walk_limit }
     requires names { HasNames message.now }
     requires suited { HasSuited session.now (plain_t message.now) (asked.walked (take count qids.now)) }
     ensures { AnswersTo session.now (plain_t message.now) (asked.walked (take count qids.entry.now)) result.0 result.1 }

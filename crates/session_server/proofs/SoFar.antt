@@ -239,7 +239,7 @@ talked_limit stands object object' before now told s so = record {
   extends = so.extends;
 }
 
--- nothing was read for want of memory
+-- nothing was read for lack of memory
 pub talked_memory : {B : Type 0} (stands : B → B → List Asked → Type 0) (object : B) (link : LinkView) (told : Option ℕ) → HasTalked stands object object link link told Memory
 talked_memory stands object link told = record {
   asked = [];

@@ -1,6 +1,7 @@
 -- What was done on a link, and on the links of a listener.
 use Rattle.std.specs.Prelude.{◌≡◌, ◌⊎◌, ℕ, ◌≤◌, List, [], ◌∷◌, ◌++◌, length, map, Option}
 use Rattle.std.specs.List.{AllByRecursion}
+use Rattle.outside.specs.Calls as calls
 use Rattle.outside.specs.Calls.{HasCause, Told, Changes}
 use Rattle.outside.specs.Views.{LinkView, ListenerView}
 use Rattle.tree_model.specs.Asked.{Asked, Extends}
@@ -16,7 +17,7 @@ pub record TalkedOn (before after : LinkView) (second : Option ℕ) (end : Sessi
   pub sent : List ℕ
   pub talk : Talk input asked answers end
   pub read : Changes before.left after.left (λ old new. (old ≡ input ++ new) × IsReadUp end new)
-  pub written : Changes before.taken after.taken (λ old new. new ≡ old ++ sent)
+  pub written : calls.Extends before.taken after.taken sent
   pub sent_is : IsTaken end answers sent
   pub seconds : Told second (λ s. AllByRecursion (λ a. a.second ≡ s) asked)
   pub read_fault : HasCause before.read_faults after.read_faults (end ≡ ends.ReadFault)
@@ -55,4 +56,4 @@ pub record GaveBack {C : Type 0} (share : ℕ) (failed : Type 0) (before after :
   pub few : length links ≤ share
   pub came : Changes before.to_come after.to_come (λ old new.
       (old ≡ map (λ link. link.came) links ++ new) × ((length links ≡ share) ⊎ (new ≡ []) ⊎ failed))
-  pub given : Changes before.given_back after.given_back (λ old new. new ≡ old ++ map (λ link. link.given) links)
+  pub given : calls.Extends before.given_back after.given_back (map (λ link. link.given) links)

@@ -1,6 +1,6 @@
 -- What a link's bytes are before and after calls, and where the reading of a message stops.
 use Rattle.std.specs.Prelude.{◌≡◌, ℕ, ◌<◌, List, [], ◌++◌, Option, ⊤}
-use Rattle.outside.specs.Calls.{Told, Changes}
+use Rattle.outside.specs.Calls.{Told, Changes, Extends, TakesFront}
 use Rattle.session_core.specs.State.{State}
 use Rattle.session_server.specs.declared.ending.SessionEnd.{SessionEnd}
 use Rattle.session_server.specs.declared.ending.SessionEnd.TheVariants as ends
@@ -10,11 +10,11 @@ use Rattle.session_server.specs.Talk.{EndsWith, IsReadUp}
 
 -- these bytes were read, where the link tells
 abbrev pub Reads : Option (List ℕ) → Option (List ℕ) → List ℕ → Type 0
-Reads left left' bytes = Changes left left' (λ old new. old ≡ bytes ++ new)
+Reads left left' bytes = TakesFront left left' bytes
 
 -- these bytes were taken
 abbrev pub Writes : Option (List ℕ) → Option (List ℕ) → List ℕ → Type 0
-Writes taken taken' bytes = Changes taken taken' (λ old new. new ≡ old ++ bytes)
+Writes taken taken' bytes = Extends taken taken' bytes
 
 -- how many bytes of n were read
 abbrev pub count_of : ℕ → Filled → ℕ

@@ -59,7 +59,7 @@ EndsWith s rest ends.WriteFault = rest ≡ []
 EndsWith s rest ends.Limit = rest ≡ []
 EndsWith s rest ends.Memory = rest ≡ []
 
--- and by how many messages were answered: the limit comes exactly after 2^32 of them
+-- and by how many messages were answered: the limit is reached exactly after 2^32 of them
 abbrev pub EndsAfter : ℕ → SessionEnd → Type 0
 EndsAfter n ends.Limit = n ≡ 2 ^ 32
 EndsAfter n ends.Memory = n ≡ 0

@@ -61,7 +61,7 @@ fn read_rest<L: Link>(link: &mut L, size: u32, frame: &mut [u8]) -> Result<(), S
     }
 }
 
-/// Reads one message into the front of `frame`, and gives its size in bytes.
+/// Reads one message into the front of `frame`, and returns its size in bytes.
 pub(crate) fn read_frame<L: Link>(
     session: &Session,
     link: &mut L,

@@ -18,7 +18,8 @@ pub fn a_session_of_whole_messages_is_done()
         → IsServedWhole whole.messages talked.talk.frames before after end }
 {}
 
-/// In each talk, what each fid is before a message is found by looking back over the messages before it and their answers.
+/// In each talk, what each fid is before a message is found by looking back over the messages before it and their answers. It
+/// does nothing.
 pub fn talks_look_back()
     ensures { TalksLookBack }
 {

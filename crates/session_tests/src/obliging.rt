@@ -1,6 +1,8 @@
 //! A tree for tests that does whatever it is asked.
 
-ghost use Rattle.std.specs.Prelude.{◌≡◌, ◌≤◌, length, take, drop};
+ghost use Rattle.std.specs.Prelude.{◌≡◌, ◌≤◌, length, take};
+ghost use Rattle.outside.specs.Calls.{KeepsFrom};
+ghost use Rattle.tree_model.specs.Wire.{stat_limit};
 ghost use Rattle.tree_model.specs.Asked.{IsOneStat};
 
 use ninep_wire::write_stat;
@@ -46,9 +48,9 @@ const STAT: Stat<'static> = Stat {
 
 // The stat of `a`, at the front of a buffer.
 fn put_stat(buffer: &mut [u8]) -> u32
-    requires { 1088 ≤ length buffer.old }
+    requires { stat_limit ≤ length buffer.old }
     ensures stat { IsOneStat (take result buffer.new) × (length (take result buffer.new) ≡ result) }
-    ensures rest { drop result buffer.new ≡ drop result buffer.old }
+    ensures rest { KeepsFrom result buffer.old buffer.new }
 {
     write_stat(&STAT, buffer) as u32
 }

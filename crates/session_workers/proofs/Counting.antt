@@ -1,7 +1,6 @@
 -- Counts of ends.
-use Rattle.std.proofs.Common.{◌≡◌, ℕ, suc, ◌+◌, ◌≤◌, Bool, true, false, cond, List, [], ◌∷◌, ◌++◌, length, ap, ◌∙◌, arith, length-append}
+use Rattle.std.proofs.Common.{◌≡◌, ℕ, suc, ◌≤◌, Bool, true, false, cond, List, [], ◌∷◌, length, arith}
 use Rattle.std.specs.Prelude.{filter}
-use Rattle.std.proofs.lemmas.List.Elements.{filter-append}
 use Rattle.session_server.specs.declared.ending.SessionEnd.{SessionEnd}
 use Rattle.session_workers.specs.declared.counts.SessionCounts.{SessionCounts}
 use Rattle.session_workers.specs.Ends.{AreCounts, count_of, is_done, is_cut, is_bad, is_read_fault, is_write_fault, is_memory, is_limit}
@@ -12,9 +11,6 @@ count_of-le test [] = omega arith
 count_of-le test (end ∷ ends) =
     let rest = count_of-le test ends in
     elim (test end) as (λ (b : Bool). length (cond b (end ∷ filter test ends) (filter test ends)) ≤ suc (length ends)) [ true ↦ omega arith | false ↦ omega arith ]
-
-pub count_of-append : (test : SessionEnd → Bool) (xs ys : List SessionEnd) → count_of test (xs ++ ys) ≡ count_of test xs + count_of test ys
-count_of-append test xs ys = ap length (filter-append test xs ys) ∙ length-append (filter test xs) (filter test ys)
 
 -- none of the counts of few sessions is high
 pub record AreFew (counts : SessionCounts) (most : ℕ) : Type 0 where

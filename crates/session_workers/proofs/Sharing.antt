@@ -123,11 +123,6 @@ none_more [] i d lt none fine = absurd (omega arith)
 none_more (crew ∷ crews) zero d lt none fine = (fine, tt)
 none_more (crew ∷ crews) (suc i) d lt none fine = (none.0, none_more crews i d (omega arith) none.1 fine)
 
-pub none_all : {N B : Type 0} (crews : List (Crew N B)) (i : ℕ) → length crews ≤ i → NoneFailed (take i crews) → NoneFailed crews
-none_all [] i le none = tt
-none_all (crew ∷ crews) zero le none = absurd (omega arith)
-none_all (crew ∷ crews) (suc i) le none = (none.0, none_all crews i (omega arith) none.1)
-
 pub any_at : {N B : Type 0} (crews : List (Crew N B)) (i : ℕ) (d : Crew N B) → i < length crews → (get_or crews i d).failed ≡ true → AnyFailed crews
 any_at [] i d lt failed = absurd (omega arith)
 any_at (crew ∷ crews) zero d lt failed = inl failed
@@ -135,16 +130,17 @@ any_at (crew ∷ crews) (suc i) d lt failed = inr (any_at crews i d (omega arith
 
 -- ---- all crews
 
-weaker : {C : Type 0} (sessions : ℕ) (F G : Type 0) (links : List (ServedLink C)) (left : List C) → (F → G) → (length links ≡ sessions) ⊎ (left ≡ []) ⊎ F → (length links ≡ sessions) ⊎ (left ≡ []) ⊎ G
-weaker sessions F G links left only (inl h) = inl h
-weaker sessions F G links left only (inr (inl h)) = inr (inl h)
-weaker sessions F G links left only (inr (inr h)) = inr (inr (only h))
+-- why a worker served no more, where more may be the cause
+stopped_weaker : {C : Type 0} (sessions : ℕ) (F G : Type 0) (links : List (ServedLink C)) (left : List C) → (F → G) → (length links ≡ sessions) ⊎ (left ≡ []) ⊎ F → (length links ≡ sessions) ⊎ (left ≡ []) ⊎ G
+stopped_weaker sessions F G links left only (inl h) = inl h
+stopped_weaker sessions F G links left only (inr (inl h)) = inr (inl h)
+stopped_weaker sessions F G links left only (inr (inr h)) = inr (inr (only h))
 
 -- what was given back, where what may have failed is more
-gave_as : {C : Type 0} (sessions : ℕ) (F G : Type 0) (before after : ListenerView C) (links : List (ServedLink C)) → (F → G) → GaveBack sessions F before after links → GaveBack sessions G before after links
+pub gave_as : {C : Type 0} (sessions : ℕ) (F G : Type 0) (before after : ListenerView C) (links : List (ServedLink C)) → (F → G) → GaveBack sessions F before after links → GaveBack sessions G before after links
 gave_as sessions F G before after links only h = record {
   few = h.few;
-  came = changed_by before.to_come after.to_come _ _ (λ old new k. (k.0, weaker sessions F G links new only k.1)) h.came;
+  came = changed_by before.to_come after.to_come _ _ (λ old new k. (k.0, stopped_weaker sessions F G links new only k.1)) h.came;
   given = h.given;
 }
 

@@ -1,7 +1,7 @@
 -- What serving the next link of a listener does.
-use Rattle.std.specs.Prelude.{◌≡◌, ℕ, ◌≤◌, List, [], ◌∷◌, ◌++◌, Option, Some, None, Result, Ok, Err}
+use Rattle.std.specs.Prelude.{◌≡◌, ℕ, ◌≤◌, List, [], ◌∷◌, Option, Some, None, Result, Ok, Err}
 use Rattle.outside.specs.declared.stream.Failed.{Failed}
-use Rattle.outside.specs.Calls.{Rose, Changes}
+use Rattle.outside.specs.Calls.{Rose, Changes, Extends, TakesFront}
 use Rattle.outside.specs.Views.{ListenerView, LinkView}
 use Rattle.tree_model.specs.Asked.{Asked}
 use Rattle.session_server.specs.declared.ending.SessionEnd.{SessionEnd}
@@ -12,8 +12,8 @@ pub record HasServedLink {B C : Type 0} (stands : B → B → List Asked → Typ
   pub served : ServedLink C
   pub end_is : served.end ≡ end
   pub talked : HasTalked stands object object' (link served.came) (link served.given) second served.end
-  pub came : Changes before.to_come after.to_come (λ old new. old ≡ served.came ∷ new)
-  pub given : Changes before.given_back after.given_back (λ old new. new ≡ old ++ served.given ∷ [])
+  pub came : TakesFront before.to_come after.to_come (served.came ∷ [])
+  pub given : Extends before.given_back after.given_back (served.given ∷ [])
   pub faults : before.faults ≤ after.faults
 
 -- a listener gave none, and nothing was asked

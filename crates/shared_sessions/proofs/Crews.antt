@@ -31,12 +31,6 @@ none_left (x ∷ xs) e = absurd (omega arith)
 -- ---- seats and workers that are ready
 
 module _ {N E : Type 0} (start : Rows → Origin → Type 0) (faults_of : E → ℕ) where
-  pub ready_pairs : (ss : List (SeatView Made)) (ws : List (Worker N E)) → AreReady start faults_of ss ws → length ss ≡ length ws
-  ready_pairs [] [] h = refl
-  ready_pairs [] (w ∷ ws) h = absurd h
-  ready_pairs (s ∷ ss) [] h = absurd h
-  ready_pairs (s ∷ ss) (w ∷ ws) h = ap suc (ready_pairs ss ws h.1)
-
   -- the last of them, and the others
   pub ready_last : (ss : List (SeatView Made)) (ws : List (Worker N E)) (s : SeatView Made) (w : Worker N E) → AreReady start faults_of (ss ++ s ∷ []) (ws ++ w ∷ []) → AreReady start faults_of ss ws × IsReady start faults_of s w
   ready_last [] [] s w h = (tt, h.0)
@@ -89,6 +83,14 @@ module _ {N E : Type 0} where
   crews_pairs (s ∷ ss) (w ∷ ws) [] h = absurd h
   crews_pairs (s ∷ ss) (w ∷ ws) (c ∷ cs) h = let rest = crews_pairs ss ws cs h.1 in (ap suc rest.0, ap suc rest.1)
 
+  -- of these lists the seats and workers behind the ones that are left have crews, which stand the other way round
+  pub record Hired (all_seats seats : List (SeatView Made)) (all_workers workers : List (Worker N E)) (crews : List (Crew N (ClientView E))) : Type 0 where
+    pub gone_seats : List (SeatView Made)
+    pub gone_workers : List (Worker N E)
+    pub seats_are : all_seats ≡ seats ++ gone_seats
+    pub workers_are : all_workers ≡ workers ++ gone_workers
+    pub crews_are : AreCrewsOf gone_seats gone_workers (reverse crews)
+
   -- one crew more, where crews stand the other way round
   pub hired_more : (ss : List (SeatView Made)) (ws : List (Worker N E)) (cs cs' : List (Crew N (ClientView E))) (s : SeatView Made) (w : Worker N E) (c : Crew N (ClientView E)) → cs' ≡ cs ++ c ∷ [] → IsCrewOf s w c
       → AreCrewsOf ss ws (reverse cs) → AreCrewsOf (s ∷ ss) (w ∷ ws) (reverse cs')
@@ -100,27 +102,8 @@ module _ {N E : Type 0} where
   dismissed_more ss ss' ws ws' cs s w c seats workers one h =
       subst (λ (p : List (SeatView Made) × List (Worker N E)). AreCrewsOf p.0 p.1 (c ∷ cs)) (λ i. (sym (ap reverse seats ∙ reverse-more ss s) i, sym (ap reverse workers ∙ reverse-more ws w) i)) (one, h)
 
-  -- all of them were hired
-  pub hired_all : (all_s seats ss : List (SeatView Made)) (all_w workers ws : List (Worker N E)) (crews crews' : List (Crew N (ClientView E))) → all_s ≡ seats ++ ss → all_w ≡ workers ++ ws → seats ≡ [] → workers ≡ []
-      → crews' ≡ reverse crews → AreCrewsOf ss ws (reverse crews) → AreCrewsOf all_s all_w crews'
-  hired_all all_s seats ss all_w workers ws crews crews' is_s is_w none_s none_w is h =
-      let s : all_s ≡ ss = is_s ∙ ap (λ l. l ++ ss) none_s in
-      let w : all_w ≡ ws = is_w ∙ ap (λ l. l ++ ws) none_w in
-      subst (λ (p : List (SeatView Made) × (List (Worker N E) × List (Crew N (ClientView E)))). AreCrewsOf p.0 p.1.0 p.1.1) (λ i. (sym s i, (sym w i, sym is i))) h
-
-  -- all of them were dismissed
-  pub dismissed_all : (seats seats' : List (SeatView Made)) (workers workers' : List (Worker N E)) (all crews cs : List (Crew N (ClientView E))) → crews ≡ [] → all ≡ crews ++ cs → seats' ≡ reverse seats → workers' ≡ reverse workers
-      → AreCrewsOf (reverse seats) (reverse workers) cs → AreCrewsOf seats' workers' all
-  dismissed_all seats seats' workers workers' all crews cs none is_c is_s is_w h =
-      let c : all ≡ cs = is_c ∙ ap (λ l. l ++ cs) none in
-      subst (λ (p : List (SeatView Made) × (List (Worker N E) × List (Crew N (ClientView E)))). AreCrewsOf p.0 p.1.0 p.1.1) (λ i. (sym is_s i, (sym is_w i, sym c i))) h
-
   pub dismissed_none : (seats : List (SeatView Made)) (workers : List (Worker N E)) → seats ≡ [] → workers ≡ [] → AreCrewsOf {N = N} {E = E} (reverse seats) (reverse workers) []
   dismissed_none seats workers s w = subst (λ (p : List (SeatView Made) × List (Worker N E)). AreCrewsOf {N = N} {E = E} (reverse p.0) (reverse p.1) []) (λ i. (sym s i, sym w i)) tt
 
   pub ready_none : (start : Rows → Origin → Type 0) (faults_of : E → ℕ) (seats : List (SeatView Made)) (workers : List (Worker N E)) → seats ≡ [] → workers ≡ [] → AreReady start faults_of (reverse seats) (reverse workers)
   ready_none start faults_of seats workers s w = subst (λ (p : List (SeatView Made) × List (Worker N E)). AreReady start faults_of (reverse p.0) (reverse p.1)) (λ i. (sym s i, sym w i)) tt
-
-  pub ready_all : (start : Rows → Origin → Type 0) (faults_of : E → ℕ) (seats seats' : List (SeatView Made)) (workers workers' : List (Worker N E)) → seats' ≡ reverse seats → workers' ≡ reverse workers
-      → AreReady start faults_of (reverse seats) (reverse workers) → AreReady start faults_of seats' workers'
-  ready_all start faults_of seats seats' workers workers' s w h = subst (λ (p : List (SeatView Made) × List (Worker N E)). AreReady start faults_of p.0 p.1) (λ i. (sym s i, sym w i)) h

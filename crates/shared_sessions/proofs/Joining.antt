@@ -94,12 +94,22 @@ module _ {E : Type 0} (start : Rows → Origin → Type 0) (draws : Option (List
 
 -- ---- all callers
 
+-- the first crew after its share, and the others after theirs
+record FirstExtended {N E C : Type 0} (stands : ClientView E → ClientView E → List Asked → Type 0) (c : Crew N (ClientView E)) (cs cs' : List (Crew N (ClientView E))) (shares : List (Share C)) : Type 0 where
+  new : Crew N (ClientView E)
+  news : List (Crew N (ClientView E))
+  share : Share C
+  others : List (Share C)
+  crews_are : cs' ≡ new ∷ news
+  shares_are : shares ≡ share ∷ others
+  extends : (before : ClientView E) (asked : List Asked) → stands c.object before asked → stands new.object before (asked ++ share.asked)
+  rest : AreExtended stands cs news others
+
 first_extended : {N E : Type 0} {C : Type 0} (stands : ClientView E → ClientView E → List Asked → Type 0) (c : Crew N (ClientView E)) (cs cs' : List (Crew N (ClientView E))) (shares : List (Share C)) → AreExtended stands (c ∷ cs) cs' shares
-    → (new : Crew N (ClientView E)) × (news : List (Crew N (ClientView E))) × (share : Share C) × (others : List (Share C)) × (cs' ≡ new ∷ news) × (shares ≡ share ∷ others)
-    × ((before : ClientView E) (asked : List Asked) → stands c.object before asked → stands new.object before (asked ++ share.asked)) × AreExtended stands cs news others
+    → FirstExtended stands c cs cs' shares
 first_extended stands c cs [] shares h = absurd h
 first_extended stands c cs (new ∷ news) [] h = absurd h
-first_extended stands c cs (new ∷ news) (share ∷ others) h = (new, news, share, others, refl, refl, h.0, h.1)
+first_extended stands c cs (new ∷ news) (share ∷ others) h = record { new = new; news = news; share = share; others = others; crews_are = refl; shares_are = refl; extends = h.0; rest = h.1 }
 
 none_extended : {N E C : Type 0} (stands : ClientView E → ClientView E → List Asked → Type 0) (cs' : List (Crew N (ClientView E))) (shares : List (Share C)) → AreExtended stands [] cs' shares → (cs' ≡ []) × (shares ≡ [])
 none_extended stands [] [] h = (refl, refl)
@@ -157,7 +167,7 @@ module _ {N E C : Type 0} (start : Rows → Origin → Type 0) (draws : Option (
   parts j (suc n) ss ss' ws ws' (c ∷ cs) cs' shares new hired ext back ready part =
       let f = first_crew ss ws c cs hired in
       let e = first_extended (λ now begun asked. HasAsked draws entropy begun now asked) c cs cs' shares ext in
-      let b = first_crew ss' ws' e.0 e.1 (subst (λ l. AreCrewsOf ss' ws' l) e.4 back) in
+      let b = first_crew ss' ws' e.new e.news (subst (λ l. AreCrewsOf ss' ws' l) e.crews_are back) in
       let seats : f.seat ∷ f.seats ≡ new_seat z j ∷ new_seats z (j + 1) n = sym f.seats_are ∙ new in
       let head : f.seat ≡ new_seat z j = cc in
       let tail : f.seats ≡ new_seats z (j + 1) n = cc in
@@ -165,12 +175,12 @@ module _ {N E C : Type 0} (start : Rows → Origin → Type 0) (draws : Option (
       subst (λ (p : List (SeatView Made) × List (Worker N E)). AreReady start (λ (x : E). (entropy x).faults) p.0 p.1) (λ i. (b.seats_are i, b.workers_are i)) ready
       in
       let part' : All (IsPartOf turns tickets) (b.seat ∷ b.seats) = subst (All (IsPartOf turns tickets)) b.seats_are part in
-      let has : HasAsked draws entropy c.object e.0.object e.2.asked = e.6 c.object [] (asked_none draws entropy c.object) in
+      let has : HasAsked draws entropy c.object e.new.object e.share.asked = e.extends c.object [] (asked_none draws entropy c.object) in
       let from : IsCrewOf (new_seat z j) f.worker c = subst (λ (s : SeatView Made). IsCrewOf s f.worker c) head f.first in
-      let rest = parts (j + 1) n f.seats b.seats f.workers b.workers cs e.1 e.3 tail f.rest e.7 b.rest ready'.1 (All-tail (IsPartOf turns tickets) b.seat b.seats part') in
-      let more = parts_more j cs e.1 c e.0 b.seats b.seat f.workers b.workers f.worker b.worker e.2 e.3 from b.first has ready'.0 (All-head (IsPartOf turns tickets) b.seat b.seats part') rest in
+      let rest = parts (j + 1) n f.seats b.seats f.workers b.workers cs e.news e.others tail f.rest e.rest b.rest ready'.1 (All-tail (IsPartOf turns tickets) b.seat b.seats part') in
+      let more = parts_more j cs e.news c e.new b.seats b.seat f.workers b.workers f.worker b.worker e.share e.others from b.first has ready'.0 (All-head (IsPartOf turns tickets) b.seat b.seats part') rest in
       subst (λ (p : List (Crew N (ClientView E)) × (List (SeatView Made) × (List (Worker N E) × (List (Worker N E) × List (Share C))))). Parts j (c ∷ cs) p.0 p.1.0 p.1.1.0 p.1.1.1.0 p.1.1.1.1)
-      (λ i. (sym e.4 i, (sym b.seats_are i, (sym f.workers_are i, (sym b.workers_are i, sym e.5 i))))) more
+      (λ i. (sym e.crews_are i, (sym b.seats_are i, (sym f.workers_are i, (sym b.workers_are i, sym e.shares_are i))))) more
 
 -- ---- all workers
 
@@ -204,17 +214,17 @@ module _ {N E C : Type 0} (start : Rows → Origin → Type 0) (draws : Option (
   idle j (suc n) ss ss' ws ws' (c ∷ cs) cs' shares new hired ext back ready =
       let f = first_crew ss ws c cs hired in
       let e = first_extended (λ now begun asked. HasAsked draws entropy begun now asked) c cs cs' shares ext in
-      let b = first_crew ss' ws' e.0 e.1 (subst (λ l. AreCrewsOf ss' ws' l) e.4 back) in
+      let b = first_crew ss' ws' e.new e.news (subst (λ l. AreCrewsOf ss' ws' l) e.crews_are back) in
       let seats : f.seat ∷ f.seats ≡ new_seat z j ∷ new_seats z (j + 1) n = sym f.seats_are ∙ new in
       let head : f.seat ≡ new_seat z j = cc in
       let tail : f.seats ≡ new_seats z (j + 1) n = cc in
       let ready' : AreReady start (λ (x : E). (entropy x).faults) (b.seat ∷ b.seats) (b.worker ∷ b.workers) =
       subst (λ (p : List (SeatView Made) × List (Worker N E)). AreReady start (λ (x : E). (entropy x).faults) p.0 p.1) (λ i. (b.seats_are i, b.workers_are i)) ready
       in
-      let has : HasAsked draws entropy c.object e.0.object e.2.asked = e.6 c.object [] (asked_none draws entropy c.object) in
+      let has : HasAsked draws entropy c.object e.new.object e.share.asked = e.extends c.object [] (asked_none draws entropy c.object) in
       let lock : b.seat.lock ≡ z = sym (ap (λ (x : ClientView E). x.seat.lock) b.first.object) ∙ (has.lock ∙ (ap (λ (x : ClientView E). x.seat.lock) f.first.object ∙ ap (λ (s : SeatView Made). s.lock) head)) in
       subst (All (IsIdle z)) (sym b.seats_are)
-      (All-cons (IsIdle z) b.seat b.seats (record { here = lock; rests = ready'.0.rests }) (idle (j + 1) n f.seats b.seats f.workers b.workers cs e.1 e.3 tail f.rest e.7 b.rest ready'.1))
+      (All-cons (IsIdle z) b.seat b.seats (record { here = lock; rests = ready'.0.rests }) (idle (j + 1) n f.seats b.seats f.workers b.workers cs e.news e.others tail f.rest e.rest b.rest ready'.1))
 
 module _ {N E C : Type 0} (start : Rows → Origin → Type 0) (draws : Option (List ℕ) → Option (List ℕ) → Made → Type 0) (listener : N → ListenerView C) (entropy : E → EntropyView) (link : C → LinkView) (second : Option ℕ) (sessions at_once : ℕ)
     (ss ss' : List (SeatView Made)) (ws ws' : List (Worker N E)) (counts : Result SessionCounts Failed) where

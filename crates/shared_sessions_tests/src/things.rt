@@ -1,4 +1,4 @@
-//! What stands at the sessions' other ends.
+//! What is at the sessions' other ends.
 ghost use Rattle.std.specs.Prelude.{◌≤◌, None};
 
 use outside::{Clock, Entropy, Failed, Link, Listener};

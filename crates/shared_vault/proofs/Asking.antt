@@ -34,11 +34,6 @@ module _ (draws : Option (List ℕ) → Option (List ℕ) → Made → Type 0) w
   drawn_more first before after (x ∷ all) made h source faults =
       record { next = h.next; source = h.source; faults = h.faults; rest = drawn_more h.next before after all made h.rest source faults }
 
-  -- and no fewer faults are counted then
-  pub drawn_later : (before after : EntropyView) (all : List Made) → AreDrawnFor draws before after all → before.faults ≤ after.faults
-  drawn_later before after [] h = let e = ap (λ (v : EntropyView). v.faults) h in omega (arith, e)
-  drawn_later before after (x ∷ all) h = let rest = drawn_later h.next after all h.rest in omega (arith, h.faults)
-
 -- ---- a ticket past the last turn
 
 pub late_of : (old new : SeatView Made) (ticket : ℕ) → IsSpent old new ticket → IsLate new

@@ -31,14 +31,6 @@ module _ {E : Type 0} where
       let r = shorter_begins_longer log a b (h.0, h') (k.0, k') (omega arith) in
       (r.0, λ i. sym same i ∷ r.1 i)
 
-  -- a beginning as long as the list is the list
-  pub whole_beginning : (a b : List (Ended E)) → StartsWith a b → length a ≡ length b → a ≡ b
-  whole_beginning a b h e =
-      let l = ap length h.1 in
-      let m = length-append b h.0 in
-      let none_more : h.0 ≡ [] = no_elements h.0 (omega arith) in
-      h.1 ∙ (ap (λ (z : List (Ended E)). b ++ z) none_more ∙ append-nil b)
-
   pick_same : (b : Bool) (e : Ended E) (xs ys : List (Ended E)) → xs ≡ ys → (if b then (e ∷ xs) else xs) ≡ (if b then (e ∷ ys) else ys)
   pick_same b e xs ys h = ap (λ (l : List (Ended E)). if b then (e ∷ l) else l) h
 

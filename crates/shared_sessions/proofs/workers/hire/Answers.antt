@@ -12,7 +12,13 @@ loop-seat-init g c =
       ready = c.requires.ready;
       room = omega arith;
       caps = (refl, refl);
-      hired = ([], [], sym (append-nil _), sym (append-nil _), subst (λ l. AreCrewsOf [] [] (reverse l)) (sym c.requires.none) tt);
+      hired = record {
+        gone_seats = [];
+        gone_workers = [];
+        seats_are = sym (append-nil _);
+        workers_are = sym (append-nil _);
+        crews_are = subst (λ l. AreCrewsOf [] [] (reverse l)) (sym c.requires.none) tt;
+      };
     }
 
 pub loop-seat-preserved : goal.loop-seat-preserved
@@ -33,13 +39,13 @@ loop-seat-preserved g c =
       ready = last.0;
       room = omega arith;
       caps = (c.pop.ensures.capacity ∙ inv.caps.0, c.pop-in-Some.ensures.capacity ∙ inv.caps.1);
-      hired = (
-        seat ∷ hired.0,
-        worker ∷ hired.1,
-        behind _ _ _ _ seat hired.2 seats,
-        behind _ _ _ _ worker hired.3 workers,
-        hired_more hired.0 hired.1 _ _ seat worker c.new-crew.result c.push_reserved.ensures.items (record { listener = c.new-crew.ensures.listener; object = c.new-crew.ensures.object ∙ c.new-client.ensures }) hired.4,
-      );
+      hired = record {
+        gone_seats = seat ∷ hired.gone_seats;
+        gone_workers = worker ∷ hired.gone_workers;
+        seats_are = behind _ _ _ _ seat hired.seats_are seats;
+        workers_are = behind _ _ _ _ worker hired.workers_are workers;
+        crews_are = hired_more hired.gone_seats hired.gone_workers _ _ seat worker c.new-crew.result c.push_reserved.ensures.items (record { listener = c.new-crew.ensures.listener; object = c.new-crew.ensures.object ∙ c.new-client.ensures }) hired.crews_are;
+      };
     }
 
 pub new-client-requires-clause-idle : goal.new-client-requires-clause-idle

@@ -1,6 +1,7 @@
-use Rattle.std.proofs.Common.{◌≡◌, ◌+◌, ◌≤◌, ◌++◌, List, length, reverse, vec_capacity}
+use Rattle.std.proofs.Common.{◌≡◌, ◌+◌, ◌≤◌, length, vec_capacity}
 use Rattle.std.specs.List.{AllByRecursion}
-use Rattle.shared_sessions.specs.Workers.{AreCrewsOf, AreReady}
+use Rattle.shared_sessions.specs.Workers.{AreReady}
+use Rattle.shared_sessions.proofs.Crews.{Hired}
 use Rattle.shared_sessions.proofs.workers.hire.Given as goal
 
 abbrev pub invariant-loop-seat : goal.invariant-loop-seat
@@ -9,8 +10,7 @@ invariant-loop-seat g l = record {
   ready : AreReady g.B.Start.is g.E.Entropy.faults l.seats.items l.workers.items;
   room : length l.crews.items + length l.workers.items ≤ vec_capacity l.crews;
   caps : (vec_capacity l.seats ≡ vec_capacity l.fn.seats) × (vec_capacity l.workers ≡ vec_capacity l.fn.workers);
-  hired : (ss : List _) × (ws : List _) × (l.fn.seats.items ≡ l.seats.items ++ ss) × (l.fn.workers.items ≡ l.workers.items ++ ws)
-      × AreCrewsOf ss ws (reverse l.crews.items);
+  hired : Hired l.fn.seats.items l.seats.items l.fn.workers.items l.workers.items l.crews.items;
 }
 
 abbrev pub decreases-loop-seat : goal.decreases-loop-seat
