@@ -1,5 +1,6 @@
 -- When bytes are an object.
-use Rattle.std.proofs.Common.{◌≡◌, ℕ, List, Bool, true, false, Some, None, refl, ap, ◌∙◌}
+use Rattle.std.proofs.Common.{◌≡◌, ℕ, List, true, false, Some, None, refl, ap, ◌∙◌}
+use Rattle.std.proofs.lemmas.Bool.{false_from_ne_true}
 use Rattle.std.specs.Option.{option_and_then, is_some}
 use Rattle.std.specs.Str.{IsUtf8, is_utf8}
 use Rattle.std.proofs.lemmas.Str.{is_utf8-from_IsUtf8, IsUtf8-from_is_utf8}
@@ -8,13 +9,9 @@ use Rattle.serde_json.specs.Read.{read}
 use Rattle.serde_json.specs.Find.{as_object}
 use Rattle.json_members.specs.Members.{only_object, object_of}
 
-false_from : (b : Bool) → (b ≡ true → ⊥) → b ≡ false
-false_from true h = absurd (h refl)
-false_from false h = refl
-
 pub object_of-not_utf8 : (bytes : List ℕ) → (IsUtf8 bytes → ⊥) → object_of bytes ≡ None
 unfolding object_of
-object_of-not_utf8 bytes not = let no : is_utf8 bytes ≡ false = false_from _ (λ h. not (IsUtf8-from_is_utf8 bytes h)) in rw no refl
+object_of-not_utf8 bytes not = let no : is_utf8 bytes ≡ false = false_from_ne_true _ (λ h. not (IsUtf8-from_is_utf8 bytes h)) in rw no refl
 
 object_of-utf8 : (bytes text : List ℕ) → IsUtf8 bytes → text ≡ bytes → object_of bytes ≡ option_and_then only_object (read text)
 unfolding object_of

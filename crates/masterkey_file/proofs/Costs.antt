@@ -1,7 +1,7 @@
 -- Which costs scrypt takes.
 use Rattle.std.proofs.Common.{◌≡◌, ℕ, ◌*◌, ◌^◌, ◌<◌, ◌≤◌, Bool, true, false, ◌&&◌, nat_lt, nat_le, inl, inr, refl, arith}
 use Rattle.std.proofs.Math.Nat.{mul-le-mul_left}
-use Rattle.std.proofs.lemmas.Bool.{cases_lt, cases_Bool, lt-ltb, le-leb, ltb-true, leb-true}
+use Rattle.std.proofs.lemmas.Bool.{cases_lt, cases_Bool, false_from_ne_true, lt-ltb, le-leb, ltb-true, leb-true}
 use Rattle.std.specs.Int.{is_power_of_two}
 use Rattle.scrypt_kdf.specs.Scrypt.{IsCost, IsTooLarge}
 use Rattle.scrypt_kdf.proofs.Costs.{IsCost-above, IsCost-from, IsCost-is_power}
@@ -30,10 +30,6 @@ each_of_four true true false d h = cc
 each_of_four true false c d h = cc
 each_of_four false b c d h = cc
 
-false_from : (b : Bool) → (b ≡ true → ⊥) → b ≡ false
-false_from true h = absurd (h refl)
-false_from false h = refl
-
 -- a table that isn't too large has at most 2^30 bytes
 table_fits : (n r : ℕ) → (IsTooLarge n r 1 → ⊥) → 128 * n * r ≤ 2 ^ 30
 table_fits n r fits = elim (cases_lt (2 ^ 30) (128 * n * r)) [ inl large ↦ absurd (fits (inl large)) | inr small ↦ small ]
@@ -56,14 +52,14 @@ is_good_cost-unrefused n r cost large =
 -- what is no cost isn't good
 pub is_good_cost-bad : (n r : ℕ) → (IsCost n r 1 → ⊥) → is_good_cost n r ≡ false
 unfolding is_good_cost
-is_good_cost-bad n r not = false_from _ (λ good.
+is_good_cost-bad n r not = false_from_ne_true _ (λ good.
     let p = each_of_four (is_power_of_two n) (nat_lt 1 n) (nat_lt 0 r) (nat_le (128 * n * r) (2 ^ 30)) good in
     not (IsCost-from n r 1 p.0 (ltb-true 1 n p.1) (ltb-true 0 r p.2) (omega arith)))
 
 -- a cost whose table is too large isn't good
 pub is_good_cost-large : (n r : ℕ) → IsCost n r 1 × IsTooLarge n r 1 → is_good_cost n r ≡ false
 unfolding is_good_cost
-is_good_cost-large n r large = false_from _ (λ good.
+is_good_cost-large n r large = false_from_ne_true _ (λ good.
     let p = each_of_four (is_power_of_two n) (nat_lt 1 n) (nat_lt 0 r) (nat_le (128 * n * r) (2 ^ 30)) good in
     let above = table_above n r (ltb-true 1 n p.1) large.1 in
     let within : 128 * n * r ≤ 2 ^ 30 = leb-true (128 * n * r) (2 ^ 30) p.3 in

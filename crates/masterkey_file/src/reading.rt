@@ -138,7 +138,7 @@ impl Error for KeyFileErr {}
 /// Reads the vault's keys from the bytes of its masterkey file: a JSON object with scrypt's salt, cost and block size and the
 /// two keys, each wrapped (RFC 3394) under a key of 32 bytes that scrypt (RFC 7914) makes of the password with one part.
 /// Every other member is ignored, `version` and `versionMac` too. `password` is UTF-8 in the form NFC, as the function `password`
-/// gives it. `KeyFileErr` tells each error's cause, in the order of the tests.
+/// returns it. `KeyFileErr` tells each error's cause, in the order of the tests.
 pub fn read(alloc: Global, bytes: &[u8], password: &[u8]) -> Result<VaultKeys, KeyFileErr>
     ensures keys { IfOk result (λ keys. keys_of bytes.now password.now ≡ Ok keys) }
     ensures fault { IfErr result (λ e. IsFault e (keys_of bytes.now password.now)) }

@@ -1,5 +1,5 @@
 -- The signed configuration of a vault (Cryptomator's vault format 8, `vault.cryptomator`).
-use Rattle.std.specs.Prelude.{ℕ, List, ◌∷◌, ◌++◌, length, Bool, false, ◌&&◌, not, Option, Some, None, option_and_then, Result, Ok, Err, codes, decimal, ◌==◌, nat_lt, nat_le, if◌then◌else◌}
+use Rattle.std.specs.Prelude.{ℕ, List, ◌∷◌, ◌++◌, length, Bool, false, ◌&&◌, not, Option, Some, None, option_and_then, Result, Err, codes, decimal, ◌==◌, nat_lt, nat_le, if◌then◌else◌}
 use Rattle.std.specs.Option.{option_map_or, ok_or}
 use Rattle.std.specs.Str.{bytes_eq}
 use Rattle.base64.specs.GeneralPurpose.{encode_of}

@@ -13,6 +13,9 @@ pub(crate) const COMBO: &str = "SIV_GCM";
 /// The highest threshold, in characters: a sealed name of the host may have no more.
 pub const MAX_THRESHOLD: u32 = 250;
 
+// The same, as claims have integers of 64 bits.
+const MAX_CLAIMED_THRESHOLD: u64 = MAX_THRESHOLD as u64;
+
 // The threshold that claims say, tested in the order format, combination, threshold.
 pub(crate) fn check_claims(claims: &Object) -> Result<u32, ConfigErr>
     ensures { MatchResult result (λ n. claims_checked claims.now ≡ Ok n) (λ e. IsFault e (claims_checked claims.now)) }
@@ -40,7 +43,7 @@ fn threshold_of(claims: &Object) -> Result<u32, ConfigErr>
     ensures { MatchResult result (λ n. threshold_of claims.now ≡ Ok n) (λ e. IsFault e (threshold_of claims.now)) }
 {
     match claims.integer(ClaimName::ShorteningThreshold.json_name()) {
-        Some(threshold @ 1..=250) => Ok(threshold as u32),
+        Some(threshold @ 1..=MAX_CLAIMED_THRESHOLD) => Ok(threshold as u32),
         _ => Err(ConfigErr::Claim(ClaimName::ShorteningThreshold)),
     }
 }

@@ -6,46 +6,21 @@ use Rattle.siv_mode.specs.Keys.{KeyPair}
 use Rattle.json_members.specs.Steps.{result_and_then}
 use Rattle.masterkey_file.specs.KeyFile.{keys_of}
 use Rattle.masterkey_file.specs.Password.{password_of}
-use Rattle.masterkey_file.specs.Faults.{IsFault as IsKeyFault}
 use Rattle.masterkey_file.specs.declared.secret.PasswordErr.{PasswordErr}
 use Rattle.masterkey_file.specs.declared.secret.PasswordErr.TheVariants as password_errors
-use Rattle.masterkey_file.specs.declared.reading.KeyFileErr.{KeyFileErr}
 use Rattle.masterkey_file.specs.declared.reading.KeyFileErr.TheVariants as key_errors
 use Rattle.masterkey_file.specs.KeyFile as masterkey
 use Rattle.vault_config.specs.Config as config
 use Rattle.vault_config.specs.Config.{config_of}
-use Rattle.vault_config.specs.Faults.{IsFault as IsConfigFault}
-use Rattle.vault_config.specs.declared.config.ConfigErr.{ConfigErr}
 use Rattle.vault_config.specs.declared.config.ConfigErr.TheVariants as config_errors
-use Rattle.vault_keys.specs.Unlock.{FoundFile, file, UnlockedVault, Cause, bad_secret, bad_masterkey_file, bad_vault_file, bytes_in, masterkey_opened, vault_opened, keys_found, unlocked}
-use Rattle.vault_keys.specs.Errors.{IsCause, of_key_file, of_config, of_password}
+use Rattle.vault_keys.specs.Unlock.{FoundFile, file, UnlockedVault, Cause, bad_secret, bad_vault_file, bytes_in, masterkey_opened, vault_opened, keys_found, unlocked}
+use Rattle.vault_keys.specs.Errors.{IsCause, of_password}
 use Rattle.vault_keys.specs.declared.errors.UnlockErr.{UnlockErr}
 use Rattle.vault_keys.specs.declared.errors.UnlockErr.TheVariants.{BadSecret, NoMasterkeyFile, MasterkeyFile, NoVaultFile, VaultFile, Memory}
-
--- a masterkey file's fault is a cause
-pub IsCause-key_file : (e : KeyFileErr) (found : Result KeyPair masterkey.Fault) → IsKeyFault e found → IsCause (of_key_file e) (result_map_both (λ (keys : KeyPair). keys) bad_masterkey_file found)
-IsCause-key_file (key_errors.TooLong n) found h = ap (result_map_both (λ (keys : KeyPair). keys) bad_masterkey_file) h
-IsCause-key_file key_errors.NotJson found h = ap (result_map_both (λ (keys : KeyPair). keys) bad_masterkey_file) h
-IsCause-key_file (key_errors.Field name) found h = ap (result_map_both (λ (keys : KeyPair). keys) bad_masterkey_file) h
-IsCause-key_file key_errors.Cost found h = ap (result_map_both (λ (keys : KeyPair). keys) bad_masterkey_file) h
-IsCause-key_file key_errors.WrongPassword found h = ap (result_map_both (λ (keys : KeyPair). keys) bad_masterkey_file) h
-IsCause-key_file key_errors.Memory found h = tt
 
 -- a configuration's threshold with the keys
 abbrev pub with_keys : KeyPair → Result ℕ config.Fault → Result UnlockedVault Cause
 with_keys keys found = result_map_both (λ n. record { keys = keys; threshold = n }) bad_vault_file found
-
--- a configuration's fault is a cause
-pub IsCause-config : (e : ConfigErr) (keys : KeyPair) (found : Result ℕ config.Fault) → IsConfigFault e found → IsCause (of_config e) (with_keys keys found)
-IsCause-config (config_errors.TooLong n) keys found h = ap (with_keys keys) h
-IsCause-config config_errors.NotToken keys found h = ap (with_keys keys) h
-IsCause-config config_errors.Algorithm keys found h = ap (with_keys keys) h
-IsCause-config config_errors.Kid keys found h = ap (with_keys keys) h
-IsCause-config config_errors.BadSignature keys found h = ap (with_keys keys) h
-IsCause-config (config_errors.Claim name) keys found h = ap (with_keys keys) h
-IsCause-config (config_errors.Format n) keys found h = ap (with_keys keys) h
-IsCause-config config_errors.Combo keys found h = ap (with_keys keys) h
-IsCause-config config_errors.Memory keys found h = tt
 
 -- a cause stays one, whatever would have come behind it
 pub IsCause-then : {A B : Type 0} (e : UnlockErr) (found : Result A Cause) (rest : A → Result B Cause) → IsCause e found → IsCause e (result_and_then rest found)

@@ -8,6 +8,8 @@
 //!
 //! Whoever reads the files one after the other calls `open_masterkey_file` and `open_vault_file`: the second file isn't looked at
 //! before the first one opened. Not promised: constant time, and that secrets and keys are wiped from memory.
+//!
+//! Laws: `a_bad_secret_is_told_first`, `the_vault_file_waits` and `long_files_are_too_long`, which do nothing.
 #![tactic(auto)]
 
 mod errors;

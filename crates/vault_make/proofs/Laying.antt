@@ -109,7 +109,3 @@ installed a b c d place p q masterkey config e f has synced move last =
 
 pub last_of : (a b c : Option Log) (P : Log → Log → Type 0) (R : Log → Type 0) → Changes a b P → Changes b c (λ old new. R new) → Changes a c (λ old new. R new)
 last_of a b c P R first second = through a b c P (λ old new. R new) (λ old new. R new) (λ x y z p q. q) first second
-
-pub empty_after : (a b : Option Log) → Told a (λ log. IsEmpty (now log)) → Syncs a b → Told b (λ log. IsEmpty (now log))
-empty_after a b empty synced =
-    told_after a b (λ log. IsEmpty (now log)) HasSynced (λ log. IsEmpty (now log)) (λ old new is sync. subst IsEmpty (sym sync.same) is) empty synced

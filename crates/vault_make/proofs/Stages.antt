@@ -48,9 +48,6 @@ bare_bottom d a b empty = none_below d (bottom a b) empty.tree (bare_middle d a 
 bare_below : (d : Disk) (a b name : List ℕ) → IsEmpty d → node_at d (bottom a b ++ name ∷ []) ≡ None
 bare_below d a b name empty = none_below d (bottom a b ++ name ∷ []) empty.tree (bare_bottom d a b empty)
 
-pub can_top : (d : Disk) → IsEmpty d → CanDo (MakeDir top) d
-can_top d empty = record { inside = empty.tree.top; free = inl (ap is_some (bare_top d empty)) }
-
 pub can_middle : (d : Disk) (a : List ℕ) → IsEmpty d → CanDo (MakeDir (middle a)) (with_top d)
 can_middle d a empty = record {
   inside = set_here d top (Some folder) top refl;
@@ -113,17 +110,11 @@ pub new_beside_config : new_config_place ≢ config_place
 unfolding byte_of
 new_beside_config e = not_same 0 46 (lit< tt) (sym (ap (byte_of 17) e))
 
-masterkey_below : codes "masterkey.cryptomator" ≢ top_name
-masterkey_below e = not_same 100 109 (lit< tt) (sym (ap (λ (l : List ℕ). get_or l 0 0) e))
-
 pub config_below : codes "vault.cryptomator" ≢ top_name
 config_below e = not_same 100 118 (lit< tt) (sym (ap (λ (l : List ℕ). get_or l 0 0) e))
 
 new_below : codes "vault.cryptomator.new" ≢ top_name
 new_below e = not_same 100 118 (lit< tt) (sym (ap (λ (l : List ℕ). get_or l 0 0) e))
-
-pub can_put_masterkey : (d : Disk) (place : Path) (bytes : List ℕ) → HasRoot place d → CanDo (Put masterkey_place bytes) d
-can_put_masterkey d place bytes has = record { inside = has.root.top; free = inl (ap is_some (has.free (codes "masterkey.cryptomator") masterkey_below)) }
 
 pub can_put_config : (d : Disk) (place : Path) (masterkey bytes : List ℕ) → HasRoot place d → CanDo (Put new_config_place bytes) (done (Put masterkey_place masterkey) d)
 can_put_config d place masterkey bytes has = record {

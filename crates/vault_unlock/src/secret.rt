@@ -87,7 +87,7 @@ pub fn read_keys<S: Source>(secret: &mut S) -> Result<VaultKeys, SecretErr>
     }
 }
 
-/// Reads a line of at most as many bytes as `line` has room for into its front, and gives their number. It takes the line's LF, or its
+/// Reads a line of at most as many bytes as `line` has room for into its front, and returns their number. It takes the line's LF, or its
 /// first byte too many, and none after it.
 fn read_line<S: Source>(secret: &mut S, line: &mut [u8]) -> Result<usize, SecretErr>
     ensures count { IfOk result (λ count. count ≤ length line.old) }

@@ -1,4 +1,3 @@
-use Rattle.std.proofs.Common.{sym, subst}
 use Rattle.std.proofs.lemmas.Result.{err_from_is_err_and}
 use Rattle.masterkey_file.specs.Steps.{fields_data}
 use Rattle.masterkey_file.proofs.Members.{IsFault-keys, keys_of-fields}
