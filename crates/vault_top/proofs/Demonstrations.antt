@@ -110,8 +110,7 @@ module _ {D N C E : Type 0} (start : Rows → Origin → Type 0) (since : Folder
         served = well.served;
         many = sym counts.sessions ∙ is.sessions_are;
         done = all_done ends (sym counts.done ∙ is.done ∙ sym is.sessions_are ∙ counts.sessions);
-        running = well.running;
-        on_disk = well.on_disk;
+        closed = well.closed;
         count = few_entries kept.entries (length h.joined.entries) (sym is.entries ∙ h.asked ∙ h.joined.right.stands.count) is.few ∙ sym well.count;
       }
 
@@ -151,7 +150,7 @@ module _ (d : Demonstration) (secret : Course SourceView) (folder : Holding) (ke
       unlocked_keys secret.before.left (key_line d.seed) (disk_in (Some folder.log)) whole.served.vault keys (ap (λ (s : SourceView). s.left) secret_is) keys_are whole.served.unlocked.gave
       in
       let shows : HasTree (sealing_of keys) (now kept.folder.log) (rows_at history.rows history.entries (length history.entries)) =
-      subst (λ (k : KeyPair). HasTree (sealing_of k) (now kept.folder.log) (rows_at history.rows history.entries (length history.entries))) same whole.on_disk.shows
+      subst (λ (k : KeyPair). HasTree (sealing_of k) (now kept.folder.log) (rows_at history.rows history.entries (length history.entries))) same whole.closed.on_disk.shows
       in
       let summed = sums (rows_after history.rows history.entries) (subst (λ (r : Rows). HasTree (sealing_of keys) (now kept.folder.log) r) (rows_at-all history.rows history.entries) shows) in
       record {

@@ -1,5 +1,5 @@
 -- What is handed back after serving.
-use Rattle.std.proofs.Common.{◌≡◌, ◌⊎◌, ℕ, ◌≤◌, List, [], length, min, Option, Some, None, IsSome, IsNone, Result, Ok, Err, IsErr, OnOk, OnErr, refl, sym, subst, inl, inr, true≢false}
+use Rattle.std.proofs.Common.{◌≡◌, ◌⊎◌, ℕ, ◌≤◌, List, [], length, min, Option, Some, None, IsSome, IsNone, Result, Ok, Err, IsErr, OnOk, OnErr, refl, sym, ap, subst, inl, inr, true≢false}
 use Rattle.std.specs.Prelude.{IfSome, option_map}
 use Rattle.outside.specs.declared.stream.Failed.{Failed}
 use Rattle.outside.specs.Calls.{Changes, Rose}
@@ -20,7 +20,8 @@ use Rattle.store_history.specs.Turns.{IsFlushed, draws_for}
 use Rattle.vault_store.specs.Open.{OpenVault, idle_of}
 use Rattle.vault_top.specs.Span.{Views}
 use Rattle.vault_top.specs.Sharing.{IsSharedStore}
-use Rattle.vault_top.specs.Serving.{HasOutcome, HasServed, IsClosing, IsCutOff, IsUnasked}
+use Rattle.vault_top.specs.Served.{IsClosing, IsCutOff}
+use Rattle.vault_top.specs.Serving.{HasOutcome, HasServed, IsUnasked}
 use Rattle.vault_top.specs.declared.serving.HandedBack.{HandedBack}
 use Rattle.vault_top.specs.declared.task.Service.{Service}
 
@@ -38,7 +39,7 @@ pub served_all : {T D N C E : Type 0} (stands : T → Rows → Origin → List E
     (tree : T) (store : OpenVault D) (counts : Result SessionCounts Failed) (back : HandedBack D) (folder : D) (at_once : ℕ) → at_once ≡ min service.at_once (length workers)
     → (rows : Rows) × (origin : Origin) × start rows origin × IsJoined stands draws_for views.listener views.entropy views.link second service.sessions at_once rows origin tree workers workers' counts
     → ((rows : Rows) (origin : Origin) (history : List Entry) → stands tree rows origin history → IsSharedStore views.folder since store rows origin history)
-    → back.folder ≡ Some folder → (closing : Result (Unit {0}) Failed) → IsClosing views.folder store folder closing
+    → back.folder ≡ Some folder → (closing : Result (Unit {0}) Failed) → IsClosing store.store (views.folder store.folder) (views.folder folder) closing
     → HasOutcome counts closing back.outcome → back.entries ≡ store.store.entries
     → (ends : List SessionEnd) × HasServed start since views second service workers workers' ends back
 served_all stands start since views second service workers workers' tree store counts back folder at_once few (rows, origin, begins, j) right is closing closed outcome asked = (
@@ -75,7 +76,7 @@ served_all stands start since views second service workers workers' tree store c
 pub closing_of : {D X : Type 0} (view : D → FolderView) (vault : OpenVault D) (folder : D) (closing : Result X Failed) → (view vault.folder).faults ≤ (view folder).faults
     → (IsNone vault.store.stopped → OnOk closing (IsFlushed vault.store (idle_of vault.store) (view vault.folder) (view folder)))
     → (IsSome vault.store.stopped → (folder ≡ vault.folder) × IsErr closing) → (IsNone vault.store.stopped → Changes (view vault.folder).log (view folder).log (AnyMoment vault.store.waiting))
-    → (IsErr closing → IsSome vault.store.stopped ⊎ Rose (view vault.folder).faults (view folder).faults) → IsClosing view vault folder closing
+    → (IsErr closing → IsSome vault.store.stopped ⊎ Rose (view vault.folder).faults (view folder).faults) → IsClosing vault.store (view vault.folder) (view folder) closing
 closing_of {X = X} view vault folder closing later flushed stopped moments cause = record { later = later; well = well closing flushed stopped; badly = badly closing stopped moments cause }
   where
     some_or_none : (o : Option ℕ) → IsNone o ⊎ IsSome o
@@ -91,12 +92,12 @@ closing_of {X = X} view vault folder closing later flushed stopped moments cause
     well (Err failed) flushed stopped = tt
 
     badly : (r : Result X Failed) → (IsSome vault.store.stopped → (folder ≡ vault.folder) × IsErr r) → (IsNone vault.store.stopped → Changes (view vault.folder).log (view folder).log (AnyMoment vault.store.waiting))
-        → (IsErr r → IsSome vault.store.stopped ⊎ Rose (view vault.folder).faults (view folder).faults) → OnErr r ((IsSome vault.store.stopped × (folder ≡ vault.folder)) ⊎ IsCutOff view vault folder)
+        → (IsErr r → IsSome vault.store.stopped ⊎ Rose (view vault.folder).faults (view folder).faults) → OnErr r ((IsSome vault.store.stopped × (view folder ≡ view vault.folder)) ⊎ IsCutOff vault.store (view vault.folder) (view folder))
     badly (Ok done) stopped moments cause = tt
     badly (Err failed) stopped moments cause = elim (some_or_none vault.store.stopped) [
-      | inr some ↦ inl (some, (stopped some).0)
+      | inr some ↦ inl (some, ap view (stopped some).0)
       | inl none ↦ elim (cause refl) [
-        | inl some ↦ inl (some, (stopped some).0)
+        | inl some ↦ inl (some, ap view (stopped some).0)
         | inr rose ↦ inr (record { running = none; moments = moments none; rose = rose })
       ]
     ]

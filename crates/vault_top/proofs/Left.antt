@@ -16,9 +16,8 @@ use Rattle.store_history.specs.Turns.{IsFlushed}
 use Rattle.store_history.proofs.Ends.{closings_recover, stores_recover, stores_are_whole}
 use Rattle.store_history.proofs.Flushed.{flushes_stand}
 use Rattle.store_history.proofs.Placed.{goes_nowhere}
-use Rattle.vault_store.specs.Open.{OpenVault, idle_of}
-use Rattle.vault_top.specs.Served.{HasStops}
-use Rattle.vault_top.specs.Serving.{IsClosing, IsCutOff}
+use Rattle.vault_store.specs.Open.{idle_of}
+use Rattle.vault_top.specs.Served.{HasStops, IsClosing, IsCutOff}
 use Rattle.vault_top.proofs.Faults.{rose_within}
 
 -- ---- a commit that failed
@@ -61,18 +60,18 @@ left_by before after store rows origin entries is = let recover = stores_recover
 
 -- ---- a vault that was closed
 
-module _ {D : Type 0} (view : D → FolderView) (before : FolderView) (vault : OpenVault D) (folder : D) (rows : Rows) (origin : Origin) (entries : List Entry) (is : IsStoreOf before.log vault.store (view vault.folder) rows origin entries) where
+module _ (before : FolderView) (store : StoreView) (back folder : FolderView) (rows : Rows) (origin : Origin) (entries : List Entry) (is : IsStoreOf before.log store back rows origin entries) where
   -- what waited was committed
-  flushed : IsFlushed vault.store (idle_of vault.store) (view vault.folder) (view folder) → IsStoreOf before.log (idle_of vault.store) (view folder) rows origin entries
-  flushed done = flushes_stand vault.store (idle_of vault.store) (view vault.folder) (view folder) done before.log rows origin entries is
+  flushed : IsFlushed store (idle_of store) back folder → IsStoreOf before.log (idle_of store) folder rows origin entries
+  flushed done = flushes_stand store (idle_of store) back folder done before.log rows origin entries is
 
   -- that failed
-  cut_off : IsCutOff view vault folder → (view vault.folder).faults ≤ (view folder).faults → Leaves vault.store.keys rows origin entries before (view folder)
+  cut_off : IsCutOff store back folder → back.faults ≤ folder.faults → Leaves store.keys rows origin entries before folder
   cut_off cut later =
-      let short = closings_recover before.log vault.store (view vault.folder) (view folder) rows origin entries is cut.running cut.moments in
+      let short = closings_recover before.log store back folder rows origin entries is cut.running cut.moments in
       record {
         caused = is.caused;
-        legal = told_before before.log (view vault.folder).log _ _ (IsLegal rows origin entries) is.grown is.stored (λ log stored. record { caused = is.caused; answered = stored.answered });
+        legal = told_before before.log back.log _ _ (IsLegal rows origin entries) is.grown is.stored (λ log stored. record { caused = is.caused; answered = stored.answered });
         placed = short.placed;
         opened = short.opened;
         stops = record { grown = short.grown; recover = short.recover.stops; begun = short.recover.begun };
@@ -80,30 +79,30 @@ module _ {D : Type 0} (view : D → FolderView) (before : FolderView) (vault : O
         moment = short.moment;
       }
 
-  not_closed : (IsSome vault.store.stopped × (folder ≡ vault.folder)) ⊎ IsCutOff view vault folder → (view vault.folder).faults ≤ (view folder).faults → Leaves vault.store.keys rows origin entries before (view folder)
-  not_closed (inl same) later = subst (λ (d : D). Leaves vault.store.keys rows origin entries before (view d)) (sym same.1) (left_by before (view vault.folder) vault.store rows origin entries is)
+  not_closed : (IsSome store.stopped × (folder ≡ back)) ⊎ IsCutOff store back folder → back.faults ≤ folder.faults → Leaves store.keys rows origin entries before folder
+  not_closed (inl same) later = subst (λ (v : FolderView). Leaves store.keys rows origin entries before v) (sym same.1) (left_by before back store rows origin entries is)
   not_closed (inr cut) later = cut_off cut later
 
-  pub left_closed : {X : Type 0} (closing : Result X Failed) → IsClosing view vault folder closing → Leaves vault.store.keys rows origin entries before (view folder)
-  left_closed (Ok done) how = left_by before (view folder) (idle_of vault.store) rows origin entries (flushed how.well)
+  pub left_closed : {X : Type 0} (closing : Result X Failed) → IsClosing store back folder closing → Leaves store.keys rows origin entries before folder
+  left_closed (Ok done) how = left_by before folder (idle_of store) rows origin entries (flushed how.well)
   left_closed (Err failed) how = not_closed how.badly how.later
 
   -- closed well, no commit had failed, and all entries are on the disk
-  pub none_failed : {X : Type 0} (closing : Result X Failed) → IsClosing view vault folder closing → IsOk closing → IsNone (tally_of origin entries).stopped
-  none_failed (Ok done) how ok = none_stopped (tally_of origin entries).stopped vault.store.stopped is.stopped how.well.running
+  pub none_failed : {X : Type 0} (closing : Result X Failed) → IsClosing store back folder closing → IsOk closing → IsNone (tally_of origin entries).stopped
+  none_failed (Ok done) how ok = none_stopped (tally_of origin entries).stopped store.stopped is.stopped how.well.running
   none_failed (Err failed) how ok = absurd (true≢false (sym ok))
 
-  pub whole_closed : {X : Type 0} (closing : Result X Failed) → IsClosing view vault folder closing → IsOk closing → Told (view folder).log (λ log. IsWhole (shows_under vault.store.keys) rows entries log)
+  pub whole_closed : {X : Type 0} (closing : Result X Failed) → IsClosing store back folder closing → IsOk closing → Told folder.log (λ log. IsWhole (shows_under store.keys) rows entries log)
   whole_closed (Ok done) how ok =
-      stores_are_whole before.log (idle_of vault.store) (view folder) rows origin entries (flushed how.well) refl (none_stopped (tally_of origin entries).stopped vault.store.stopped is.stopped how.well.running)
+      stores_are_whole before.log (idle_of store) folder rows origin entries (flushed how.well) refl (none_stopped (tally_of origin entries).stopped store.stopped is.stopped how.well.running)
   whole_closed (Err failed) how ok = absurd (true≢false (sym ok))
 
   -- closed badly, one had, or the folder failed since
-  pub failed_closed : {X : Type 0} (closing : Result X Failed) → IsClosing view vault folder closing → IsErr closing → IsSome (tally_of origin entries).stopped ⊎ Rose (tally_of origin entries).folder_faults (view folder).faults
+  pub failed_closed : {X : Type 0} (closing : Result X Failed) → IsClosing store back folder closing → IsErr closing → IsSome (tally_of origin entries).stopped ⊎ Rose (tally_of origin entries).folder_faults folder.faults
   failed_closed (Ok done) how bad = absurd (true≢false (sym bad))
   failed_closed (Err failed) how bad = elim how.badly [
-    | inl same ↦ inl (some_stopped (tally_of origin entries).stopped vault.store.stopped is.stopped same.0)
-    | inr cut ↦ inr (rose_within (tally_of origin entries).folder_faults (view vault.folder).faults (view folder).faults (view folder).faults is.faults how.later (omega arith) cut.rose)
+    | inl same ↦ inl (some_stopped (tally_of origin entries).stopped store.stopped is.stopped same.0)
+    | inr cut ↦ inr (rose_within (tally_of origin entries).folder_faults back.faults folder.faults folder.faults is.faults how.later (omega arith) cut.rose)
   ]
 
 -- ---- nothing is said of a folder that is as it was, where the history's moment is still to come

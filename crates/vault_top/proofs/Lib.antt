@@ -18,3 +18,4 @@ pub mod SoundDemo
 pub mod SoundWords
 pub mod SoundServing
 pub mod SoundStatus
+pub mod NewVaults

@@ -13,7 +13,7 @@ use Rattle.session_workers.specs.declared.counts.SessionCounts.{SessionCounts}
 use Rattle.session_workers.specs.Workers.{MayStop, ListenerFailed, SomeFailed}
 use Rattle.shared_sessions.specs.declared.workers.Worker.{Worker}
 use Rattle.stop_history.specs.Prefix.{IsWhole}
-use Rattle.store_history.specs.Store.{moment_of, shows_under}
+use Rattle.store_history.specs.Store.{IsStoreOf, moment_of, shows_under}
 use Rattle.store_history.specs.Ends.{IsFoundClear}
 use Rattle.vault_unlock.specs.Secret.{IsAfterLine}
 use Rattle.vault_unlock.specs.Unlock.{IsUnlocking}
@@ -25,11 +25,11 @@ use Rattle.vault_causes.specs.declared.cause.Cause.TheVariants.{Words, Memory}
 use Rattle.vault_top.specs.Words.{Ask, AreRefused, kind_of}
 use Rattle.vault_top.specs.Tasks.{IsServiceOf}
 use Rattle.vault_top.specs.Span.{Course, SourceView, SinkView, Views, WorkerSpan, Span, worker_spans, given_of, span_of}
-use Rattle.vault_top.specs.Served.{AreShares, IsOnDisk}
+use Rattle.vault_top.specs.Served.{AreShares, IsClosing}
 use Rattle.vault_top.specs.Sharing.{IsSharedStore, AreBeginnings, IsBegun, IsAlone}
 use Rattle.vault_top.specs.Opening.{IsUnlocked, IsUnopened, IsUnlockedStore}
-use Rattle.vault_top.specs.Ending.{Ending, refused, no_memory_to_serve, AreIdle, IsUntouched, IsMaking, DrawsAlone, IsServed, IsServedTo, IsUnshared, Never, stopped_in, HasReason, IsReported, HasRun}
-use Rattle.vault_top.specs.Serving.{HasOutcome, HasServedAll, HasServed, HasServedVault, IsClosing, IsUnasked, MayEnd}
+use Rattle.vault_top.specs.Ending.{Ending, refused, no_memory_to_serve, AreIdle, IsUntouched, IsMaking, DrawsAlone, IsServed, IsServedTo, IsClosedWell, IsUnshared, Never, HasReason, IsReported, HasRun}
+use Rattle.vault_top.specs.Serving.{HasOutcome, HasServedAll, HasServed, HasServedVault, IsUnasked, MayEnd}
 use Rattle.vault_top.specs.declared.program.Ended.{Ended}
 use Rattle.vault_top.specs.declared.serving.HandedBack.{HandedBack}
 use Rattle.vault_top.specs.declared.serving.Outcome.{Outcome}
@@ -62,21 +62,24 @@ module _ {D : Type 0} (since : FolderView → KeyPair → Rows → Type 0) (view
   later : (view folder).faults ≤ (view store.folder).faults
   later = subst (λ (v : FolderView). v.faults ≤ (view store.folder).faults) begun.folder_is right.faults
 
+  stands_since : IsStoreOf (view folder).log store.store (view store.folder) rows origin entries
+  stands_since = subst (λ (v : FolderView). IsStoreOf v.log store.store (view store.folder) rows origin entries) begun.folder_is right.stands
+
   -- of a vault that was closed
-  module _ (kept : D) (closing : Result (Unit {0}) Failed) (how : IsClosing view store kept closing) where
+  module _ (kept : D) (closing : Result (Unit {0}) Failed) (how : IsClosing store.store (view store.folder) (view kept) closing) where
     leaves_closed : Leaves begun.vault.keys rows origin entries (view folder) (view kept)
-    leaves_closed = begins_at (view kept) (left_closed view right.start store kept rows origin entries right.stands closing how)
+    leaves_closed = begins_at (view kept) (left_closed right.start store.store (view store.folder) (view kept) rows origin entries right.stands closing how)
 
     none_closed : IsOk closing → IsNone (tally_of origin entries).stopped
-    none_closed ok = none_failed view right.start store kept rows origin entries right.stands closing how ok
+    none_closed ok = none_failed right.start store.store (view store.folder) (view kept) rows origin entries right.stands closing how ok
 
     whole_under : IsOk closing → Told (view kept).log (λ log. IsWhole (shows_under begun.vault.keys) rows entries log)
     whole_under ok =
         subst (λ (keys : KeyPair). Told (view kept).log (λ log. IsWhole (shows_under keys) rows entries log)) (sym begun.keys_are)
-        (whole_closed view right.start store kept rows origin entries right.stands closing how ok)
+        (whole_closed right.start store.store (view store.folder) (view kept) rows origin entries right.stands closing how ok)
 
     failed_under : IsErr closing → IsSome (tally_of origin entries).stopped ⊎ Rose (tally_of origin entries).folder_faults (view kept).faults
-    failed_under bad = failed_closed view right.start store kept rows origin entries right.stands closing how bad
+    failed_under bad = failed_closed right.start store.store (view store.folder) (view kept) rows origin entries right.stands closing how bad
 
 unlocked_by : {D : Type 0} (view : D → FolderView) (secret : Course SourceView) (second : Option ℕ) (folder kept : D) (serving : Serving) (service : Service) (keys : KeyPair) (was : FolderView) (rows : Rows) → IsServiceOf serving service
     → Changes secret.before.left secret.after.left IsAfterLine → (begun : IsBegun service.kind (view folder) secret.before second was keys rows)
@@ -94,8 +97,7 @@ clear_by kind folder secret second keys was rows begun =
 -- every worker served its share of a vault that was closed well
 pub record HasServedWell {D N C E : Type 0} (views : Views D N C E) (span : Span C) (kind : SecretKind) (sessions sharing : ℕ) (ends : List SessionEnd) (entries : ℕ) : Type 0 where
   pub served : IsServedTo views span kind sessions sharing Never ends
-  pub running : IsNone (stopped_in served.history)
-  pub on_disk : IsOnDisk served.history
+  pub closed : IsClosedWell served.history
   pub count : length served.history.entries ≡ entries
 
 -- a service that has ended, of whatever words
@@ -145,6 +147,15 @@ module _ {D N C E : Type 0} (start : Rows → Origin → Type 0) (since : Folder
           clear = clear_by service.kind (views.folder folder) secret.before second h.store.store.keys joined.right.start h.rows begun;
           second = begun.at_second;
           opened = left.opened;
+          handed_back = record {
+            store = h.store.store;
+            keys_are = sym begun.keys_are;
+            folder = views.folder h.store.folder;
+            later = later since views.folder service.kind secret.before second folder h.store h.rows h.origin joined.entries joined.right begun;
+            stands = stands_since since views.folder service.kind secret.before second folder h.store h.rows h.origin joined.entries joined.right begun;
+            closing = h.closing;
+            closed = h.closed;
+          };
           stops = left.stops;
         };
         ended = h.ended;
@@ -165,7 +176,7 @@ module _ {D N C E : Type 0} (start : Rows → Origin → Type 0) (since : Folder
   pub served_well : (h : HasServedAll start since views second service workers workers' ends back) → ((worker : WorkerSpan C) → MayStop h.counts worker → Never worker) → IsOk h.closing
       → HasServedWell views (span_of views words secret second folder h.folder workers workers') service.kind service.sessions (min service.at_once (length workers)) ends (length h.joined.entries)
   unfolding served_to begun_as
-  served_well h only ok = record { served = served_to Never h only; running = none_in h ok; on_disk = whole_in h ok; count = refl }
+  served_well h only ok = record { served = served_to Never h only; closed = record { closed = ok; running = none_in h ok; on_disk = whole_in h ok }; count = refl }
 
   failed_in : (h : HasServedAll start since views second service workers workers' ends back) → IsErr h.closing
       → IsSome (tally_of h.origin h.joined.entries).stopped ⊎ Rose (tally_of h.origin h.joined.entries).folder_faults (views.folder h.folder).faults
@@ -201,26 +212,35 @@ module _ {D N C E : Type 0} (start : Rows → Origin → Type 0) (since : Folder
   reason_of (Served c) ending h is (inl e) =
       subst (λ (x : Ending). HasReason views (span_of views words secret second folder h.folder workers workers') x) (sym e) (
         served_of Never h (λ worker stop. subst (λ (r : Result SessionCounts Failed). MayStop r worker) is.0 stop),
-        none_in start since views words secret second folder service workers workers' ends back starts alone line h is.1,
-        whole_in start since views words secret second folder service workers workers' ends back starts alone line h is.1,
+        record {
+          closed = is.1;
+          running = none_in start since views words secret second folder service workers workers' ends back starts alone line h is.1;
+          on_disk = whole_in start since views words secret second folder service workers workers' ends back starts alone line h is.1;
+        },
       )
   reason_of (Served c) ending h is (inr e) =
       subst (λ (x : Ending). HasReason views (span_of views words secret second folder h.folder workers workers') x) (sym e) (
         served_of ListenerFailed h (may_stop h.counts),
-        none_in start since views words secret second folder service workers workers' ends back starts alone line h is.1,
-        whole_in start since views words secret second folder service workers workers' ends back starts alone line h is.1,
+        record {
+          closed = is.1;
+          running = none_in start since views words secret second folder service workers workers' ends back starts alone line h is.1;
+          on_disk = whole_in start since views words secret second folder service workers workers' ends back starts alone line h is.1;
+        },
       )
   reason_of ListenerFault ending h is e =
       subst (λ (x : Ending). HasReason views (span_of views words secret second folder h.folder workers workers') x) (sym e) (
         served_of ListenerFailed h (may_stop h.counts),
         on_error h.counts (SomeFailed (worker_spans views workers workers')) is.0 h.joined.failed,
-        none_in start since views words secret second folder service workers workers' ends back starts alone line h is.1,
-        whole_in start since views words secret second folder service workers workers' ends back starts alone line h is.1,
+        record {
+          closed = is.1;
+          running = none_in start since views words secret second folder service workers workers' ends back starts alone line h is.1;
+          on_disk = whole_in start since views words secret second folder service workers workers' ends back starts alone line h is.1;
+        },
       )
   reason_of FolderFault ending h is e =
       subst (λ (x : Ending). HasReason views (span_of views words secret second folder h.folder workers workers') x) (sym e) (
         served_of ListenerFailed h (may_stop h.counts),
-        failed_in start since views words secret second folder service workers workers' ends back starts alone line h is,
+        record { failed = is; cause = failed_in start since views words secret second folder service workers workers' ends back starts alone line h is },
       )
   reason_of NoMemory ending h is e = absurd is
 

@@ -1,28 +1,13 @@
 -- Shares of which more may have kept a worker.
-use Rattle.std.proofs.Common.{◌≡◌, ◌⊎◌, ℕ, suc, List, [], ◌∷◌, length, Option, Result, Ok, Err, inl, inr}
+use Rattle.std.proofs.Common.{ℕ, suc, List, [], ◌∷◌, Option, Result, Ok, Err}
 use Rattle.std.specs.Prelude.{IsErr, OnErr}
 use Rattle.outside.specs.declared.stream.Failed.{Failed}
-use Rattle.outside.specs.Views.{LinkView, ListenerView}
-use Rattle.outside.proofs.Told.{changed_by}
-use Rattle.session_server.specs.Served.{ServedLink, GaveBack}
+use Rattle.outside.specs.Views.{LinkView}
 use Rattle.session_workers.specs.declared.counts.SessionCounts.{SessionCounts}
+use Rattle.session_workers.proofs.Sharing.{gave_as}
 use Rattle.session_workers.specs.Workers.{MayStop, ListenerFailed}
 use Rattle.vault_top.specs.Span.{WorkerSpan}
 use Rattle.vault_top.specs.Served.{Share, AreShares}
-
-weaker : {C : Type 0} (share : ℕ) (F G : Type 0) (links : List (ServedLink C)) (left : List C) → (F → G) → (length links ≡ share) ⊎ (left ≡ []) ⊎ F
-    → (length links ≡ share) ⊎ (left ≡ []) ⊎ G
-weaker share F G links left only (inl h) = inl h
-weaker share F G links left only (inr (inl h)) = inr (inl h)
-weaker share F G links left only (inr (inr h)) = inr (inr (only h))
-
--- what was given back, where what may have failed is more
-gave_as : {C : Type 0} (share : ℕ) (F G : Type 0) (before after : ListenerView C) (links : List (ServedLink C)) → (F → G) → GaveBack share F before after links → GaveBack share G before after links
-gave_as share F G before after links only h = record {
-  few = h.few;
-  came = changed_by before.to_come after.to_come _ _ (λ old new k. (k.0, weaker share F G links new only k.1)) h.came;
-  given = h.given;
-}
 
 pub shares_as : {C : Type 0} (link : C → LinkView) (second : Option ℕ) (P Q : WorkerSpan C → Type 0) (n m j : ℕ) (workers : List (WorkerSpan C)) (shares : List (Share C)) → ((worker : WorkerSpan C) → P worker → Q worker)
     → AreShares link second P n m j workers shares → AreShares link second Q n m j workers shares

@@ -162,7 +162,7 @@ sound views span no_memory_to_serve is faultless h = tt
 sound views span (served ends) is faultless h = tt
 sound views span (listener_fault ends) is faultless h = absurd (faultless.listeners h.1)
 sound views span (closing_fault ends) is faultless h =
-    absurd (faultless.folder (closing_rose span h.0.sessions.vault.keys h.0.sessions.shares h.0.sessions.history h.1))
+    absurd (faultless.folder (closing_rose span h.0.sessions.vault.keys h.0.sessions.shares h.0.sessions.history h.1.cause))
 sound views span (no_memory_to_report ends) is faultless h = tt
 sound views span (demonstrated text) is faultless h =
     let e : demo h.demonstration ≡ serve is.serving = one_job span.words (serve is.serving) (demo h.demonstration) is.words h.words.asks in absurd cc

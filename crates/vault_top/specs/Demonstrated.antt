@@ -25,7 +25,7 @@ worker_of seed requests client = record { listener = listener_of seed client req
 abbrev pub workers_of : ℕ → ℕ → ℕ → List (Worker Links Drawing)
 workers_of seed clients requests = map (worker_of seed requests) (range_with_len 0 clients)
 
--- what it is given and leaves: the clock stands at 0, and each client has a worker
+-- what it is given and leaves: the clock is at 0, and each client has a worker
 abbrev pub own_span : Demonstration → Course SourceView → Holding → Holding → List (Worker Links Drawing) → Span Ends
 own_span d secret folder kept workers' = span_of own_views [] secret (Some 0) folder kept (workers_of d.seed d.clients d.requests) workers'
 

@@ -21,8 +21,8 @@ use Rattle.vault_causes.specs.declared.cause.Cause.TheVariants.{Words, Memory}
 use Rattle.vault_top.specs.Words.{Ask, AreRefused, kind_of, sharers}
 use Rattle.vault_top.specs.Report.{line, sessions_line, TakesPart}
 use Rattle.vault_top.specs.Span.{Course, SourceView, SinkView, Views, WorkerSpan, Span, span_of}
-use Rattle.vault_top.specs.Served.{Share, HasHistory, HasStops, IsOnDisk}
-pub use Rattle.vault_top.specs.Sessions.{IsServedTo, Never, stopped_in}
+use Rattle.vault_top.specs.Served.{Share, HasStops}
+pub use Rattle.vault_top.specs.Sessions.{IsServedTo, IsClosedWell, IsClosedBadly, FailsAtTheEnd, Never, stopped_in}
 use Rattle.vault_top.specs.Demonstrated.{HasHeld}
 use Rattle.vault_top.specs.Opening.{IsUnlocked, IsUnopened}
 use Rattle.vault_top.specs.Making.{IsMade, IsNotMade}
@@ -113,10 +113,6 @@ abbrev pub IsRefused : {C : Type 0} → Span C → Cause → Type 0
 IsRefused span cause =
     IsBadlyAsked span cause ⊎ IsUnserved span cause ⊎ IsMaking span (λ entropy. IsNotMade span.given entropy cause)
 
--- the folder failed after the last entry, as what waited was committed
-abbrev pub FailsAtTheEnd : {C : Type 0} {span : Span C} {keys : KeyPair} {shares : List (Share C)} → HasHistory span keys shares → Type 0
-FailsAtTheEnd {span = span} history = Rose (tally_of history.origin history.entries).folder_faults span.given.folder.after.faults
-
 -- Why an ending comes. A fault at closing comes only where a commit failed, in an entry or of what waited in the end; after any other ending
 -- of a vault that was served none did, and all entries are on the disk.
 abbrev pub HasReason : {D N C E : Type 0} → Views D N C E → Span C → Ending → Type 0
@@ -125,10 +121,10 @@ HasReason views span usage_said = Ask span.words help × IsUntouched span
 HasReason views span version_said = Ask span.words version × IsUntouched span
 HasReason views span made = IsMaking span (λ entropy. IsMade span.given entropy)
 HasReason views span no_memory_to_serve = IsUnshared span
-HasReason views span (served ends) = (is : IsServed views span Never ends) × IsNone (stopped_in is.sessions.history) × IsOnDisk is.sessions.history
-HasReason views span (listener_fault ends) = (is : IsServed views span ListenerFailed ends) × SomeFailed span.workers × IsNone (stopped_in is.sessions.history) × IsOnDisk is.sessions.history
-HasReason views span (closing_fault ends) = (is : IsServed views span ListenerFailed ends) × (IsSome (stopped_in is.sessions.history) ⊎ FailsAtTheEnd is.sessions.history)
-HasReason views span (no_memory_to_report ends) = (is : IsServed views span ListenerFailed ends) × IsNone (stopped_in is.sessions.history) × IsOnDisk is.sessions.history
+HasReason views span (served ends) = (is : IsServed views span Never ends) × IsClosedWell is.sessions.history
+HasReason views span (listener_fault ends) = (is : IsServed views span ListenerFailed ends) × SomeFailed span.workers × IsClosedWell is.sessions.history
+HasReason views span (closing_fault ends) = (is : IsServed views span ListenerFailed ends) × IsClosedBadly is.sessions.history
+HasReason views span (no_memory_to_report ends) = (is : IsServed views span ListenerFailed ends) × IsClosedWell is.sessions.history
 HasReason views span (demonstrated line) = IsDemonstration span line
 
 -- ---- reports and statuses
@@ -183,14 +179,14 @@ IsReported sink ending status =
 -- ---- a run
 
 -- the folder is handed back; only where there was no memory to serve it may be lost with the vault
-abbrev pub IsHandedBack : {D : Type 0} → Ending → D → Option D → Type 0
-IsHandedBack ending kept folder = (folder ≡ Some kept) ⊎ ((folder ≡ None) × (ending ≡ no_memory_to_serve))
+abbrev pub IsGivenBack : {D : Type 0} → Ending → D → Option D → Type 0
+IsGivenBack ending kept folder = (folder ≡ Some kept) ⊎ ((folder ≡ None) × (ending ≡ no_memory_to_serve))
 
 -- the workers are those that they were, in their order: each is the one of its place
 pub record HasRun {D N C E : Type 0} (views : Views D N C E) (words : List (List ℕ)) (secret : Course SourceView) (second : Option ℕ) (folder : D) (workers workers' : List (Worker N E)) (sink : Course SinkView) (ended : Ended D) : Type 0 where
   pub ending : Ending
   pub kept : D
-  pub folder_is : IsHandedBack ending kept ended.folder
+  pub folder_is : IsGivenBack ending kept ended.folder
   pub count : length workers' ≡ length workers
   pub reason : HasReason views (span_of views words secret second folder kept workers workers') ending
   pub reported : IsReported sink ending ended.status

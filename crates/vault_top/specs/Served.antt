@@ -1,7 +1,8 @@
 -- What a vault that was served has done: each worker served its share of the sessions, and what was asked in all of them is one legal
 -- history of the tree that the vault's disk stands for.
-use Rattle.std.specs.Prelude.{◌≡◌, ◌⊎◌, ℕ, zero, suc, ◌*◌, ◌<◌, ◌≤◌, List, [], ◌∷◌, length, map, ⊤}
-use Rattle.outside.specs.Calls.{Changes, Told}
+use Rattle.std.specs.Prelude.{◌≡◌, ◌⊎◌, ℕ, zero, suc, ◌*◌, ◌<◌, ◌≤◌, List, [], ◌∷◌, length, map, Result, OnOk, OnErr, IsSome, IsNone, ⊤}
+use Rattle.outside.specs.declared.stream.Failed.{Failed}
+use Rattle.outside.specs.Calls.{Changes, Told, Rose}
 use Rattle.outside.specs.Images.{log_at, moment, now}
 use Rattle.outside.specs.Views.{FolderView}
 use Rattle.siv_mode.specs.Keys.{KeyPair}
@@ -13,12 +14,14 @@ use Rattle.shared_sessions.specs.Joined.{all_asked}
 use Rattle.shared_vault.specs.declared.TheConstants.{MOST_TICKETS}
 use Rattle.turn_lock.specs.declared.TheConstants.{TURN_LIMIT}
 use Rattle.shared_vault.specs.Clients.{AreDrawnFor}
+use Rattle.chunk_journal.specs.Journal.{AnyMoment}
 use Rattle.chunk_journal.specs.Opening.{HasOpened}
 use Rattle.stop_history.specs.Opening.{IsSoundlyFound}
 use Rattle.stop_history.specs.Prefix.{StopsRecover, BeginningRecovers, IsWhole}
-use Rattle.store_history.specs.Store.{ArePlaced, IsSaidFrom, LogGoesOn, moment_of, shows_under}
-use Rattle.store_history.specs.Turns.{draws_for}
+use Rattle.store_history.specs.Store.{StoreView, ArePlaced, IsSaidFrom, IsStoreOf, LogGoesOn, moment_of, shows_under}
+use Rattle.store_history.specs.Turns.{IsFlushed, draws_for}
 use Rattle.store_history.specs.Ends.{IsFoundClear}
+use Rattle.vault_store.specs.Open.{idle_of}
 use Rattle.vault_top.specs.Span.{WorkerSpan, Span}
 
 -- ---- callers
@@ -64,6 +67,31 @@ AreAllDrawn entries j [] = ⊤
 AreAllDrawn entries j (worker ∷ workers) =
     AreDrawnFor draws_for worker.entropy.before worker.entropy.after (map (λ entry. entry.made) (entries_of j entries)) × AreAllDrawn entries (suc j) workers
 
+-- ---- the store behind the lock
+
+-- the commit of what waited failed as a store was closed
+pub record IsCutOff (store : StoreView) (before after : FolderView) : Type 0 where
+  pub running : IsNone store.stopped
+  pub moments : Changes before.log after.log (AnyMoment store.waiting)
+  pub rose : Rose before.faults after.faults
+
+-- How a store was closed: what waited was committed; or an earlier commit had failed, and nothing more was done; or this one failed.
+pub record IsClosing {X : Type 0} (store : StoreView) (before after : FolderView) (closing : Result X Failed) : Type 0 where
+  pub later : before.faults ≤ after.faults
+  pub well : OnOk closing (IsFlushed store (idle_of store) before after)
+  pub badly : OnErr closing ((IsSome store.stopped × (after ≡ before)) ⊎ IsCutOff store before after)
+
+-- The lock gave this store back once all callers had left. Over the folder, as it was then, it stands for these entries of all their turns; and it was
+-- closed, which left the folder as the run did.
+pub record IsHandedBack (keys : KeyPair) (rows : Rows) (origin : Origin) (entries : List Entry) (before after : FolderView) : Type 0 where
+  pub store : StoreView
+  pub keys_are : store.keys ≡ keys
+  pub folder : FolderView
+  pub later : before.faults ≤ folder.faults
+  pub stands : IsStoreOf before.log store folder rows origin entries
+  pub closing : Result (Unit {0}) Failed
+  pub closed : IsClosing store folder after closing
+
 -- ---- the history
 
 -- What a stop leaves of a vault that was served under these keys with these entries. The folder's log goes on from the one that was found, where that was sound; a stop at
@@ -77,7 +105,8 @@ pub record HasStops (keys : KeyPair) (rows : Rows) (origin : Origin) (entries : 
 -- The entries of all callers are one history from the rows on that the folder recovers to, under these keys. Of each caller it has what was asked on the links of the worker of
 -- that number, in order, but for requests that were answered as exhausted; and nothing else. One is answered so only where the most tickets that all requests may
 -- take are more than there are turns. Each entry has its cause, and each caller's random source gave what its entries drew, in order. Where the folder tells its log the history is legal, and
--- each entry names the place that is taken; and what a stop leaves follows it. It begins at a moment at which the journal that was found had been opened.
+-- each entry names the place that is taken; and what a stop leaves follows it. It begins at a moment at which the journal that was found had been opened. It is the history
+-- of the one store that all callers asked behind the lock, and that was closed when they had left.
 pub record HasHistory {C : Type 0} (span : Span C) (keys : KeyPair) (shares : List (Share C)) : Type 0 where
   pub rows : Rows
   pub origin : Origin
@@ -94,6 +123,7 @@ pub record HasHistory {C : Type 0} (span : Span C) (keys : KeyPair) (shares : Li
   pub clear : Told span.given.folder.before.log (λ log. IsFoundClear keys (now log) unlocked rows)
   pub second : Told span.given.second (λ second. unlocked ≡ second)
   pub opened : Changes span.given.folder.before.log span.given.folder.after.log (λ old new. HasOpened old (log_at new origin.moment))
+  pub handed_back : IsHandedBack keys rows origin entries span.given.folder.before span.given.folder.after
   pub stops : HasStops keys rows origin entries span.given.folder.before span.given.folder.after
 
 -- all entries of a history are on the disk: it shows the rows after them, and so does what any stop leaves

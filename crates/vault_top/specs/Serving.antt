@@ -1,9 +1,8 @@
 -- What serving a vault does, step by step.
 use Rattle.std.specs.Prelude.{◌≡◌, ◌⊎◌, ℕ, ◌<◌, ◌≤◌, ◌-◌, ◌^◌, min, List, [], ◌++◌, length, Option, Some, Result, Ok, IsErr, IsOk, OnErr, OnOk, IfSome, IsSome, IsNone, ⊤}
 use Rattle.outside.specs.declared.stream.Failed.{Failed}
-use Rattle.outside.specs.Calls.{Changes, Rose}
+use Rattle.outside.specs.Calls.{Rose}
 use Rattle.outside.specs.Views.{FolderView}
-use Rattle.chunk_journal.specs.Journal.{AnyMoment}
 use Rattle.tree_model.specs.Rows.{Rows}
 use Rattle.tree_history.specs.History.{Origin}
 use Rattle.session_server.specs.declared.ending.SessionEnd.{SessionEnd}
@@ -14,11 +13,12 @@ use Rattle.shared_sessions.specs.Joined.{IsJoined}
 use Rattle.shared_sessions.specs.declared.workers.Worker.{Worker}
 use Rattle.siv_mode.specs.Keys.{KeyPair}
 use Rattle.store_history.specs.Store.{StoreView}
-use Rattle.store_history.specs.Turns.{IsFlushed, draws_for}
-use Rattle.vault_store.specs.Open.{OpenVault, idle_of}
+use Rattle.store_history.specs.Turns.{draws_for}
+use Rattle.vault_store.specs.Open.{OpenVault}
 use Rattle.demo_work.specs.Summary.{PlainRow, summary_line}
 use Rattle.demo_rows.specs.Left.{AreLeft}
 use Rattle.vault_top.specs.Report.{line}
+use Rattle.vault_top.specs.Served.{IsClosing}
 use Rattle.vault_top.specs.Span.{Course, SinkView, Views}
 use Rattle.vault_top.specs.Sharing.{IsSharedStore}
 use Rattle.vault_words.specs.Jobs.{Demonstration}
@@ -41,18 +41,6 @@ HasOutcome counts closing outcomes.ListenerFault = IsErr counts × IsOk closing
 HasOutcome counts closing outcomes.FolderFault = IsErr closing
 HasOutcome counts closing outcomes.NoMemory = ⊥
 
--- the commit of what waited failed as the vault was closed
-pub record IsCutOff {D : Type 0} (view : D → FolderView) (vault : OpenVault D) (folder : D) : Type 0 where
-  pub running : IsNone vault.store.stopped
-  pub moments : Changes (view vault.folder).log (view folder).log (AnyMoment vault.store.waiting)
-  pub rose : Rose (view vault.folder).faults (view folder).faults
-
--- How a vault was closed: what waited was committed; or an earlier commit had failed, and nothing more was done; or this one failed.
-pub record IsClosing {D X : Type 0} (view : D → FolderView) (vault : OpenVault D) (folder : D) (closing : Result X Failed) : Type 0 where
-  pub later : (view vault.folder).faults ≤ (view folder).faults
-  pub well : OnOk closing (IsFlushed vault.store (idle_of vault.store) (view vault.folder) (view folder))
-  pub badly : OnErr closing ((IsSome vault.store.stopped × (folder ≡ vault.folder)) ⊎ IsCutOff view vault folder)
-
 -- all workers served their shares over an open vault, which was closed then
 pub record HasServedAll {D N C E : Type 0} (start : Rows → Origin → Type 0) (since : FolderView → KeyPair → Rows → Type 0) (views : Views D N C E) (second : Option ℕ) (service : Service) (workers workers' : List (Worker N E)) (ends : List SessionEnd) (back : HandedBack D) : Type 0 where
   pub rows : Rows
@@ -66,7 +54,7 @@ pub record HasServedAll {D N C E : Type 0} (start : Rows → Origin → Type 0) 
   pub folder : D
   pub folder_is : back.folder ≡ Some folder
   pub closing : Result (Unit {0}) Failed
-  pub closed : IsClosing views.folder store folder closing
+  pub closed : IsClosing store.store (views.folder store.folder) (views.folder folder) closing
   pub outcome : HasOutcome counts closing back.outcome
   pub asked : back.entries ≡ store.store.entries
 

@@ -1,6 +1,7 @@
 -- Sessions over an open vault that have ended.
-use Rattle.std.specs.Prelude.{◌≡◌, ℕ, List, length, Option, IsNone}
+use Rattle.std.specs.Prelude.{◌≡◌, ◌⊎◌, ℕ, List, length, Option, IsSome, IsNone, IsOk, IsErr}
 use Rattle.std.specs.List.{AllByRecursion}
+use Rattle.outside.specs.Calls.{Rose}
 use Rattle.siv_mode.specs.Keys.{KeyPair}
 use Rattle.tree_history.specs.History.{tally_of}
 use Rattle.session_server.specs.declared.ending.SessionEnd.{SessionEnd}
@@ -25,6 +26,21 @@ pub record IsServedTo {D N C E : Type 0} (views : Views D N C E) (span : Span C)
 abbrev pub stopped_in : {C : Type 0} {span : Span C} {keys : KeyPair} {shares : List (Share C)} → HasHistory span keys shares → Option ℕ
 stopped_in history = (tally_of history.origin history.entries).stopped
 
+-- the folder failed after the last entry, as what waited was committed
+abbrev pub FailsAtTheEnd : {C : Type 0} {span : Span C} {keys : KeyPair} {shares : List (Share C)} → HasHistory span keys shares → Type 0
+FailsAtTheEnd {span = span} history = Rose (tally_of history.origin history.entries).folder_faults span.given.folder.after.faults
+
+-- closing the store was answered Ok: no commit failed, and all entries are on the disk
+pub record IsClosedWell {C : Type 0} {span : Span C} {keys : KeyPair} {shares : List (Share C)} (history : HasHistory span keys shares) : Type 0 where
+  pub closed : IsOk history.handed_back.closing
+  pub running : IsNone (stopped_in history)
+  pub on_disk : IsOnDisk history
+
+-- closing it failed: a commit had failed, in an entry, or what waited in the end couldn't be committed
+pub record IsClosedBadly {C : Type 0} {span : Span C} {keys : KeyPair} {shares : List (Share C)} (history : HasHistory span keys shares) : Type 0 where
+  pub failed : IsErr history.handed_back.closing
+  pub cause : IsSome (stopped_in history) ⊎ FailsAtTheEnd history
+
 abbrev pub Never : {C : Type 0} → WorkerSpan C → Type 0
 Never worker = ⊥
 
@@ -34,6 +50,5 @@ pub record IsServedWhole {D N C E : Type 0} (views : Views D N C E) (span : Span
   pub served : IsServedTo views span kind sessions sharing Never ends
   pub many : length ends ≡ sessions
   pub done : AllByRecursion (λ end. end ≡ Done) ends
-  pub running : IsNone (stopped_in served.history)
-  pub on_disk : IsOnDisk served.history
+  pub closed : IsClosedWell served.history
   pub count : entries ≡ length served.history.entries

@@ -1,4 +1,9 @@
 ghost use Rattle.std.specs.Prelude.{◌≡◌, ◌⊎◌, ℕ, List, Option, IsSome};
+ghost use Rattle.outside.specs.Disk.{Disk, IsTree};
+ghost use Rattle.clear_tree.specs.Laws.{root_rows};
+ghost use Rattle.tree_loading.specs.Clear.{IsClear};
+ghost use Rattle.vault_make.specs.Draws.{NewSecrets};
+ghost use Rattle.vault_make.specs.Vault.{IsNewVault};
 ghost use Rattle.shared_sessions.specs.declared.workers.Worker.{Worker};
 ghost use Rattle.vault_top.specs.declared.program.Ended.{Ended};
 ghost use Rattle.vault_top.specs.Span.{Course, SourceView, SinkView, Views, Span};
@@ -10,14 +15,14 @@ ghost use Rattle.vault_top.specs.Sound.{IsSound, IsSoundRun, IsSoundToMake, IsFa
 use outside::{Entropy, Folder, Listener};
 
 /// Of a sound vault, where the words ask for serving it and nothing failed, the program's ending is that the vault was served, or that
-/// memory ran out.
+/// memory ran out. It does nothing.
 pub fn a_sound_vault_is_served<D: Folder, N: Listener, E: Entropy>()
     ensures { (views : Views D N N.Conn E) (span : Span N.Conn) (ending : Ending) → IsSound span → IsFaultless span
         → HasReason views span ending → IsServedOrFull ending }
 {}
 
 /// A run with a sound job, be it to serve a sound vault, to make one in an empty folder or to hold a demonstration, in which nothing failed,
-/// the sink neither, ends with the status 0 or 5.
+/// the sink neither, ends with the status 0 or 5. It does nothing.
 pub fn a_sound_run_ends_with_0_or_5<D: Folder, N: Listener, E: Entropy>()
     ensures { (views : Views D N N.Conn E) (words : List (List ℕ)) (secret : Course SourceView) (second : Option ℕ) (folder : D)
         (workers workers' : List (Worker N E)) (sink : Course SinkView) (ended : Ended D)
@@ -25,27 +30,35 @@ pub fn a_sound_run_ends_with_0_or_5<D: Folder, N: Listener, E: Entropy>()
 {}
 
 /// Where a vault was served, the folder tells and nothing failed, each request was answered as the step says, unless a place is taken or memory
-/// runs out where it may; and each session of whole messages, over a link that never failed, was done, or memory ran out before it read anything.
+/// runs out where it may; and each session of whole messages, over a link that never failed, was done, or memory ran out before
+/// it read anything. It does nothing.
 pub fn a_sound_run_answers_as_the_step<D: Folder, N: Listener, E: Entropy>()
     ensures { (views : Views D N N.Conn E) (span : Span N.Conn) (ending : Ending) (reason : HasReason views span ending)
         → IsSome span.given.folder.before.log → IsFaultless span → (SomeRandomFailed span.workers → ⊥) → HasServedSoundly views span ending reason }
 {}
 
 /// In an empty folder, where the words ask for making a vault, the secret has a password and nothing failed, the program's ending is that
-/// a vault was made, or that memory ran out.
+/// a vault was made, or that memory ran out. It does nothing.
 pub fn an_empty_folder_becomes_a_vault<D: Folder, N: Listener, E: Entropy>()
     ensures { (views : Views D N N.Conn E) (span : Span N.Conn) (ending : Ending) → IsSoundToMake span → IsFaultless span
         → (SomeRandomFailed span.workers → ⊥) → HasReason views span ending → IsMadeOrFull ending }
 {}
 
-/// Where the words ask for a demonstration, the program's ending is that it was held, or that memory ran out.
+/// A disk on which is a new vault stands for its root alone, at whatever second the vault is unlocked. It does
+/// nothing.
+pub fn a_new_vault_is_its_root()
+    ensures { (password : List ℕ) (secrets : NewSecrets) (disk : Disk) (now : ℕ) → IsTree disk → IsNewVault password secrets disk
+        → IsClear secrets.keys disk now (root_rows now) }
+{}
+
+/// Where the words ask for a demonstration, the program's ending is that it was held, or that memory ran out. It does nothing.
 pub fn a_demonstration_is_held<D: Folder, N: Listener, E: Entropy>()
     ensures { (views : Views D N N.Conn E) (span : Span N.Conn) (d : Demonstration) (ending : Ending) → Ask span.words (demo d)
         → HasReason views span ending → IsHeldOrFull ending }
 {}
 
 /// Where the words are refused, the program's ending is that they are bad, or that memory ran out: so the status 1 comes if and only if
-/// they are, but for memory.
+/// they are, but for memory. It does nothing.
 pub fn refused_words_are_bad<D: Folder, N: Listener, E: Entropy>()
     ensures { (views : Views D N N.Conn E) (span : Span N.Conn) (ending : Ending) → AreRefused span.words
         → HasReason views span ending → IsBadOrFull ending }

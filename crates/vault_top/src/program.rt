@@ -292,7 +292,7 @@ fn put_back<N, E>(workers: &mut Vec<Worker<N, E>>, worker: Worker<N, E>)
     }
 }
 
-// Reports what serving came to, and gives the program's status.
+// Reports what serving came to, and returns the program's status.
 fn report_outcome<O: Sink>(alloc: Global, out: &mut O, outcome: Outcome) -> u8
     ensures { (ends : List SessionEnd) → AreCounted ends outcome
         → HasLastLine ends outcome (course (sink_view O.taken O.faults) out.old out.new) result }

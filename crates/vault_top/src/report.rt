@@ -30,7 +30,7 @@ pub(crate) fn write_all<O: Sink>(out: &mut O, bytes: &[u8]) -> Result<(), Failed
     Ok(())
 }
 
-/// Writes a text of the report, and gives the program's status: `whole`, or `cut` where the sink failed.
+/// Writes a text of the report, and returns the program's status: `whole`, or `cut` where the sink failed.
 pub(crate) fn report<O: Sink>(out: &mut O, text: &[u8], whole: u8, cut: u8) -> u8
     ensures written { IsWritten (Rose (O.faults out.old) (O.faults out.new)) (O.taken out.old) (O.taken out.new) text.now whole cut result }
     ensures faults { O.faults out.old ≤ O.faults out.new }
@@ -41,7 +41,7 @@ pub(crate) fn report<O: Sink>(out: &mut O, text: &[u8], whole: u8, cut: u8) -> u
     }
 }
 
-/// Reports why the job isn't done, and gives the program's status, which is the cause's whether the line was taken or not.
+/// Reports why the job isn't done, and returns the program's status, which is the cause's whether the line was taken or not.
 pub(crate) fn refuse<O: Sink>(out: &mut O, cause: &Cause) -> u8
     ensures { IsReported (course (sink_view O.taken O.faults) out.old out.new) (refused cause.now) result }
 {

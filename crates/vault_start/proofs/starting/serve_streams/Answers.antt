@@ -1,5 +1,5 @@
-use Rattle.std.proofs.Common.{refl}
-use Rattle.vaultd.proofs.serve_socket.Goals as goal
+use Rattle.std.proofs.Common.{refl, rules}
+use Rattle.vault_start.proofs.starting.serve_streams.Goals as goal
 
 pub returns : goal.returns
 returns g c = record {
@@ -8,7 +8,8 @@ returns g c = record {
   secret = _;
   second = _;
   workers = _;
-  new = c.in_ok-workers.ensures.sound;
+  many = search rules;
+  new = search rules;
   workers_after = _;
   before = _;
   after = _;

@@ -1,5 +1,5 @@
-use Rattle.std.proofs.Common.{refl, rules}
-use Rattle.vaultd.proofs.serve_streams.Goals as goal
+use Rattle.std.proofs.Common.{refl, arith}
+use Rattle.vault_start.proofs.starting.serve_socket.Goals as goal
 
 pub returns : goal.returns
 returns g c = record {
@@ -8,7 +8,8 @@ returns g c = record {
   secret = _;
   second = _;
   workers = _;
-  new = search rules;
+  many = (let count = c.in_ok-workers.ensures.count in let ok = c.in_ok-workers.workers.ok in omega arith);
+  new = c.in_ok-workers.ensures.sound;
   workers_after = _;
   before = _;
   after = _;

@@ -2,8 +2,8 @@ use Rattle.std.proofs.Common.{◌≡◌, [], codes, drop, ap, sym, ◌∙◌}
 use Rattle.std.proofs.lemmas.Bool.{false≢true}
 use Rattle.std.proofs.lemmas.Slice.Eq.{bytes_eq-Decides}
 use Rattle.vault_top.specs.Words.{words_of}
-use Rattle.vaultd.proofs.Starts.{started_silent, started_aloud, started_open}
-use Rattle.vaultd.proofs.start.Goals as goal
+use Rattle.vault_start.proofs.Starts.{started_silent, started_aloud, started_open}
+use Rattle.vault_start.proofs.starting.start.Goals as goal
 
 pub returns-then-eq : goal.returns-then-eq
 returns-then-eq g c =
@@ -24,4 +24,4 @@ returns-else-eq-2 g c =
     let some : c.in_ok-places.places.address.now ≡ [] → ⊥ = λ e.
     false≢true (sym c.if-eq-2.false ∙ c.eq-else-eq.ensures ∙ (bytes_eq-Decides c.in_ok-places.places.address.now []).1 e) in
     started_open _ _ _ _ _ _ _ (words_of c.behind_name-words.result.now) (words_of (drop 1 c.args.args.now)) _ _ _ c.serve_socket-status.result
-    (ap words_of c.behind_name-words.ensures) c.in_ok-places.ensures isnt some c.serve_socket-status.ensures
+    (ap words_of c.behind_name-words.ensures) c.in_ok-places.ensures isnt some c.clamp-at_once.ensures c.serve_socket-status.ensures
