@@ -207,7 +207,7 @@ impl Run<'_, '_> {
         Ok(stop.is_some())
     }
 
-    // Asks, and gives the words of the reply.
+    // Asks, and returns the words of the reply.
     fn ask(&mut self, step: &Step<'_>) -> Result<String, RunErr> {
         let alloc = self.script.alloc;
         if self.manner == Manner::Redrawing {

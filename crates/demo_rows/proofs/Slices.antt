@@ -65,9 +65,6 @@ slices-end content at n before bytes h k short =
     let last : length cells ≤ at + n = omega (arith, many, short, length-take n (drop at cells), length-drop at cells) in
     ap all_there (sym (take-whole (at + n) cells last)) ∙ slices-join content at n before bytes h k
 
-pub no-slice : (content : Content) → slice_of content 0 0 ≡ Some []
-no-slice content = refl
-
 -- ---- of whatever sealed bytes a disk has
 
 module _ (disk : Option Disk) (P : Disk → List ℕ → Type 0) (content : List ℕ → Content) (at n : ℕ) (before more now : List ℕ) (joins : now ≡ before ++ more)

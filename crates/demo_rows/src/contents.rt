@@ -49,7 +49,7 @@ fn zeros(alloc: Global, count: usize) -> Result<Vec<u8>, AllocError>
     vec![in alloc; 0u8; count]
 }
 
-// Puts the bytes from a place on, as many as a piece has room for, behind others, and gives their number.
+// Puts the bytes from a place on, as many as a piece has room for, behind others, and returns their number.
 fn read_piece<R: Reads>(
     folder: &mut R,
     keys: &VaultKeys,

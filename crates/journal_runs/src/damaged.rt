@@ -56,7 +56,7 @@ fn opens_as_said(alloc: Global, row: &str) -> Result<bool, RowErr> {
     Ok(open(alloc, folder)? == wanted)
 }
 
-/// Opens the journal of each row, and gives how many there are.
+/// Opens the journal of each row, and returns how many there are.
 pub(crate) fn check_all(alloc: Global, text: &str) -> Result<u64, RowErr> {
     let mut rows = 0u64;
     for line in text.lines() {
@@ -78,7 +78,7 @@ fn is_damaged_by_a_folder(alloc: Global, name: &[u8]) -> Result<bool, RowErr> {
     Ok(open(alloc, folder)?.place == Some(0))
 }
 
-/// Opens folders with a folder in the place of the journal, and of a first one under way, and gives how many there are.
+/// Opens folders with a folder in the place of the journal, and of a first one under way, and returns how many there are.
 pub(crate) fn check_folders(alloc: Global) -> Result<u64, RowErr> {
     if !is_damaged_by_a_folder(alloc, b"served.journal")? {
         return Err(RowErr::Differs(1));

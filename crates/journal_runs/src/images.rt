@@ -44,7 +44,7 @@ fn row_at(alloc: Global, text: &str, number: u64) -> Result<String, RowErr> {
     Err(RowErr::Short)
 }
 
-/// Compares each image of a folder with its row, and gives how many there are.
+/// Compares each image of a folder with its row, and returns how many there are.
 pub(crate) fn check_all(alloc: Global, text: &str) -> Result<u64, RowErr> {
     let mut count = 0u64;
     for image in touched(alloc)?.images(MOST_IMAGES)? {

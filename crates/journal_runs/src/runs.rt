@@ -57,7 +57,7 @@ pub(crate) fn commit_all(
     })
 }
 
-/// Puts what stands at a path behind what is held: `-` for nothing, `dir` for a folder, or the first 16 bytes of a file.
+/// Puts what is at a path behind what is held: `-` for nothing, `dir` for a folder, or the first 16 bytes of a file.
 pub(crate) fn put_thing<D: Reads>(
     alloc: Global,
     folder: &mut D,

@@ -90,7 +90,7 @@ impl Course {
         reply == message.is_sent.as_slice()
     }
 
-    // Goes on with a message, whose replies are the first that were sent; gives what was sent behind them.
+    // Goes on with a message, whose replies are the first that were sent; returns what was sent behind them.
     fn follow<'a>(&mut self, message: &Message, sent: &'a [u8]) -> Option<&'a [u8]> {
         let (reply, rest) = first_reply(sent)?;
         if self.stopped {

@@ -68,7 +68,7 @@ impl Tallies {
         }
     }
 
-    // Prints them, and gives whether nothing is wrong.
+    // Prints them, and returns whether nothing is wrong.
     fn print<R: Print>(&self, rt: &R) -> io::Result<bool> {
         let mut passed = true;
         for (what, tally) in [

@@ -16,7 +16,7 @@ const CLIENTS: usize = 2;
 
 const WORDS: &str = "serve v --listen 127.0.0.1:564 --sessions 2 --at-once 2 --raw-key";
 
-/// The second that the clock stands at.
+/// The second that the clock is at.
 const SECOND: u32 = 100;
 
 /// How the program ended.
@@ -134,7 +134,7 @@ fn run_words<R: Threads + Wait + Sync>(
     }
 }
 
-// Runs the program over workers, and gives the folder and how it ended.
+// Runs the program over workers, and returns the folder and how it ended.
 fn run_workers<R: Threads + Wait + Sync>(
     rt: &R,
     alloc: Global,

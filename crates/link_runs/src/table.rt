@@ -1,5 +1,6 @@
 // The tables of messages.
 
+use ninep_wire::kinds;
 use run_tables::{RowErr, number, push_bytes};
 use std::alloc::{AllocError, Global};
 
@@ -17,13 +18,6 @@ pub(crate) struct Message {
     /// Which of its changing calls of the folder opens the journal's gate: behind the next call, which flushes that, no stop undoes it either.
     pub opens: Option<u64>,
 }
-
-/// The types of messages (intro(5)).
-const RERROR: u8 = 107;
-
-const TCLUNK: u8 = 120;
-
-const TREMOVE: u8 = 122;
 
 /// What fails in the runs of a block.
 #[derive(Clone, Copy, Debug, PartialEq, Eq)]
@@ -62,7 +56,7 @@ fn kind_of(message: &[u8]) -> Option<u8> {
 
 /// Whether a reply is an error.
 pub(crate) fn is_error(reply: &[u8]) -> bool {
-    kind_of(reply) == Some(RERROR)
+    kind_of(reply) == Some(kinds::R_ERROR)
 }
 
 /// Whether a reply is an error of this text.
@@ -73,12 +67,12 @@ pub(crate) fn is_refused(reply: &[u8], text: &str) -> bool {
 impl Message {
     /// Whether its fid is gone whatever the reply is.
     pub(crate) fn frees_fid(&self) -> bool {
-        kind_of(&self.sends) == Some(TREMOVE) || self.is_clunk()
+        kind_of(&self.sends) == Some(kinds::T_REMOVE) || self.is_clunk()
     }
 
     /// Whether it asks nothing of the vault.
     pub(crate) fn is_clunk(&self) -> bool {
-        kind_of(&self.sends) == Some(TCLUNK)
+        kind_of(&self.sends) == Some(kinds::T_CLUNK)
     }
 }
 

@@ -2,13 +2,12 @@
 
 use crate::plan::Row;
 use crate::row::RowErr;
+use ninep_wire::kinds;
 use outside_mem::{MemLink, MemListener, SeedEntropy};
 use std::alloc::{AllocError, Global};
 use vault_top::Worker;
 
-// An Rerror of this text from its type on, without its tag.
-const RERROR: u8 = 107;
-
+// What an Rerror of this text has behind its tag.
 const DEVICE_FAULT: &[u8; 14] = b"\x0c\0device fault";
 
 /// How sent bytes compare with the wanted ones.
@@ -45,7 +44,7 @@ fn first_message(bytes: &[u8]) -> Option<(&[u8], &[u8])> {
 
 // Whether a message is the Rerror `device fault` with the tag of another.
 fn is_device_fault(message: &[u8], wanted: &[u8]) -> bool {
-    message.get(4) == Some(&RERROR)
+    message.get(4) == Some(&kinds::R_ERROR)
         && message.get(5..7) == wanted.get(5..7)
         && message.get(7..) == Some(DEVICE_FAULT.as_slice())
 }

@@ -10,7 +10,7 @@ use std::sync::Wait;
 use std::thread::Threads;
 use vault_top::{Worker, run};
 
-/// The second that the clock stands at.
+/// The second that the clock is at.
 const SECOND: u32 = 100;
 
 /// The seed of each worker's random source: RFC 8439's first example of ChaCha20's stream has this key.

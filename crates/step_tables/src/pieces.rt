@@ -88,7 +88,7 @@ fn lists_all(alloc: Global, count: u64, size: u32) -> Result<bool, FieldErr> {
     Ok(false)
 }
 
-/// Lists directories in pieces of many sizes, and gives how many there are: 100 names by each size from one stat to three, and 1,000
+/// Lists directories in pieces of many sizes, and returns how many there are: 100 names by each size from one stat to three, and 1,000
 /// names by some large ones.
 pub(crate) fn check_all(alloc: Global) -> Result<u64, RowErr> {
     let mut sizes = 0u64;

@@ -87,7 +87,7 @@ fn run_line(alloc: Global, run: Run, what: &str, line: &str) -> Result<(Run, boo
     }
 }
 
-/// Runs each line, and gives how many requests there are.
+/// Runs each line, and returns how many requests there are.
 pub(crate) fn check_all(alloc: Global, text: &str) -> Result<u64, RowErr> {
     let mut run = Run {
         rows: empty(alloc),
