@@ -5,12 +5,13 @@ use Rattle.outside.specs.Calls.{Told, Changes}
 use Rattle.outside.specs.Changes.{Write}
 use Rattle.outside.specs.Images.{Log, Synced, adds, now, IsImage, IsSteady, HasKept, LeavesOnly}
 use Rattle.outside.proofs.Moments.{started}
-use Rattle.deeds.specs.Deeds.{PlainDeed, DoesAll, in_order}
+use Rattle.deeds.specs.Deeds.{PlainDeed, DoesAll, LogGoesOn, in_order}
 use Rattle.deeds.proofs.Again.{at_disk}
+use Rattle.deeds.proofs.Growing.{goes_nowhere, goes_on_on, leaves_go_on}
 use Rattle.chunk_journal.specs.declared.fault.JournalErr.{JournalErr}
 use Rattle.chunk_journal.specs.declared.fault.JournalErr.TheVariants.{Device, JournalDamaged, Memory}
 use Rattle.chunk_journal.specs.Journal.{journal_file, new_file, HoldsBatch, IsClosed, RecoversLike, IsAlike, IsQuiet, IsFound, IsRepeatable, StaysRecovered}
-use Rattle.chunk_journal.specs.Opening.{HasFolder, HasLen, IsUnfitAt, IsDamagedAt, LeavesFolder, IsBadBehindGate, IfDamaged, IsOpening, StaysOpening, HasOpened}
+use Rattle.chunk_journal.specs.Opening.{HasFolder, HasLen, IsUnfitAt, IsDamagedAt, LeavesFolder, IsBadBehindGate, IfDamaged, IsOpening, HasOpened}
 use Rattle.chunk_journal.proofs.Gate.{files_apart, written_here, written_there, one_held}
 use Rattle.chunk_journal.proofs.Damage.{recovers_undamaged, held_bytes}
 
@@ -68,10 +69,11 @@ found_stays bs log found = λ after run. started log (RecoversLike after) (λ c 
     let same = found.steady.durable c image in
     subst (RecoversLike after) (sym same) (after, inr (bs, found.open_gate, run), (λ q ne nm. refl), found.no_folder))
 
-opening : (old mid new : Log) → HasSettled old mid → (((deeds : List PlainDeed) → IsFound deeds mid → ⊥) → new ≡ mid) → ((deeds : List PlainDeed) → IsRepeatable deeds → IsFound deeds mid → StaysRecovered deeds mid new) → IsOpening old new
-opening old mid new settled untouched stays =
+opening : (old mid new : Log) → HasSettled old mid → LogGoesOn mid new → (((deeds : List PlainDeed) → IsFound deeds mid → ⊥) → new ≡ mid) → ((deeds : List PlainDeed) → IsRepeatable deeds → IsFound deeds mid → StaysRecovered deeds mid new) → IsOpening old new
+opening old mid new settled grown untouched stays =
     let e = settled.is in
     record {
+      grown = goes_on_on old mid new (leaves_go_on old mid (IsImage old) settled.begun) grown;
       begun = subst (λ (l : Log). LeavesOnly old l (IsImage old)) e settled.begun;
       steady = subst IsSteady e settled.steady;
       untouched = subst (λ (l : Log). ((deeds : List PlainDeed) → IsFound deeds l → ⊥) → new ≡ l) e untouched;
@@ -79,10 +81,10 @@ opening old mid new settled untouched stays =
     }
 
 pub unopened : (old mid new : Log) → HasSettled old mid → new ≡ mid → IsOpening old new
-unopened old mid new settled same = opening old mid new settled (λ none. same) (λ deeds repeatable found. subst (StaysRecovered deeds mid) (sym same) (found_stays deeds mid found))
+unopened old mid new settled same = opening old mid new settled (subst (LogGoesOn mid) (sym same) (goes_nowhere mid)) (λ none. same) (λ deeds repeatable found. subst (StaysRecovered deeds mid) (sym same) (found_stays deeds mid found))
 
-pub reopened : (bs : List PlainDeed) (old mid new : Log) → HasSettled old mid → IsFound bs mid → (IsRepeatable bs → StaysRecovered bs mid new) → IsOpening old new
-reopened bs old mid new settled found stays = opening old mid new settled (λ none. absurd (none bs found)) (λ deeds repeatable other.
+pub reopened : (bs : List PlainDeed) (old mid new : Log) → HasSettled old mid → IsFound bs mid → LogGoesOn mid new → (IsRepeatable bs → StaysRecovered bs mid new) → IsOpening old new
+reopened bs old mid new settled found grown stays = opening old mid new settled grown (λ none. absurd (none bs found)) (λ deeds repeatable other.
     let same : bs ≡ deeds = one_held (now mid) bs deeds found.open_gate other.open_gate in
     subst (λ (ds : List PlainDeed). StaysRecovered ds mid new) same (stays (subst IsRepeatable (sym same) repeatable)))
 
@@ -146,8 +148,8 @@ pub redone_damage : (bs : List PlainDeed) (at : ℕ) (old mid : Log) → HasSett
 redone_damage bs at old mid settled finds (inl unfit) = inl (damaged_first at old mid settled (inr (unfit_bad bs at (now mid) finds.1 finds.0 unfit)))
 redone_damage bs at old mid settled finds (inr leaves) = inr (subst (λ (d : Disk). LeavesFolder d at) (now_settled old mid settled) leaves)
 
-pub reopened_by : (bs : List PlainDeed) (old mid new : Log) → HasSettled old mid × Finds bs mid → (IsRepeatable bs → StaysRecovered bs mid new) → IsOpening old new
-reopened_by bs old mid new p stays = reopened bs old mid new p.0 (found_mid bs mid p.0.steady p.1.1 p.1.0) stays
+pub reopened_by : (bs : List PlainDeed) (old mid new : Log) → HasSettled old mid × Finds bs mid → LogGoesOn mid new × (IsRepeatable bs → StaysRecovered bs mid new) → IsOpening old new
+reopened_by bs old mid new p q = reopened bs old mid new p.0 (found_mid bs mid p.0.steady p.1.1 p.1.0) q.0 q.1
 
 pub opened_by : (bs : List PlainDeed) (old mid new : Log) → HasSettled old mid × Finds bs mid → HasRedone bs mid new → HasOpened old new
 opened_by bs old mid new p redone = opened_redone bs old mid new p.0 (found_mid bs mid p.0.steady p.1.1 p.1.0) redone

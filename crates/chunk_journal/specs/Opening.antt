@@ -3,7 +3,7 @@ use Rattle.std.specs.Prelude.{◌≡◌, ◌⊎◌, ⊤, ℕ, ◌+◌, ◌<◌, 
 use Rattle.std.specs.Int.{w64, from_be_bytes}
 use Rattle.outside.specs.Disk.{Disk, file, node_at, IsFolder}
 use Rattle.outside.specs.Images.{Log, Synced, adds, now, IsImage, IsSteady, LeavesOnly}
-use Rattle.deeds.specs.Deeds.{PlainDeed, DoesAll, IsRefusedAt, in_order}
+use Rattle.deeds.specs.Deeds.{PlainDeed, DoesAll, IsRefusedAt, LogGoesOn, in_order}
 use Rattle.deeds.specs.Grammar.{IsBadAt, spelled_deeds}
 use Rattle.chunk_journal.specs.declared.fault.JournalErr.{JournalErr}
 use Rattle.chunk_journal.specs.declared.fault.JournalErr.TheVariants.{Device, JournalDamaged, Memory}
@@ -80,8 +80,9 @@ IfDamaged Memory P = ⊤
 
 -- The sync that it begins with leaves nothing that a stop couldn't have left before. Nothing else is done where there is no
 -- batch to be done; and where its deeds can be repeated, each image at each moment since recovers to what the disk that was
--- found recovers to.
+-- found recovers to. The folder's calls go on from those before.
 pub record IsOpening (old new : Log) : Type 0 where
+  pub grown : LogGoesOn old new
   pub begun : LeavesOnly old (adds old Synced) (IsImage old)
   pub steady : IsSteady (adds old Synced)
   pub untouched : ((deeds : List PlainDeed) → IsFound deeds (adds old Synced) → ⊥) → new ≡ adds old Synced

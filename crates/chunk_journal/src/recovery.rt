@@ -3,7 +3,7 @@ ghost use Rattle.outside.specs.Calls.{HasCause, Told, Changes};
 ghost use Rattle.outside.specs.Disk.{Disk, Path, node_at};
 ghost use Rattle.outside.specs.Changes.{Write, IsPartOf};
 ghost use Rattle.outside.specs.Images.{now, adds, Synced, IsImage, IsSteady, LeavesOnly};
-ghost use Rattle.deeds.specs.Deeds.{DoesAll, StaysAmid, IsRefusedAt, in_order};
+ghost use Rattle.deeds.specs.Deeds.{DoesAll, StaysAmid, LogGoesOn, IsRefusedAt, in_order};
 ghost use Rattle.deeds.specs.Grammar.{IsBatch, spelled_deeds};
 ghost use Rattle.deeds.specs.Plain.{plains};
 ghost use Rattle.chunk_journal.specs.Journal.{journal_file, new_file, IsAlike, IsQuiet, IsRepeatable, IsFound, StaysRecovered};
@@ -36,6 +36,7 @@ fn redo_deeds<D: Folder>(folder: &mut D, deeds: &[Deed]) -> Result<(), JournalEr
     ensures done { OnOk result (Changes (D.log folder.old) (D.log folder.new)
         (λ old new. IsSteady new × DoesAll (in_order (plains deeds.now)) (now old) (now new))) }
     ensures amid { Changes (D.log folder.old) (D.log folder.new) (StaysAmid (in_order (plains deeds.now))) }
+    ensures grown { Changes (D.log folder.old) (D.log folder.new) LogGoesOn }
     ensures damaged { IfErr result (λ error. IfDamaged error (λ at. Told (D.log folder.old) (λ log. (index : ℕ)
         × IsRefusedAt (plains deeds.now) index (now log) × (at ≡ 13 + length (spelled_deeds (take index (plains deeds.now))))))) }
     ensures cause { HasCause (D.faults folder.old) (D.faults folder.new) (IsErrOf result JournalErr.Device) }
@@ -86,6 +87,7 @@ fn redo<D: Folder>(
     ensures redone { OnOk result (Changes (D.log folder.old) (D.log folder.new) (λ old new.
         IsQuiet new × ((after : Disk) × DoesAll (in_order (plains deeds.now)) (now old) after × IsAlike after (now new)))) }
     ensures any_moment { Changes (D.log folder.old) (D.log folder.new) (λ old new. IsRepeatable (plains deeds.now) → StaysRecovered (plains deeds.now) old new) }
+    ensures grown { Changes (D.log folder.old) (D.log folder.new) LogGoesOn }
     ensures damaged { IfErr result (λ error. IfDamaged error (λ at. Told (D.log folder.old) (λ log. IsUnfitAt (now log) at ⊎ LeavesFolder (now log) at))) }
     ensures cause { HasCause (D.faults folder.old) (D.faults folder.new) (IsErrOf result JournalErr.Device) }
 {

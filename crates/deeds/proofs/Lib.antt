@@ -14,3 +14,4 @@ pub mod Batches
 pub mod Rising
 pub mod Windows
 pub mod Lengths
+pub mod Growing

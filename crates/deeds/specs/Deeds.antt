@@ -2,7 +2,7 @@
 use Rattle.std.specs.Prelude.{◌≡◌, ◌⊎◌, ◌≢◌, ⊤, ℕ, suc, ◌≤◌, List, [], ◌∷◌, ◌++◌, length, take, drop, Bool, true, false, IsTrue, filter, Option, Some, None}
 use Rattle.outside.specs.Disk.{Disk, Path, Node, folder, file, node_at, IsFile}
 use Rattle.outside.specs.Calls.{Rose}
-use Rattle.outside.specs.Images.{Log, now, IsImage, LeavesOnly}
+use Rattle.outside.specs.Images.{Call, Log, now, IsImage, LeavesOnly}
 use Rattle.deeds.specs.declared.phase.Phase.{Phase}
 use Rattle.deeds.specs.declared.phase.Phase.TheVariants as phases
 use Rattle.deeds.specs.declared.phase.DeedErr.{DeedErr}
@@ -142,6 +142,13 @@ StaysAmid some old new =
     (deeds : List PlainDeed) (base : Disk) → AreApart deeds → AllOneOf some deeds
     → IsAmid deeds base (now old) → ((image : Disk) → IsImage old image → IsAmid deeds base image)
     → IsAmid deeds base (now new) × LeavesOnly old new (IsAmid deeds base)
+
+-- ---- a folder's log
+
+-- its calls go on from the old ones, and change none of them
+pub record LogGoesOn (old new : Log) : Type 0 where
+  pub start : new.start ≡ old.start
+  pub later : (since : List Call) × (new.calls ≡ since ++ old.calls)
 
 -- the calls that are left of a reshaping can be made, and leave this
 abbrev pub IsLeft : Path → ℕ → Ranges → Disk → Disk → Type 0

@@ -1,7 +1,7 @@
 ghost use Rattle.std.specs.Prelude.{◌≡◌, ◌≤◌, ◌-◌, ◌++◌, ◌+◌, length, take, drop, min, IfOk, IfErr, OnOk, IsErrOf};
 ghost use Rattle.outside.specs.Calls.{Told, Changes, HasCause};
 ghost use Rattle.outside.specs.Images.{now, IsSteady};
-ghost use Rattle.deeds.specs.Deeds.{DoesAll, StaysAmid, in_order, IsRefusal, IsRefusedAt, IfUnfit};
+ghost use Rattle.deeds.specs.Deeds.{DoesAll, StaysAmid, LogGoesOn, in_order, IsRefusal, IsRefusedAt, IfUnfit};
 ghost use Rattle.std.specs.List.{AllByRecursion};
 ghost use Rattle.deeds.specs.Plain.{plains};
 ghost use Rattle.deeds.specs.Grammar.{IsBatch, IsDeed, IsBadDeed, IsBadAt, IfBad, spelled, spelled_deeds, behind_gate};
@@ -88,6 +88,7 @@ pub fn do_batch<F: Folder>(folder: &mut F, deeds: &[Deed]) -> Result<(), DeedErr
     ensures done { OnOk result (Changes (F.log folder.old) (F.log folder.new)
         (λ old new. IsSteady new × DoesAll (in_order (plains deeds.now)) (now old) (now new))) }
     ensures amid { Changes (F.log folder.old) (F.log folder.new) (StaysAmid (in_order (plains deeds.now))) }
+    ensures grown { Changes (F.log folder.old) (F.log folder.new) LogGoesOn }
     ensures unfit { IfErr result (λ error. IfUnfit error (λ index.
         IsRefusal (F.log folder.old) (F.faults folder.old) (F.faults folder.new) (IsRefusedAt (plains deeds.now) index))) }
     ensures cause { HasCause (F.faults folder.old) (F.faults folder.new) (IsErrOf result DeedErr.Failed) }

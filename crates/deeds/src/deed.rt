@@ -2,7 +2,7 @@ ghost use Rattle.std.specs.Prelude.{◌≡◌, ◌↔◌, [], ◌∷◌, IfOk, I
 ghost use Rattle.outside.specs.Calls.{HasCause, Told, Changes, IsUnfit};
 ghost use Rattle.outside.specs.Disk.{Disk};
 ghost use Rattle.outside.specs.Images.{now, IsSteady};
-ghost use Rattle.deeds.specs.Deeds.{MakesDir, Puts, Renames, Removes, RemovesDir, IsDoneAlready, Does, DoesAll, StaysAmid, is_of, of_phase, IsRefusal, IsRefusedIn, IfUnfit, IsWithin, AreWithin};
+ghost use Rattle.deeds.specs.Deeds.{MakesDir, Puts, Renames, Removes, RemovesDir, IsDoneAlready, Does, DoesAll, StaysAmid, LogGoesOn, is_of, of_phase, IsRefusal, IsRefusedIn, IfUnfit, IsWithin, AreWithin};
 ghost use Rattle.deeds.specs.Plain.{plain, plains};
 
 use crate::phase::{DeedErr, Phase};
@@ -59,6 +59,7 @@ fn is_moved<F: Reads>(folder: &mut F, from: &VaultPath, to: &VaultPath) -> Resul
 fn do_make_dir<F: Folder>(folder: &mut F, path: &VaultPath) -> Result<(), FolderErr>
     ensures done { OnOk result (Changes (F.log folder.old) (F.log folder.new) (λ old new. Does (MakesDir path.now) (now old) (now new))) }
     ensures amid { Changes (F.log folder.old) (F.log folder.new) (StaysAmid (MakesDir path.now ∷ [])) }
+    ensures grown { Changes (F.log folder.old) (F.log folder.new) LogGoesOn }
     ensures unfit { IsErrOf result FolderErr.Unfit
         → IsUnfit (F.log folder.old) (F.faults folder.old) (F.faults folder.new) (λ log. (after : Disk) × Does (MakesDir path.now) (now log) after) }
     ensures no_memory { IsErrOf result FolderErr.Memory → ⊥ }
@@ -72,6 +73,7 @@ fn do_make_dir<F: Folder>(folder: &mut F, path: &VaultPath) -> Result<(), Folder
 fn do_put<F: Folder>(folder: &mut F, path: &VaultPath, bytes: &[u8]) -> Result<(), FolderErr>
     ensures done { OnOk result (Changes (F.log folder.old) (F.log folder.new) (λ old new. Does (Puts path.now bytes.now) (now old) (now new))) }
     ensures amid { Changes (F.log folder.old) (F.log folder.new) (StaysAmid (Puts path.now bytes.now ∷ [])) }
+    ensures grown { Changes (F.log folder.old) (F.log folder.new) LogGoesOn }
     ensures unfit { IsErrOf result FolderErr.Unfit
         → IsUnfit (F.log folder.old) (F.faults folder.old) (F.faults folder.new) (λ log. (after : Disk) × Does (Puts path.now bytes.now) (now log) after) }
     ensures no_memory { IsErrOf result FolderErr.Memory → ⊥ }
@@ -85,6 +87,7 @@ fn do_put<F: Folder>(folder: &mut F, path: &VaultPath, bytes: &[u8]) -> Result<(
 fn do_remove<F: Folder>(folder: &mut F, path: &VaultPath) -> Result<(), FolderErr>
     ensures done { OnOk result (Changes (F.log folder.old) (F.log folder.new) (λ old new. Does (Removes path.now) (now old) (now new))) }
     ensures amid { Changes (F.log folder.old) (F.log folder.new) (StaysAmid (Removes path.now ∷ [])) }
+    ensures grown { Changes (F.log folder.old) (F.log folder.new) LogGoesOn }
     ensures unfit { IsErrOf result FolderErr.Unfit
         → IsUnfit (F.log folder.old) (F.faults folder.old) (F.faults folder.new) (λ log. (after : Disk) × Does (Removes path.now) (now log) after) }
     ensures no_memory { IsErrOf result FolderErr.Memory → ⊥ }
@@ -98,6 +101,7 @@ fn do_remove<F: Folder>(folder: &mut F, path: &VaultPath) -> Result<(), FolderEr
 fn do_remove_dir<F: Folder>(folder: &mut F, path: &VaultPath) -> Result<(), FolderErr>
     ensures done { OnOk result (Changes (F.log folder.old) (F.log folder.new) (λ old new. Does (RemovesDir path.now) (now old) (now new))) }
     ensures amid { Changes (F.log folder.old) (F.log folder.new) (StaysAmid (RemovesDir path.now ∷ [])) }
+    ensures grown { Changes (F.log folder.old) (F.log folder.new) LogGoesOn }
     ensures unfit { IsErrOf result FolderErr.Unfit
         → IsUnfit (F.log folder.old) (F.faults folder.old) (F.faults folder.new) (λ log. (after : Disk) × Does (RemovesDir path.now) (now log) after) }
     ensures no_memory { IsErrOf result FolderErr.Memory → ⊥ }
@@ -111,6 +115,7 @@ fn do_remove_dir<F: Folder>(folder: &mut F, path: &VaultPath) -> Result<(), Fold
 fn do_rename<F: Folder>(folder: &mut F, from: &VaultPath, to: &VaultPath) -> Result<(), FolderErr>
     ensures done { OnOk result (Changes (F.log folder.old) (F.log folder.new) (λ old new. Does (Renames from.now to.now) (now old) (now new))) }
     ensures amid { Changes (F.log folder.old) (F.log folder.new) (StaysAmid (Renames from.now to.now ∷ [])) }
+    ensures grown { Changes (F.log folder.old) (F.log folder.new) LogGoesOn }
     ensures unfit { IsErrOf result FolderErr.Unfit
         → IsUnfit (F.log folder.old) (F.faults folder.old) (F.faults folder.new) (λ log. (after : Disk) × Does (Renames from.now to.now) (now log) after) }
     ensures no_memory { IsErrOf result FolderErr.Memory → ⊥ }
@@ -128,6 +133,7 @@ pub fn do_deed<F: Folder>(folder: &mut F, deed: &Deed) -> Result<(), FolderErr>
     requires { IsWithin (plain deed.now) }
     ensures done { OnOk result (Changes (F.log folder.old) (F.log folder.new) (λ old new. Does (plain deed.now) (now old) (now new))) }
     ensures amid { Changes (F.log folder.old) (F.log folder.new) (StaysAmid (plain deed.now ∷ [])) }
+    ensures grown { Changes (F.log folder.old) (F.log folder.new) LogGoesOn }
     ensures unfit { IsErrOf result FolderErr.Unfit
         → IsUnfit (F.log folder.old) (F.faults folder.old) (F.faults folder.new) (λ log. (after : Disk) × Does (plain deed.now) (now log) after) }
     ensures no_memory { IsErrOf result FolderErr.Memory → ⊥ }
@@ -148,6 +154,7 @@ fn do_deeds<F: Folder>(folder: &mut F, deeds: &[Deed], phase: Phase) -> Result<(
     requires within { AreWithin (plains deeds.now) }
     ensures done { OnOk result (Changes (F.log folder.old) (F.log folder.new) (λ old new. DoesAll (of_phase phase (plains deeds.now)) (now old) (now new))) }
     ensures amid { Changes (F.log folder.old) (F.log folder.new) (StaysAmid (of_phase phase (plains deeds.now))) }
+    ensures grown { Changes (F.log folder.old) (F.log folder.new) LogGoesOn }
     ensures unfit { IfErr result (λ error. IfUnfit error (λ index. IsRefusal (F.log folder.old) (F.faults folder.old) (F.faults folder.new) (IsRefusedIn phase (plains deeds.now) index))) }
     ensures cause { HasCause (F.faults folder.old) (F.faults folder.new) (IsErrOf result DeedErr.Failed) }
 {
@@ -162,6 +169,7 @@ fn do_at<F: Folder>(folder: &mut F, deed: &Deed, index: usize, phase: Phase) -> 
     requires { IsWithin (plain deed.now) }
     ensures done { OnOk result (Changes (F.log folder.old) (F.log folder.new) (λ old new. DoesAll (of_phase phase (plain deed.now ∷ [])) (now old) (now new))) }
     ensures amid { Changes (F.log folder.old) (F.log folder.new) (StaysAmid (of_phase phase (plain deed.now ∷ []))) }
+    ensures grown { Changes (F.log folder.old) (F.log folder.new) LogGoesOn }
     ensures unfit { IfErr result (λ error. IfUnfit error (λ at. (at ≡ index) × IsTrue (is_of phase (plain deed.now))
         × IsUnfit (F.log folder.old) (F.faults folder.old) (F.faults folder.new) (λ log. (after : Disk) × Does (plain deed.now) (now log) after))) }
     ensures cause { HasCause (F.faults folder.old) (F.faults folder.new) (IsErrOf result DeedErr.Failed) }
@@ -182,6 +190,7 @@ pub fn do_phase<F: Folder>(folder: &mut F, deeds: &[Deed], phase: Phase) -> Resu
     requires steady { Told (F.log folder.old) IsSteady }
     ensures done { OnOk result (Changes (F.log folder.old) (F.log folder.new) (λ old new. IsSteady new × DoesAll (of_phase phase (plains deeds.now)) (now old) (now new))) }
     ensures amid { Changes (F.log folder.old) (F.log folder.new) (StaysAmid (of_phase phase (plains deeds.now))) }
+    ensures grown { Changes (F.log folder.old) (F.log folder.new) LogGoesOn }
     ensures unfit { IfErr result (λ error. IfUnfit error (λ index. IsRefusal (F.log folder.old) (F.faults folder.old) (F.faults folder.new) (IsRefusedIn phase (plains deeds.now) index))) }
     ensures cause { HasCause (F.faults folder.old) (F.faults folder.new) (IsErrOf result DeedErr.Failed) }
 {

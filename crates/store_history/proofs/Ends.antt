@@ -5,7 +5,8 @@ use Rattle.outside.specs.Disk.{Disk}
 use Rattle.outside.specs.Images.{Log, now}
 use Rattle.outside.specs.Views.{FolderView}
 use Rattle.outside.proofs.Told.{changed_from, told_then}
-use Rattle.deeds.specs.Deeds.{PlainDeed}
+use Rattle.deeds.specs.Deeds.{PlainDeed, LogGoesOn}
+use Rattle.deeds.proofs.Growing.{grown_on, leaves_go_on}
 use Rattle.chunk_journal.specs.Journal.{AnyMoment, IsBeforeOrAfter, RecoversTo}
 use Rattle.pending_files.specs.Laid.{laid}
 use Rattle.pending_files.proofs.Batched.{is_repeatable}
@@ -19,11 +20,11 @@ use Rattle.stop_history.proofs.Moves.{shows_all}
 use Rattle.stop_history.proofs.Openings.{opening_recovers}
 use Rattle.stop_history.proofs.States.{state_runs}
 use Rattle.stop_history.proofs.Stops.{closes_broken, state_stops}
-use Rattle.store_history.specs.Store.{StoreView, ArePlaced, IsSaidFrom, IsStoredIn, IsStoreOf, LogGoesOn, moment_of, shows_under}
+use Rattle.store_history.specs.Store.{StoreView, ArePlaced, IsSaidFrom, IsStoredIn, IsStoreOf, moment_of, shows_under}
 use Rattle.store_history.specs.Ends.{ClosingsRecover, FailedOpeningsRecover, IsCutShort, StoresRecover, StoresAreWhole}
 use Rattle.store_history.proofs.Shows.{shows_blind}
 use Rattle.store_history.proofs.Openings.{stays_soundly}
-use Rattle.store_history.proofs.Placed.{HasBegun, begins_low, begun_goes_on, goes_later, grows_on, leaves_go_on, opened_goes_on, places_go_on}
+use Rattle.store_history.proofs.Placed.{HasBegun, begins_low, begun_goes_on, goes_later, opened_goes_on, places_go_on}
 use Rattle.store_history.proofs.Turns.{moments_rise, none_back}
 
 pub failed_openings_recover : FailedOpeningsRecover
@@ -90,7 +91,7 @@ module _ (found : Option Log) (store : StoreView) (before after : FolderView) (r
 
   cut_short : IsCutShort found store after rows origin history
   cut_short = record {
-    grown = grows_on found before.log after.log is.grown grown;
+    grown = grown_on found before.log after.log is.grown grown;
     opened = opened_goes_on origin.moment found before.log after.log (begins_low origin history (moment_of before.log) is.caused is.moment) is.opened grown;
     placed = placed_told before.log after.log is.moment is.stored grown;
     recover = record { stops = recovers_told before.log after.log is.stored any; begun = begun_told before.log after.log is.moment is.stored grown };

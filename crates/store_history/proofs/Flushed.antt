@@ -5,7 +5,8 @@ use Rattle.outside.specs.Disk.{Disk, Path as HostPath}
 use Rattle.outside.specs.Images.{Log, disk_in, log_at, moment, now}
 use Rattle.outside.specs.Views.{FolderView, EntropyView}
 use Rattle.outside.proofs.Told.{changed_from}
-use Rattle.deeds.specs.Deeds.{PlainDeed}
+use Rattle.deeds.specs.Deeds.{PlainDeed, LogGoesOn}
+use Rattle.deeds.proofs.Growing.{grown_on, leaves_go_on}
 use Rattle.chunk_journal.specs.Journal.{AnyMoment, HasCommitted, IsAlike, IsBeforeOrAfter}
 use Rattle.pending_files.specs.Laid.{CanWait, LookAlike, laid}
 use Rattle.pending_files.proofs.Batched.{is_repeatable}
@@ -19,10 +20,10 @@ use Rattle.stop_history.specs.Crash.{DiskShows}
 use Rattle.stop_history.specs.Stands.{IsRunning, IsInState}
 use Rattle.stop_history.proofs.Moves.{settles}
 use Rattle.stop_history.proofs.States.{state_runs}
-use Rattle.store_history.specs.Store.{StoreView, HasRows, IsStoredIn, IsStoreOf, LogGoesOn, moment_of, shows_under}
+use Rattle.store_history.specs.Store.{StoreView, HasRows, IsStoredIn, IsStoreOf, moment_of, shows_under}
 use Rattle.store_history.specs.Turns.{AddsEntry, FlushedTurnsAdd, FlushesStand, IsFlushed}
 use Rattle.store_history.proofs.Alike.{for_alike, looks_beside, looks_through}
-use Rattle.store_history.proofs.Placed.{begins_low, begun_goes_on, grows_on, goes_later, leaves_go_on, opened_goes_on, places_go_on, read_then}
+use Rattle.store_history.proofs.Placed.{begins_low, begun_goes_on, goes_later, opened_goes_on, places_go_on, read_then}
 use Rattle.node_changes.proofs.Beside.{stands_beside}
 use Rattle.store_history.proofs.Shows.{shows_blind}
 use Rattle.store_history.proofs.Turns.{moments_rise, none_back}
@@ -97,7 +98,7 @@ module _ (old : StoreView) (before after : FolderView) (found : Option Log) (row
     pub flush_stands : before.faults ≤ after.faults → IsStoreOf found idle after rows origin history
     flush_stands faults = record {
       stored = flushed_told before.log after.log store.moment store.stored committed any;
-      grown = grows_on found before.log after.log store.grown grown;
+      grown = grown_on found before.log after.log store.grown grown;
       opened = opened_goes_on origin.moment found before.log after.log (begins_low origin history (moment_of before.log) store.caused store.moment) store.opened grown;
       caused = store.caused;
       faults = omega (arith, store.faults, faults);

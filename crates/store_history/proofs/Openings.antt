@@ -6,7 +6,7 @@ use Rattle.outside.specs.Images.{Log, Synced, adds, log_at, now, moment}
 use Rattle.outside.specs.Views.{FolderView}
 use Rattle.outside.proofs.Moments.{moment_later}
 use Rattle.siv_mode.specs.Keys.{KeyPair}
-use Rattle.deeds.specs.Deeds.{PlainDeed, in_order}
+use Rattle.deeds.specs.Deeds.{PlainDeed, in_order, LogGoesOn}
 use Rattle.deeds.proofs.Amid.{tree_run}
 use Rattle.chunk_journal.specs.Journal.{IsAlike, IsQuiet, RecoversTo, RecoversLike}
 use Rattle.chunk_journal.specs.Opening.{HasOpened, IsOpening, StaysOpening}
@@ -39,11 +39,11 @@ use Rattle.stop_history.specs.Opening.{StaysFound, IsSoundlyFound}
 use Rattle.stop_history.specs.Prefix.{BeginningRecovers}
 use Rattle.stop_history.proofs.Openings.{begins_now}
 use Rattle.stop_history.proofs.Stops.{running_begins}
-use Rattle.store_history.specs.Store.{StoreView, moment_of, shows_under, HasRows, IsSaidFrom, IsStoredIn, IsStoreOf, LogGoesOn}
+use Rattle.store_history.specs.Store.{StoreView, moment_of, shows_under, HasRows, IsSaidFrom, IsStoredIn, IsStoreOf}
 use Rattle.store_history.specs.Ends.{IsFoundClear, IsOpened, HasBeenOpened, OpeningsStand}
 use Rattle.store_history.proofs.Shows.{shows_blind, stands_shows}
 use Rattle.store_history.proofs.Alike.{looks_itself}
-use Rattle.store_history.proofs.Placed.{at_its_end, goes_through, leaves_go_on}
+use Rattle.store_history.proofs.Placed.{at_its_end}
 use Rattle.store_history.proofs.Turns.{none_is}
 
 -- ---- what a disk stands for is what one stands for that differs in the journal's two files
@@ -147,15 +147,10 @@ module _ (unlocked : ℕ) (kept : KeptTree) (store : StoreView) (live_is : store
     rows : Rows
     clear : Told before (λ log. IsFoundClear store.keys (now log) unlocked rows)
     stands : (origin : Origin) → origin.moment ≡ moment_of after → Told after (IsStoredIn before store rows origin [])
-    grown : Changes before after (λ old new. IsSoundlyFound (now old) → LogGoesOn old new)
+    grown : Changes before after LogGoesOn
 
   opened_later : (old new : Log) → HasOpened old new → IsOpening old new → IsSoundlyFound (now old) → suc (moment old) ≤ moment new
   opened_later old new opened opening sound = moment_later (adds old Synced) new (RecoversLike opened.disk) (opening_keeps old new opened.disk opening (reopenable (now old) sound) opened.recovers)
-
-  opened_grown : (old new : Log) → HasOpened old new → IsOpening old new → IsSoundlyFound (now old) → LogGoesOn old new
-  opened_grown old new opened opening sound =
-      goes_through old (adds old Synced) new (record { start = refl; later = (Synced ∷ [], refl) })
-      (leaves_go_on (adds old Synced) new (RecoversLike opened.disk) (opening_keeps old new opened.disk opening (reopenable (now old) sound) opened.recovers))
 
   -- the store runs, and stands for no entries yet
   runs_on : (old new : Log) → HasOpened old new → IsOpening old new → (rows : Rows) → Shows (now new) rows → (origin : Origin) → origin.moment ≡ moment new → (opened_at : ℕ) → IsSaidFrom (Some old) origin opened_at
@@ -191,7 +186,7 @@ module _ (unlocked : ℕ) (kept : KeptTree) (store : StoreView) (live_is : store
           answered = tt;
           placed = λ i x there. absurd cc;
         };
-        grown = opened_grown old new opened opening;
+        grown = opening.grown;
       }
 
   begins_told : (before after : Option Log) → Changes before after HasOpened → Changes before after IsOpening → Told after (λ log. IsKept s (now log) kept) → Begins before after

@@ -1,45 +1,22 @@
 -- A log that goes on, the places that entries name on it, and what a stop recovers to before its history begins.
-use Rattle.std.proofs.Common.{◌≡◌, ℕ, zero, suc, ◌-◌, ◌≤◌, List, [], ◌∷◌, ◌++◌, length, take, drop, Option, Some, None, IsNone, refl, sym, ap, subst, ◌∙◌, arith, append_assoc, length-append}
+use Rattle.std.proofs.Common.{◌≡◌, ℕ, zero, suc, ◌-◌, ◌≤◌, List, [], ◌∷◌, ◌++◌, length, take, drop, Option, Some, None, IsNone, refl, sym, ap, subst, ◌∙◌, arith, length-append}
 use Rattle.outside.specs.Calls.{Changes}
 use Rattle.outside.specs.Disk.{Disk}
-use Rattle.outside.specs.Images.{Call, Log, log_at, moment, now, IsImage, LeavesOnly}
+use Rattle.outside.specs.Images.{Call, Log, log_at, moment, now, IsImage}
 use Rattle.outside.proofs.Moments.{at_since}
+use Rattle.deeds.specs.Deeds.{LogGoesOn}
 use Rattle.siv_mode.specs.Keys.{KeyPair}
 use Rattle.chunk_journal.specs.Opening.{HasOpened}
 use Rattle.tree_model.specs.Rows.{Rows}
 use Rattle.tree_history.specs.History.{Entry, Origin, Tally, after, next, entry_at, rows_at, rows_after, tally_at, tally_of, AreCaused}
-use Rattle.stop_history.specs.Opening.{IsSoundlyFound}
 use Rattle.stop_history.specs.Prefix.{BeginningRecovers}
 use Rattle.stop_history.proofs.Histories.{at_more, at_within, rows_all, rows_more}
-use Rattle.store_history.specs.Store.{ArePlaced, IsPlacedOn, IsSaidFrom, LogGoesOn, moment_of, shows_under}
+use Rattle.store_history.specs.Store.{ArePlaced, IsPlacedOn, IsSaidFrom, moment_of, shows_under}
 
 -- ---- logs that go on
 
-pub goes_nowhere : (log : Log) → LogGoesOn log log
-goes_nowhere log = record { start = refl; later = ([], refl) }
-
-pub leaves_go_on : (old new : Log) (P : Disk → Type 0) → LeavesOnly old new P → LogGoesOn old new
-leaves_go_on old new P all = record { start = all.start; later = all.later }
-
 pub goes_later : (a b : Log) → LogGoesOn a b → moment a ≤ moment b
 goes_later a b grown = omega (arith, ap length grown.later.1, length-append grown.later.0 a.calls)
-
-pub goes_through : (a b c : Log) → LogGoesOn a b → LogGoesOn b c → LogGoesOn a c
-goes_through a b c first second = record {
-  start = second.start ∙ first.start;
-  later = (
-    second.later.0 ++ first.later.0,
-    second.later.1 ∙ ap (λ (l : List Call). second.later.0 ++ l) first.later.1 ∙ sym (append_assoc second.later.0 first.later.0 a.calls),
-  );
-}
-
-pub grows_on : (found old new : Option Log) → Changes found old (λ a b. IsSoundlyFound (now a) → LogGoesOn a b) → Changes old new LogGoesOn → Changes found new (λ a b. IsSoundlyFound (now a) → LogGoesOn a b)
-grows_on None None None so_far more = tt
-grows_on None None (Some c) so_far more = absurd more
-grows_on None (Some b) new so_far more = absurd so_far
-grows_on (Some a) None new so_far more = absurd so_far
-grows_on (Some a) (Some b) None so_far more = absurd more
-grows_on (Some a) (Some b) (Some c) so_far more = λ sound. goes_through a b c (so_far sound) more
 
 -- what reads gave at an earlier moment
 pub read_then : (a b : Log) (m : ℕ) → LogGoesOn a b → m ≤ moment a → now (log_at a m) ≡ now (log_at b m)

@@ -5,6 +5,8 @@ use Rattle.outside.specs.Calls.{Changes, Told}
 use Rattle.outside.specs.Images.{Log, moment}
 use Rattle.outside.specs.Views.{FolderView, EntropyView}
 use Rattle.outside.proofs.Told.{unchanged}
+use Rattle.deeds.specs.Deeds.{LogGoesOn}
+use Rattle.deeds.proofs.Growing.{goes_nowhere}
 use Rattle.tree_model.specs.declared.refusal.Refusal.TheVariants as refusals
 use Rattle.tree_model.specs.Rows.{Rows}
 use Rattle.tree_model.specs.Asked.{PlainReply, refused}
@@ -14,9 +16,9 @@ use Rattle.stop_history.specs.Stable.{is_kept, stable_then}
 use Rattle.stop_history.proofs.Moves.{stays_broken}
 use Rattle.stop_history.proofs.States.{state_broke, broken_state}
 use Rattle.node_changes.specs.Placed.{IfDrawn, IsIdentifierOf}
-use Rattle.store_history.specs.Store.{StoreView, bounded, moment_of, shows_under, IsStoredIn, IsStoreOf, LogGoesOn}
+use Rattle.store_history.specs.Store.{StoreView, bounded, moment_of, shows_under, IsStoredIn, IsStoreOf}
 use Rattle.store_history.specs.Turns.{Draws, IsMadeOf, AddsEntry, Turn, made_in, IsTakenFor, StoppedTurnsAdd}
-use Rattle.store_history.proofs.Placed.{goes_nowhere, placed_more}
+use Rattle.store_history.proofs.Placed.{placed_more}
 use Rattle.store_history.proofs.Turns.{and_false, none_not_some, counted, stable, adds_to}
 
 some_back : (o : Option ℕ) (number : ℕ) → Some number ≡ option_map bounded o → (f : ℕ) × (o ≡ Some f) × (number ≡ bounded f)

@@ -8,7 +8,8 @@ use Rattle.outside.specs.Views.{FolderView, EntropyView}
 use Rattle.outside.proofs.Moments.{moment_later}
 use Rattle.outside.proofs.Told.{changed_by, changed_from, unchanged}
 use Rattle.siv_mode.specs.Keys.{KeyPair}
-use Rattle.deeds.specs.Deeds.{PlainDeed}
+use Rattle.deeds.specs.Deeds.{PlainDeed, LogGoesOn}
+use Rattle.deeds.proofs.Growing.{goes_nowhere, grown_on, leaves_go_on}
 use Rattle.chunk_journal.specs.Journal.{AnyMoment, IsBeforeOrAfter}
 use Rattle.pending_files.specs.Laid.{CanWait, LookAlike, laid, laid_log}
 use Rattle.pending_files.proofs.Batched.{is_repeatable}
@@ -35,12 +36,12 @@ use Rattle.stop_history.proofs.Histories.{at_within, longer, rows_all, tally_sta
 use Rattle.stop_history.proofs.Moves.{idles, idles_kept, commits, breaks, settles_broken, stays_broken}
 use Rattle.stop_history.proofs.Stable.{stable_next}
 use Rattle.stop_history.proofs.States.{state_runs, running_state, broken_state}
-use Rattle.store_history.specs.Store.{StoreView, bounded, moment_of, shows_under, ArePlaced, HasRows, IsPlacedOn, IsSaidFrom, IsStoredIn, IsStoreOf, LogGoesOn}
+use Rattle.store_history.specs.Store.{StoreView, bounded, moment_of, shows_under, ArePlaced, HasRows, IsPlacedOn, IsSaidFrom, IsStoredIn, IsStoreOf}
 use Rattle.store_history.specs.Turns.{Draws, IsMadeOf, Turn, made_in, made_of, IsTurn, IsQuietTurn, IsChangedTurn, IsBrokenTurn, IsUnflushedTurn, QuietTurnsAdd, ChangedTurnsAdd, BrokenTurnsAdd, UnflushedTurnsAdd}
 use Rattle.node_changes.proofs.Beside.{stands_beside}
 use Rattle.store_history.proofs.Shows.{shows_blind, stands_shows}
 use Rattle.store_history.proofs.Alike.{for_alike, looks_itself, looks_through}
-use Rattle.store_history.proofs.Placed.{HasBegun, at_its_end, begins_low, begun_goes_on, goes_later, goes_nowhere, grows_on, leaves_go_on, opened_goes_on, placed_more}
+use Rattle.store_history.proofs.Placed.{HasBegun, at_its_end, begins_low, begun_goes_on, goes_later, opened_goes_on, placed_more}
 
 pub bounded_suc : (n : ℕ) → bounded (suc (bounded n)) ≡ bounded (suc n)
 bounded_suc n = omega arith
@@ -129,7 +130,7 @@ module _ (old new : StoreView) (before after : FolderView) (source source' : Ent
       let more : tally_of origin (history ++ entry ∷ []) ≡ next tally entry = after_more (tally_at origin) history entry in
       record {
         stored = stored;
-        grown = grows_on found before.log after.log store.grown grown;
+        grown = grown_on found before.log after.log store.grown grown;
         opened = opened_goes_on origin.moment found before.log after.log (begins_low origin history (moment_of before.log) store.caused store.moment) store.opened grown;
         caused = caused_more (tally_at origin) history entry store.caused caused;
         faults = omega (arith, ap (λ (t : Tally). t.folder_faults) more);

@@ -17,7 +17,8 @@ use Rattle.held_changes.specs.Loading.{loaded_tree}
 use Rattle.name_places.specs.Claims.{AreClaimsOf}
 use Rattle.stop_history.specs.Prefix.{StopsRecover, BeginningRecovers, IsWhole}
 use Rattle.stop_history.specs.Opening.{IsSoundlyFound, OpeningRecovers}
-use Rattle.store_history.specs.Store.{StoreView, ArePlaced, IsSaidFrom, IsStoreOf, LogGoesOn, moment_of, shows_under}
+use Rattle.deeds.specs.Deeds.{LogGoesOn}
+use Rattle.store_history.specs.Store.{StoreView, ArePlaced, IsSaidFrom, IsStoreOf, moment_of, shows_under}
 
 -- the rows of what a found disk recovers to, of a vault that is unlocked at this second; there are no more of them than a tree may have nodes
 pub record IsFoundClear (keys : KeyPair) (disk : Disk) (unlocked : ℕ) (rows : Rows) : Type 0 where
@@ -77,7 +78,7 @@ StoresAreWhole = (found : Option Log) (store : StoreView) (folder : FolderView) 
 
 -- what is left of a store's history where the commit of what waits failed as it was closed
 pub record IsCutShort (found : Option Log) (store : StoreView) (after : FolderView) (rows : Rows) (origin : Origin) (history : List Entry) : Type 0 where
-  pub grown : Changes found after.log (λ old new. IsSoundlyFound (now old) → LogGoesOn old new)
+  pub grown : Changes found after.log LogGoesOn
   pub opened : Changes found after.log (λ old new. HasOpened old (log_at new origin.moment))
   pub placed : Told after.log (ArePlaced store.keys rows origin history)
   pub recover : Recovers found store.keys after rows origin history

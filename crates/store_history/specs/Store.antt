@@ -1,11 +1,11 @@
 -- What an open vault stands for: a legal history of the plain file tree, and what a stop at each moment of it recovers to.
-use Rattle.std.specs.Prelude.{◌≡◌, ◌⊎◌, ℕ, suc, ◌≤◌, ◌^◌, ◌-◌, min, List, ◌++◌, length, take, Option, Some, IsNone, IsSomeAnd}
+use Rattle.std.specs.Prelude.{◌≡◌, ◌⊎◌, ℕ, suc, ◌≤◌, ◌^◌, ◌-◌, min, List, length, take, Option, Some, IsNone, IsSomeAnd}
 use Rattle.std.specs.Option.{option_map, option_map_or}
 use Rattle.outside.specs.Calls.{Changes, Told}
 use Rattle.outside.specs.Disk.{Disk}
-use Rattle.outside.specs.Images.{Call, Log, disk_in, log_at, moment, now}
+use Rattle.outside.specs.Images.{Log, disk_in, log_at, moment, now}
 use Rattle.outside.specs.Views.{FolderView}
-use Rattle.deeds.specs.Deeds.{PlainDeed}
+use Rattle.deeds.specs.Deeds.{PlainDeed, LogGoesOn}
 use Rattle.chunk_journal.specs.Opening.{HasOpened}
 use Rattle.pending_files.specs.Laid.{CanWait, LookAlike, laid, laid_log}
 use Rattle.siv_mode.specs.Keys.{KeyPair}
@@ -51,20 +51,13 @@ moment_of log = option_map_or (λ l. moment l) log 0
 abbrev pub shown_in : StoreView → FolderView → Option Disk
 shown_in store folder = disk_in (option_map (laid_log store.waiting) folder.log)
 
--- ---- a folder's log since it was found
-
--- its calls go on from the old ones, and change none of them
-pub record LogGoesOn (old new : Log) : Type 0 where
-  pub start : new.start ≡ old.start
-  pub later : (since : List Call) × (new.calls ≡ since ++ old.calls)
+-- ---- a store's history
 
 -- What a stop recovers to is said from the end of the opening on, where a history begins; and where the disk was found sound, whose journal has no
 -- batch that can't be done again, from the end of the opening's first sync on.
 abbrev pub IsSaidFrom : Option Log → Origin → ℕ → Type 0
 IsSaidFrom found origin opened =
     (opened ≡ origin.moment) ⊎ IsSomeAnd found (λ log. IsSoundlyFound (now log) × (opened ≡ suc (moment log)))
-
--- ---- a store's history
 
 -- The tree in memory is that of a disk, and its rows, with the contents that its files have there, are those after the entries, but for
 -- versions past 2^32.
@@ -106,7 +99,7 @@ pub record IsStoredIn (found : Option Log) (store : StoreView) (rows : Rows) (or
 -- where the folder tells its log, it stands for them on that, and the history begins at a moment at which the journal had been opened.
 pub record IsStoreOf (found : Option Log) (store : StoreView) (folder : FolderView) (rows : Rows) (origin : Origin) (history : List Entry) : Type 0 where
   pub stored : Told folder.log (IsStoredIn found store rows origin history)
-  pub grown : Changes found folder.log (λ old new. IsSoundlyFound (now old) → LogGoesOn old new)
+  pub grown : Changes found folder.log LogGoesOn
   pub opened : Changes found folder.log (λ old new. HasOpened old (log_at new origin.moment))
   pub caused : AreCaused (tally_at origin) history
   pub faults : (tally_of origin history).folder_faults ≤ folder.faults

@@ -1,12 +1,12 @@
-use Rattle.std.proofs.Common.{◌⊎◌, List, Option, None, refl, sym, subst, inr}
+use Rattle.std.proofs.Common.{◌≡◌, ◌⊎◌, List, Option, None, refl, sym, subst, inr}
 use Rattle.std.specs.Prelude.{MatchOption}
 use Rattle.std.specs.declared.vec.Vec.{Vec}
 use Rattle.std.specs.declared.alloc.Global.{Global}
 use Rattle.std.proofs.lemmas.Result.{err_from_is_err_and}
 use Rattle.outside.specs.Calls.{Told, Changes}
 use Rattle.outside.specs.Images.{Log, now}
-use Rattle.outside.proofs.Told.{changed_by, through}
-use Rattle.deeds.specs.Deeds.{PlainDeed}
+use Rattle.outside.proofs.Told.{both_changed, changed_by, through}
+use Rattle.deeds.specs.Deeds.{PlainDeed, LogGoesOn}
 use Rattle.deeds.specs.Plain.{plains}
 use Rattle.deeds.specs.declared.deed.Deed.{Deed}
 use Rattle.chunk_journal.specs.Journal.{HoldsBatch, IsRepeatable, IsClosed, StaysRecovered}
@@ -21,6 +21,10 @@ Looks found log = (HasFolder (now log) → ⊥) × MatchOption found (IsClosed (
 
 abbrev Stays : List PlainDeed → Log → Log → Type 0
 Stays bs old new = IsRepeatable bs → StaysRecovered bs old new
+
+-- what doing a batch again leaves, of a folder that stood still since it settled
+redone_stays : (bs : List PlainDeed) (a b c : Option Log) → b ≡ a → Changes b c LogGoesOn → Changes b c (Stays bs) → Changes a c (λ x y. LogGoesOn x y × Stays bs x y)
+redone_stays bs a b c same grown stays = subst (λ (o : Option Log). Changes o c (λ x y. LogGoesOn x y × Stays bs x y)) same (both_changed b c LogGoesOn (Stays bs) grown stays)
 
 pub returns-in_err-deeds-clause-any_moment : goal.returns-in_err-deeds-clause-any_moment
 returns-in_err-deeds-clause-any_moment g c =
@@ -60,8 +64,8 @@ returns-in_err-redo-clause-any_moment g c =
     let l3 = g.D.Reads.log c.redo.new.folder in
     let s = told_settled l0 l1 c.in_ok-settle.ensures.synced c.in_ok-settle.ensures.steady c.in_ok-settle.ensures.any_moment in
     let found : Told l1 (Finds bs) = subst (λ (o : Option (Vec Deed Global)). Told l1 (Looks o)) c.in-Some.is c.in_ok-deeds.ensures.found in
-    through l0 l1 l3 (λ x y. HasSettled x y × Finds bs y) (Stays bs) StaysOpening (λ x y z p q. inr (reopened_by bs x y z p q)) (with_new l0 l1 HasSettled (Finds bs) s found)
-    (subst (λ (o : Option Log). Changes o l3 (Stays bs)) c.open_batch.ensures.log
+    through l0 l1 l3 (λ x y. HasSettled x y × Finds bs y) (λ x y. LogGoesOn x y × Stays bs x y) StaysOpening (λ x y z p q. inr (reopened_by bs x y z p q)) (with_new l0 l1 HasSettled (Finds bs) s found)
+    (redone_stays bs l1 (g.D.Reads.log c.open_batch.new.folder) l3 c.open_batch.ensures.log c.in_err-redo.ensures.grown
     (subst (λ (ds : List Deed). Changes (g.D.Reads.log c.open_batch.new.folder) l3 (Stays (plains ds))) c.deref.ensures.value c.in_err-redo.ensures.any_moment))
 
 pub returns-in_err-redo-clause-damaged : goal.returns-in_err-redo-clause-damaged
@@ -98,8 +102,8 @@ returns-clause-opening g c =
     let l3 = g.D.Reads.log c.redo.new.folder in
     let s = told_settled l0 l1 c.in_ok-settle.ensures.synced c.in_ok-settle.ensures.steady c.in_ok-settle.ensures.any_moment in
     let found : Told l1 (Finds bs) = subst (λ (o : Option (Vec Deed Global)). Told l1 (Looks o)) c.in-Some.is c.in_ok-deeds.ensures.found in
-    through l0 l1 l3 (λ x y. HasSettled x y × Finds bs y) (Stays bs) IsOpening (reopened_by bs) (with_new l0 l1 HasSettled (Finds bs) s found)
-    (subst (λ (o : Option Log). Changes o l3 (Stays bs)) c.open_batch.ensures.log
+    through l0 l1 l3 (λ x y. HasSettled x y × Finds bs y) (λ x y. LogGoesOn x y × Stays bs x y) IsOpening (reopened_by bs) (with_new l0 l1 HasSettled (Finds bs) s found)
+    (redone_stays bs l1 (g.D.Reads.log c.open_batch.new.folder) l3 c.open_batch.ensures.log c.in_ok-redo.ensures.grown
     (subst (λ (ds : List Deed). Changes (g.D.Reads.log c.open_batch.new.folder) l3 (Stays (plains ds))) c.deref.ensures.value c.in_ok-redo.ensures.any_moment))
 
 pub returns-clause-any_moment : goal.returns-clause-any_moment
@@ -110,6 +114,6 @@ returns-clause-any_moment g c =
     let l3 = g.D.Reads.log c.redo.new.folder in
     let s = told_settled l0 l1 c.in_ok-settle.ensures.synced c.in_ok-settle.ensures.steady c.in_ok-settle.ensures.any_moment in
     let found : Told l1 (Finds bs) = subst (λ (o : Option (Vec Deed Global)). Told l1 (Looks o)) c.in-Some.is c.in_ok-deeds.ensures.found in
-    through l0 l1 l3 (λ x y. HasSettled x y × Finds bs y) (Stays bs) StaysOpening (λ x y z p q. inr (reopened_by bs x y z p q)) (with_new l0 l1 HasSettled (Finds bs) s found)
-    (subst (λ (o : Option Log). Changes o l3 (Stays bs)) c.open_batch.ensures.log
+    through l0 l1 l3 (λ x y. HasSettled x y × Finds bs y) (λ x y. LogGoesOn x y × Stays bs x y) StaysOpening (λ x y z p q. inr (reopened_by bs x y z p q)) (with_new l0 l1 HasSettled (Finds bs) s found)
+    (redone_stays bs l1 (g.D.Reads.log c.open_batch.new.folder) l3 c.open_batch.ensures.log c.in_ok-redo.ensures.grown
     (subst (λ (ds : List Deed). Changes (g.D.Reads.log c.open_batch.new.folder) l3 (Stays (plains ds))) c.deref.ensures.value c.in_ok-redo.ensures.any_moment))

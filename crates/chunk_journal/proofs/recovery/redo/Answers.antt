@@ -1,15 +1,16 @@
-use Rattle.std.proofs.Common.{◌≡◌, ◌⊎◌, ◌∷◌, [], inr}
+use Rattle.std.proofs.Common.{◌≡◌, ◌⊎◌, List, ◌∷◌, [], Option, inr}
 use Rattle.std.proofs.lemmas.Result.{err_from_is_err_and}
-use Rattle.outside.specs.Calls.{Told}
+use Rattle.outside.specs.Calls.{Told, Changes}
+use Rattle.outside.specs.Changes.{Write, IsPartOf}
 use Rattle.outside.specs.Images.{Log, now, IsSteady}
-use Rattle.outside.proofs.Told.{both_changed, changed_from, told_through, through}
-use Rattle.deeds.specs.Deeds.{PlainDeed, DoesAll, StaysAmid, in_order}
+use Rattle.outside.proofs.Told.{both_changed, changed_by, changed_from, told_through, through}
+use Rattle.deeds.specs.Deeds.{PlainDeed, DoesAll, StaysAmid, LogGoesOn, in_order}
 use Rattle.deeds.specs.Plain.{plains}
+use Rattle.deeds.proofs.Growing.{leaves_go_on, grown_on}
 use Rattle.chunk_journal.specs.Journal.{journal_file, IsFound, IsRepeatable, StaysRecovered}
 use Rattle.chunk_journal.specs.Opening.{HasFolder, IsUnfitAt, LeavesFolder}
 use Rattle.chunk_journal.proofs.Gate.{LeavesParts, found_leaves, redone, shut_leaves}
 use Rattle.chunk_journal.proofs.Openings.{damaged_by, told_back, leaves_folder, redone_all, ClosesBeside, HasRedone}
-use Rattle.std.proofs.Common.{List}
 use Rattle.chunk_journal.proofs.recovery.redo.Goals as goal
 
 abbrev Done : List PlainDeed → Log → Log → Type 0
@@ -17,6 +18,11 @@ Done bs old new = IsSteady new × DoesAll (in_order bs) (now old) (now new)
 
 abbrev Stays : List PlainDeed → Log → Log → Type 0
 Stays bs old new = IsRepeatable bs → StaysRecovered bs old new
+
+-- closing only adds calls
+closed_on : (a b c : Option Log) → Changes a b LogGoesOn → Changes b c (LeavesParts journal_file 0 (0 ∷ [])) → Changes a c LogGoesOn
+closed_on a b c grown closed =
+    grown_on a b c grown (changed_by b c (LeavesParts journal_file 0 (0 ∷ [])) LogGoesOn (λ x y leaves. leaves_go_on x y (IsPartOf (Write journal_file 0 (0 ∷ [])) (now x)) leaves) closed)
 
 pub returns-in_err-redo_deeds-clause-any_moment : goal.returns-in_err-redo_deeds-clause-any_moment
 returns-in_err-redo_deeds-clause-any_moment g c =
@@ -65,3 +71,11 @@ returns-clause-any_moment g c =
     told_through l0 l1 l2 (IsFound bs) (λ x y. StaysAmid (in_order bs) x y × Done bs x y) (LeavesParts journal_file 0 (0 ∷ [])) (Stays bs)
     (λ x y z f p q repeatable. shut_leaves bs k repeatable x y z (redone bs k repeatable x y f p.0 p.1) q)
     c.requires.found (both_changed l0 l1 (StaysAmid (in_order bs)) (Done bs) c.in_ok-redo_deeds.ensures.amid c.in_ok-redo_deeds.ensures.done) c.in_ok-close.ensures.any_moment
+
+pub returns-in_err-close-clause-grown : goal.returns-in_err-close-clause-grown
+returns-in_err-close-clause-grown g c =
+    closed_on (g.D.Reads.log c.args.folder.now) (g.D.Reads.log c.redo_deeds.new.folder) (g.D.Reads.log c.close.new.folder) c.in_ok-redo_deeds.ensures.grown c.in_err-close.ensures.any_moment
+
+pub returns-clause-grown : goal.returns-clause-grown
+returns-clause-grown g c =
+    closed_on (g.D.Reads.log c.args.folder.now) (g.D.Reads.log c.redo_deeds.new.folder) (g.D.Reads.log c.close.new.folder) c.in_ok-redo_deeds.ensures.grown c.in_ok-close.ensures.any_moment

@@ -9,6 +9,7 @@ use Rattle.deeds.specs.Plain.{plains}
 use Rattle.deeds.proofs.Doing.{does_then, stays_then, stays_front}
 use Rattle.deeds.proofs.Phases.{cause_then}
 use Rattle.deeds.proofs.Batches.{within_batch, refused_in}
+use Rattle.deeds.proofs.Growing.{grown_on}
 use Rattle.deeds.proofs.batch.do_batch.Goals as goal
 
 abbrev Done : List PlainDeed → Log → Log → Type 0
@@ -144,3 +145,21 @@ returns-in_err-do_phase-3-clause-cause g c =
 
 pub returns-clause-cause : goal.returns-clause-cause
 returns-clause-cause g c = record { later = omega (arith, c.in_ok-do_phase.ensures.cause.later, c.in_ok-do_phase-2.ensures.cause.later, c.in_ok-do_phase-3.ensures.cause.later); rose = λ failed. absurd cc }
+
+pub returns-clause-grown : goal.returns-clause-grown
+returns-clause-grown g c =
+    let l0 = g.F.Reads.log c.args.folder.now in
+    let l1 = g.F.Reads.log c.do_phase.new.folder in
+    let l2 = g.F.Reads.log c.do_phase-2.new.folder in
+    grown_on l0 l2 (g.F.Reads.log c.do_phase-3.new.folder) (grown_on l0 l1 l2 c.in_ok-do_phase.ensures.grown c.in_ok-do_phase-2.ensures.grown) c.in_ok-do_phase-3.ensures.grown
+
+pub returns-in_err-do_phase-2-clause-grown : goal.returns-in_err-do_phase-2-clause-grown
+returns-in_err-do_phase-2-clause-grown g c =
+    grown_on (g.F.Reads.log c.args.folder.now) (g.F.Reads.log c.do_phase.new.folder) (g.F.Reads.log c.do_phase-2.new.folder) c.in_ok-do_phase.ensures.grown c.in_err-do_phase-2.ensures.grown
+
+pub returns-in_err-do_phase-3-clause-grown : goal.returns-in_err-do_phase-3-clause-grown
+returns-in_err-do_phase-3-clause-grown g c =
+    let l0 = g.F.Reads.log c.args.folder.now in
+    let l1 = g.F.Reads.log c.do_phase.new.folder in
+    let l2 = g.F.Reads.log c.do_phase-2.new.folder in
+    grown_on l0 l2 (g.F.Reads.log c.do_phase-3.new.folder) (grown_on l0 l1 l2 c.in_ok-do_phase.ensures.grown c.in_ok-do_phase-2.ensures.grown) c.in_err-do_phase-3.ensures.grown

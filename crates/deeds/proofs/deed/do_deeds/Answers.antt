@@ -7,6 +7,7 @@ use Rattle.deeds.specs.Deeds.{PlainDeed, DoesAll, StaysAmid, of_phase}
 use Rattle.deeds.specs.Plain.{plain, plains}
 use Rattle.deeds.proofs.Doing.{split_at, all_still}
 use Rattle.deeds.proofs.Phases.{part_more, done_more, plains_at, within_at, plains_all, refused_at, cause_then}
+use Rattle.deeds.proofs.Growing.{still_grown, grown_on}
 use Rattle.deeds.proofs.deed.do_deeds.Goals as goal
 
 abbrev Front : Phase → List PlainDeed → ℕ → Log → Log → Type 0
@@ -23,6 +24,7 @@ loop-index-init g c =
     record {
       done = unchanged a a (Front phase ds 0) refl (λ l. refl);
       amid = unchanged a a (StaysAmid (of_phase phase ds)) refl (all_still (of_phase phase ds));
+      grown = still_grown a a refl;
       later = omega arith;
     }
 
@@ -60,6 +62,7 @@ loop-index-preserved g c =
           (λ old mid new so_far one. done_more phase ds i (plain x) _ at (now old) (now mid) (now new) so_far one) c.loop-index.invariant.done c.in_ok-do_at.ensures.done;
       amid = through a b d (StaysAmid (of_phase phase ds)) (StaysAmid (of_phase phase (plain x ∷ []))) (StaysAmid (of_phase phase ds))
           (part_more phase ds i (plain x) _ at) c.loop-index.invariant.amid c.in_ok-do_at.ensures.amid;
+      grown = grown_on a b d c.loop-index.invariant.grown c.in_ok-do_at.ensures.grown;
       later = omega (arith, c.loop-index.invariant.later, c.in_ok-do_at.ensures.cause.later);
     }
 
@@ -89,3 +92,7 @@ returns-clause-done g c =
 
 pub returns-clause-cause : goal.returns-clause-cause
 returns-clause-cause g c = record { later = c.loop-index.invariant.later; rose = λ failed. absurd cc }
+
+pub returns-in_err-do_at-clause-grown : goal.returns-in_err-do_at-clause-grown
+returns-in_err-do_at-clause-grown g c =
+    grown_on (g.F.Reads.log c.args.folder.now) (g.F.Reads.log c.loop-index.folder) (g.F.Reads.log c.do_at.new.folder) c.loop-index.invariant.grown c.in_err-do_at.ensures.grown

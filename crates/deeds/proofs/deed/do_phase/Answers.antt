@@ -7,6 +7,7 @@ use Rattle.outside.proofs.Told.{told_through}
 use Rattle.deeds.specs.Deeds.{DoesAll, StaysAmid, of_phase}
 use Rattle.deeds.specs.Plain.{plains}
 use Rattle.deeds.proofs.Doing.{phase_done, synced_amid}
+use Rattle.deeds.proofs.Growing.{synced_grown, grown_on}
 use Rattle.deeds.proofs.deed.do_phase.Goals as goal
 
 on_ok_mapped : {T D E P Q : Type 0} (mapped : Result T D) (r : Result T E) → is_ok mapped ≡ is_ok r → (P → Q) → OnOk r P → OnOk mapped Q
@@ -33,3 +34,12 @@ returns-clause-amid g c =
     (through (g.F.Reads.log c.args.folder.now) (g.F.Reads.log c.do_deeds.new.folder) (g.F.Reads.log c.sync.new.self)
     (StaysAmid xs) (λ mid new. new ≡ adds mid Synced) (StaysAmid xs) (synced_amid xs) c.in_ok-do_deeds.ensures.amid)
     (λ same. rw same c.in_ok-do_deeds.ensures.amid)
+
+pub returns-clause-grown : goal.returns-clause-grown
+returns-clause-grown g c =
+    let a = g.F.Reads.log c.args.folder.now in
+    let b = g.F.Reads.log c.do_deeds.new.folder in
+    let d = g.F.Reads.log c.sync.new.self in
+    on_either c.sync.result c.sync.ensures.synced c.sync.ensures.failed
+    (λ synced. grown_on a b d c.in_ok-do_deeds.ensures.grown (synced_grown b d synced))
+    (λ same. rw same c.in_ok-do_deeds.ensures.grown)

@@ -11,6 +11,7 @@ use Rattle.deeds.specs.Deeds.{Reshapes, Does, StaysAmid, IsLeft}
 use Rattle.deeds.specs.Plain.{plain_ranges}
 use Rattle.deeds.proofs.Doing.{did_amid, broke_amid, still_amid, write_of, cut_of, left_does, split_at, reshape_left}
 use Rattle.deeds.proofs.Phases.{unfit_then, cause_then}
+use Rattle.deeds.proofs.Growing.{still_grown, did_grown, broke_grown, grown_on}
 use Rattle.std.proofs.lemmas.Result.{err_from_is_err_and}
 use Rattle.deeds.proofs.writes.do_reshape.Goals as goal
 
@@ -37,6 +38,7 @@ loop-range-init g c =
       rest = unchanged a a (Follows p n s s) refl (λ l end more. more);
       later = omega arith;
       amid = unchanged a a (StaysAmid (x ∷ [])) refl (still_amid x);
+      grown = still_grown a a refl;
     }
 
 pub returns-in_err-write-clause-amid : goal.returns-in_err-write-clause-amid
@@ -90,6 +92,7 @@ loop-range-preserved g c =
           c.loop-range.invariant.rest did;
       later = omega (arith, c.loop-range.invariant.later, c.in_ok-write.ensures.cause.later);
       amid = through a b d (StaysAmid (x ∷ [])) (HasDone w) (StaysAmid (x ∷ [])) (λ old mid new stays did. did_amid x w old mid new its stays did) c.loop-range.invariant.amid did;
+      grown = grown_on a b d c.loop-range.invariant.grown (did_grown w b d did);
     }
 
 pub returns-in_err-set_len-clause-amid : goal.returns-in_err-set_len-clause-amid
@@ -180,3 +183,23 @@ returns-in_err-set_len-clause-cause g c =
 
 pub returns-clause-cause : goal.returns-clause-cause
 returns-clause-cause g c = record { later = omega (arith, c.loop-range.invariant.later, c.in_ok-set_len.ensures.cause.later); rose = λ failed. absurd cc }
+
+pub returns-in_err-write-clause-grown : goal.returns-in_err-write-clause-grown
+returns-in_err-write-clause-grown g c =
+    let b = g.F.Reads.log c.loop-range.folder in
+    let d = g.F.Reads.log c.write.new.self in
+    let r = c.range-item.result in
+    grown_on (g.F.Reads.log c.args.folder.now) b d c.loop-range.invariant.grown
+    (broke_grown (Write c.args.path.now r.at r.bytes.items) b d (subst (λ (t : List ℕ). Changes b d (HasBroken (Write c.args.path.now r.at t))) c.deref.ensures.value c.in_err-write.ensures.broken))
+
+pub returns-in_err-set_len-clause-grown : goal.returns-in_err-set_len-clause-grown
+returns-in_err-set_len-clause-grown g c =
+    let b = g.F.Reads.log c.loop-range.folder in
+    let d = g.F.Reads.log c.set_len.new.self in
+    grown_on (g.F.Reads.log c.args.folder.now) b d c.loop-range.invariant.grown (broke_grown (SetLen c.args.path.now c.args.len) b d c.in_err-set_len.ensures.broken)
+
+pub returns-clause-grown : goal.returns-clause-grown
+returns-clause-grown g c =
+    let b = g.F.Reads.log c.loop-range.folder in
+    let d = g.F.Reads.log c.set_len.new.self in
+    grown_on (g.F.Reads.log c.args.folder.now) b d c.loop-range.invariant.grown (did_grown (SetLen c.args.path.now c.args.len) b d c.in_ok-set_len.ensures.done)

@@ -3,7 +3,7 @@ use Rattle.outside.specs.Calls.{Changes}
 use Rattle.outside.specs.Disk.{Disk}
 use Rattle.outside.specs.Images.{now}
 use Rattle.deeds.specs.Reshape.{IsRangeOf}
-use Rattle.deeds.specs.Deeds.{Reshapes, StaysAmid, IsLeft}
+use Rattle.deeds.specs.Deeds.{Reshapes, StaysAmid, LogGoesOn, IsLeft}
 use Rattle.deeds.specs.Plain.{plain_ranges}
 use Rattle.deeds.proofs.writes.do_reshape.Given as goal
 
@@ -14,4 +14,5 @@ invariant-loop-range g l = record {
   rest : Changes (g.F.Reads.log l.fn.folder) (g.F.Reads.log l.folder) (λ old new. (end : Disk) → IsLeft l.path l.len (plain_ranges l.ranges) (now old) end → IsLeft l.path l.len (plain_ranges (drop l.range-index l.ranges)) (now new) end);
   later : g.F.Reads.faults l.fn.folder ≤ g.F.Reads.faults l.folder;
   amid : Changes (g.F.Reads.log l.fn.folder) (g.F.Reads.log l.folder) (StaysAmid (Reshapes l.path l.len (plain_ranges l.ranges) ∷ []));
+  grown : Changes (g.F.Reads.log l.fn.folder) (g.F.Reads.log l.folder) LogGoesOn;
 }
