@@ -1,0 +1,12 @@
+pub mod Unmarked
+pub mod Blocks
+pub mod Sealed
+pub mod Coded
+pub mod Names
+pub mod Forms
+pub mod Clear
+pub mod Entries
+pub mod Directory
+pub mod Accepted
+pub mod Sites
+pub mod Requests
