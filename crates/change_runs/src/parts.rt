@@ -4,6 +4,7 @@ use crate::error::RunErr;
 use crate::run::{Ended, Manner, Progress, check_stop, run_script};
 use crate::table::{Script, read_scripts};
 use crate::vault::{seeded, tree_in};
+use outside_mem::MemFolder;
 use std::alloc::Global;
 
 /// Most images of a stop that are looked at.
@@ -69,11 +70,7 @@ impl Tally {
     }
 
     fn look_at_requests(&mut self, script: &Script<'_>, manner: Manner) -> Result<(), RunErr> {
-        let outcome = match run_script(script, manner, script.folder()?, seeded(self.alloc)) {
-            Ok(ended) => ended.check(script, 0),
-            Err(error) => Err(error),
-        };
-        self.add(script.about, outcome)
+        self.add(script.about, check_requests(script, manner))
     }
 
     fn look_at_waits(&mut self, script: &Script<'_>) -> Result<(), RunErr> {
@@ -133,15 +130,26 @@ impl Tally {
     ) -> Result<(), RunErr> {
         let Progress { begun, stable, .. } = ended.progress;
         for (number, image) in ended.folder.images(MOST_IMAGES)?.into_iter().enumerate() {
-            let outcome = match tree_in(self.alloc, image) {
-                Ok(tree) => script.check_tree(stable, begun, tree.as_str()),
-                Err(error) => Err(error),
-            };
             let place = format!(in self.alloc; "{place}, image {number}")?;
-            self.add(place.as_str(), outcome)?;
+            self.add(place.as_str(), check_image(script, stable, begun, image))?;
         }
         Ok(())
     }
+}
+
+fn check_requests(script: &Script<'_>, manner: Manner) -> Result<(), RunErr> {
+    run_script(script, manner, script.folder()?, seeded(script.alloc))?.check(script, 0)
+}
+
+// The image recovers to the tree after so many requests, at least and at most.
+fn check_image(
+    script: &Script<'_>,
+    least: usize,
+    most: usize,
+    image: MemFolder,
+) -> Result<(), RunErr> {
+    let tree = tree_in(script.alloc, image)?;
+    script.check_tree(least, most, tree.as_str())
 }
 
 // Gives whether a run came to the draw, which fails.

@@ -151,13 +151,14 @@ impl Run<'_, '_> {
             ..
         } = self;
         let (folder, closed) = vault.close();
-        if stopped && closed.is_ok() {
+        let committed = closed.committed();
+        if stopped && committed.is_ok() {
             return Err(RunErr::Wrong(format!(in script.alloc;
                 "closing is well after a commit that failed"
             )?));
         }
         progress.kept = progress.answered;
-        if closed.is_err() {
+        if committed.is_err() {
             progress.kept = progress.stable;
             // what waited was to be committed, and that failed
             if !stopped {

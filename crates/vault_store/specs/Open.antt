@@ -1,5 +1,6 @@
 -- An open vault as clauses see it.
-use Rattle.std.specs.Prelude.{◌≡◌, ℕ, ◌≤◌, suc, List, [], length, Option, Some, None, IsNone}
+use Rattle.std.specs.Prelude.{◌≡◌, ℕ, ◌≤◌, suc, List, [], length, Option, Some, None, IsNone, Result}
+use Rattle.outside.specs.declared.stream.Failed.{Failed}
 use Rattle.outside.specs.Calls.{Told}
 use Rattle.outside.specs.Images.{Log, now}
 use Rattle.deeds.specs.Deeds.{PlainDeed}
@@ -19,6 +20,11 @@ pub record OpenVault (D : Type 0) : Type 0 where
   pub store : StoreView
   pub threshold : ℕ
   pub folder : D
+
+-- what a store that was closed was in memory, where nothing waits any more, and whether what waited was committed
+pub record ClosedVault : Type 0 where
+  pub store : StoreView
+  pub committed : Result (Unit {0}) Failed
 
 abbrev pub view_of : VaultTree → List PlainDeed → ℕ → Option ℕ → StoreView
 view_of tree waiting entries stopped = record { keys = tree.keys; live = tree.live; claims = tree.claims; waiting = waiting; entries = entries; stopped = stopped }

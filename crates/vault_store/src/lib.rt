@@ -11,6 +11,7 @@
 
 mod answering;
 mod changing;
+mod closed;
 mod contents;
 mod flushing;
 mod opening;
@@ -18,5 +19,6 @@ mod reading;
 mod sizes;
 mod store;
 
+pub use closed::ClosedStore;
 pub use opening::OpenErr;
 pub use store::Store;

@@ -13,6 +13,7 @@ ghost use Rattle.vault_store.specs.Open.{idle_of};
 ghost use Rattle.vault_store.specs.declared.opening.OpenErr.TheVariants as open_errs;
 
 use crate::answering::{Broken, Vault};
+use crate::closed::ClosedStore;
 use crate::opening::OpenErr;
 use outside::{Entropy, Failed, Folder, Refused};
 use siv_mode::VaultKeys;
@@ -116,24 +117,32 @@ impl<D: Folder> Store<D> {
         reply
     }
 
-    /// Closes the vault, has what waits committed, and hands its folder back. `Failed` comes only where that commit failed, which raised the
-    /// folder's count of faults, or an earlier one did.
-    pub fn close(mut self) -> (D, Result<(), Failed>)
-        ensures flushed { IsNone self.store.stopped → OnOk result.1 (IsFlushed self.store (idle_of self.store)
+    /// Closes the vault: has what waits committed, and hands back its folder and what is left in memory. `committed` is `Failed` only where
+    /// that commit failed, which raised the folder's count of faults, or an earlier one did.
+    pub fn close(self) -> (D, ClosedStore)
+        ensures idle { result.1.store ≡ idle_of self.store }
+        ensures flushed { IsNone self.store.stopped → OnOk result.1.committed (IsFlushed self.store (idle_of self.store)
             (folder_view D.log D.faults D.changes self.folder) (folder_view D.log D.faults D.changes result.0)) }
         ensures moments { IsNone self.store.stopped → Changes (D.log self.folder) (D.log result.0) (AnyMoment self.store.waiting) }
-        ensures stopped { IsSome self.store.stopped → (result.0 ≡ self.folder) × IsErr result.1 }
+        ensures stopped { IsSome self.store.stopped → (result.0 ≡ self.folder) × IsErr result.1.committed }
         ensures later { D.faults self.folder ≤ D.faults result.0 }
-        ensures cause { IsErr result.1 → IsSome self.store.stopped ⊎ Rose (D.faults self.folder) (D.faults result.0) }
+        ensures cause { IsErr result.1.committed → IsSome self.store.stopped ⊎ Rose (D.faults self.folder) (D.faults result.0) }
     {
-        let closed = match self.stopped {
-            None => match self.vault.flush() {
+        let Store {
+            mut vault,
+            entries,
+            stopped,
+        } = self;
+        let committed = match stopped {
+            None => match vault.flush() {
                 Ok(()) => Ok(()),
                 Err(_) => Err(Failed),
             },
             Some(_) => Err(Failed),
         };
-        (self.vault.back.into_folder(), closed)
+        let Vault { back, tree, .. } = vault;
+        let closed = ClosedStore::new(tree, entries, stopped, committed);
+        (back.into_folder(), closed)
     }
 
     /// Hands the vault's folder back as it is; what waits is forgotten.

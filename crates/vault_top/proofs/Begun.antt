@@ -1,6 +1,5 @@
 -- From where the history of all sessions begins.
-use Rattle.std.proofs.Common.{◌≡◌, ℕ, ◌≤◌, List, [], ◌++◌, length, Option, Some, None, refl, sym, ap, subst, ◌∙◌, arith}
-use Rattle.std.proofs.lemmas.List.{length-append}
+use Rattle.std.proofs.Common.{◌≡◌, ℕ, ◌≤◌, List, [], Option, Some, None, refl, sym, ap, subst, ◌∙◌, arith}
 use Rattle.outside.specs.Calls.{Told, Changes}
 use Rattle.outside.specs.Images.{Log, moment, now}
 use Rattle.outside.specs.Views.{FolderView}
@@ -10,8 +9,9 @@ use Rattle.tree_history.specs.History.{Origin}
 use Rattle.shared_vault.specs.Turns.{StandsFor}
 use Rattle.shared_sessions.specs.Joined.{AreSince}
 use Rattle.shared_sessions.specs.declared.workers.Worker.{Worker}
-use Rattle.stop_history.specs.Opening.{IsSoundlyFound}
-use Rattle.store_history.specs.Store.{IsStoreOf, LogGoesOn, moment_of}
+use Rattle.deeds.specs.Deeds.{LogGoesOn}
+use Rattle.store_history.specs.Store.{IsStoreOf, moment_of}
+use Rattle.store_history.proofs.Placed.{goes_later}
 use Rattle.store_history.specs.Ends.{IsFoundClear}
 use Rattle.vault_store.specs.Open.{OpenVault}
 use Rattle.vault_unlock.specs.declared.unlocking.SecretKind.{SecretKind}
@@ -23,17 +23,11 @@ use Rattle.vault_top.proofs.Callers.{since_at}
 
 -- ---- moments
 
--- a log that goes on has no fewer calls
-goes_later : (a b : Log) → LogGoesOn a b → moment a ≤ moment b
-goes_later a b grown =
-    let many : length b.calls ≡ length (grown.later.0 ++ a.calls) = ap length grown.later.1 in
-    omega (arith, many, length-append grown.later.0 a.calls)
-
-moment_rises : (found now_log : Option Log) → Changes found now_log (λ old new. IsSoundlyFound (now old) → LogGoesOn old new) → Told found (λ log. IsSoundlyFound (now log) → moment log ≤ moment_of now_log)
+moment_rises : (found now_log : Option Log) → Changes found now_log LogGoesOn → Told found (λ log. moment log ≤ moment_of now_log)
 moment_rises None None grown = tt
 moment_rises None (Some b) grown = absurd grown
 moment_rises (Some a) None grown = absurd grown
-moment_rises (Some a) (Some b) grown = λ sound. goes_later a b (grown sound)
+moment_rises (Some a) (Some b) grown = goes_later a b grown
 
 -- ---- the beginning
 

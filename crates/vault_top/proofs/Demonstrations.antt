@@ -30,7 +30,8 @@ use Rattle.session_workers.specs.Ends.{AreCounts, count_of, is_done}
 use Rattle.session_workers.specs.Shares.{all_ends}
 use Rattle.session_workers.specs.Workers.{MayStop}
 use Rattle.shared_sessions.specs.declared.workers.Worker.{Worker}
-use Rattle.store_history.specs.Store.{bounded}
+use Rattle.store_history.specs.Store.{StoreView, bounded}
+use Rattle.vault_store.specs.Open.{ClosedVault}
 use Rattle.vault_unlock.specs.Secret.{IsAfterLine, raw_keys}
 use Rattle.vault_unlock.specs.Unlock.{IsUnlocking, unlock, with_raw_threshold}
 use Rattle.vault_unlock.specs.declared.unlocking.SecretKind.TheVariants.{RawKeys}
@@ -69,19 +70,19 @@ rows_at-all rows (entry ∷ entries) = rows_at-all (rows_then rows entry.made) e
 
 -- ---- an outcome that was counted
 
-record IsCounted {X : Type 0} (counts : Result SessionCounts Failed) (closing : Result X Failed) (c : SessionCounts) : Type 0 where
+record IsCounted (counts : Result SessionCounts Failed) (closing : Result (Unit {0}) Failed) (c : SessionCounts) : Type 0 where
   counted : counts ≡ Ok c
   closed : IsOk closing
 
-counted_so : {X : Type 0} (counts : Result SessionCounts Failed) (closing : Result X Failed) (outcome : Outcome) (c : SessionCounts) → HasOutcome counts closing outcome → outcome ≡ Served c
+counted_so : (counts : Result SessionCounts Failed) (closing : Result (Unit {0}) Failed) (outcome : Outcome) (c : SessionCounts) → HasOutcome counts closing outcome → outcome ≡ Served c
     → IsCounted counts closing c
 counted_so counts closing outcome c h is = let served = subst (λ (o : Outcome). HasOutcome counts closing o) is h in record { counted = served.0; closed = served.1 }
 
 not_counted : (outcome : Outcome) (c : SessionCounts) → outcome ≡ NoMemory → outcome ≡ Served c → ⊥
 not_counted outcome c none some = let e : NoMemory ≡ Served c = sym none ∙ some in absurd cc
 
-same_folder : {D : Type 0} (a b : D) (o : Option D) → o ≡ Some a → o ≡ Some b → a ≡ b
-same_folder a b o e f = cc
+same_some : {X : Type 0} (a b : X) (o : Option X) → o ≡ Some a → o ≡ Some b → a ≡ b
+same_some a b o e f = cc
 
 few_entries : (n m : ℕ) → n ≡ bounded m → n < 2 ^ 64 - 1 → n ≡ m
 few_entries n m is few = omega arith
@@ -94,15 +95,15 @@ module _ {D N C E : Type 0} (start : Rows → Origin → Type 0) (since : Folder
     (line : Changes secret.before.left secret.after.left IsAfterLine) (is : IsKeptOf back service.sessions kept) where
   all_counted : (h : HasServedAll start since views second service workers workers' ends back) → AreCounts is.counts ends
   all_counted h =
-      let counted = counted_so h.counts h.closing back.outcome is.counts h.outcome is.outcome in
+      let counted = counted_so h.counts h.closed.committed back.outcome is.counts h.outcome is.outcome in
       subst (λ (es : List SessionEnd). AreCounts is.counts es) h.ended (subst (λ (r : Result SessionCounts Failed). IfOk r (λ c. AreCounts c (all_ends h.joined.shares))) counted.counted h.joined.counted)
 
   whole_of : (h : HasServedAll start since views second service workers workers' ends back)
-      → IsServedWhole views (span_of views words secret second folder h.folder workers workers') service.kind service.sessions (min service.at_once (length workers)) kept.entries
+      → IsServedWhole views (span_of views words secret second folder h.folder workers workers' (Some kept.store)) service.kind service.sessions (min service.at_once (length workers)) kept.store.store.entries
   whole_of h =
-      let counted = counted_so h.counts h.closing back.outcome is.counts h.outcome is.outcome in
+      let counted = counted_so h.counts h.closed.committed back.outcome is.counts h.outcome is.outcome in
       let counts = all_counted h in
-      let well = served_well start since views words secret second folder service workers workers' ends back starts alone line h
+      let well = served_well start since views words secret second folder service workers workers' ends back (Some kept.store) (sym is.store) starts alone line h
       (λ worker stop. subst (λ (r : Result SessionCounts Failed). MayStop r worker) counted.counted stop) counted.closed
       in
       record {
@@ -111,14 +112,15 @@ module _ {D N C E : Type 0} (start : Rows → Origin → Type 0) (since : Folder
         many = sym counts.sessions ∙ is.sessions_are;
         done = all_done ends (sym counts.done ∙ is.done ∙ sym is.sessions_are ∙ counts.sessions);
         closed = well.closed;
-        count = few_entries kept.entries (length h.joined.entries) (sym is.entries ∙ h.asked ∙ h.joined.right.stands.count) is.few ∙ sym well.count;
+        count = few_entries kept.store.store.entries (length h.joined.entries)
+            (ap (λ (c : ClosedVault). c.store.entries) (sym (same_some h.closed kept.store back.store h.closed_is is.store)) ∙ ap (λ (s : StoreView). s.entries) h.closing.idle ∙ h.joined.right.stands.count) is.few ∙ sym well.count;
       }
 
   pub served_whole : HasServed start since views second service workers workers' ends back
-      → IsServedWhole views (span_of views words secret second folder kept.folder workers workers') service.kind service.sessions (min service.at_once (length workers)) kept.entries
+      → IsServedWhole views (span_of views words secret second folder kept.folder workers workers' (Some kept.store)) service.kind service.sessions (min service.at_once (length workers)) kept.store.store.entries
   served_whole (inl h) =
-      subst (λ (f : D). IsServedWhole views (span_of views words secret second folder f workers workers') service.kind service.sessions (min service.at_once (length workers)) kept.entries)
-      (same_folder h.folder kept.folder back.folder h.folder_is is.folder) (whole_of h)
+      subst (λ (f : D). IsServedWhole views (span_of views words secret second folder f workers workers' (Some kept.store)) service.kind service.sessions (min service.at_once (length workers)) kept.store.store.entries)
+      (same_some h.folder kept.folder back.folder h.folder_is is.folder) (whole_of h)
   served_whole (inr h) = absurd (not_counted back.outcome is.counts h.outcome is.outcome)
 
 -- ---- a demonstration
@@ -141,8 +143,8 @@ pub record IsHeldAs (d : Demonstration) (written : List ℕ) : Type 0 where
 
 module _ (d : Demonstration) (secret : Course SourceView) (folder : Holding) (kept : Kept Holding) (workers' : List (Worker Links Drawing)) (keys : KeyPair) (written : List ℕ)
     (secret_is : secret.before ≡ record { left = Some (key_line d.seed); faults = 0 }) (keys_are : raw_keys (line_of (key_line d.seed)) ≡ Some keys) (empty : IsEmptyVault keys folder) where
-  held_by : (whole : IsServedWhole own_views (own_span d secret folder kept.folder workers') RawKeys d.clients d.clients kept.entries)
-      → ((shown : Rows) → HasTree (sealing_of keys) (now kept.folder.log) shown → SumsUp (record { seed = d.seed; clients = d.clients; requests = d.requests }) kept.entries shown written)
+  held_by : (whole : IsServedWhole own_views (own_span d secret folder kept.folder workers' kept.store) RawKeys d.clients d.clients kept.store.store.entries)
+      → ((shown : Rows) → HasTree (sealing_of keys) (now kept.folder.log) shown → SumsUp (record { seed = d.seed; clients = d.clients; requests = d.requests }) kept.store.store.entries shown written)
       → IsHeldAs d written
   held_by whole sums =
       let history = whole.served.history in
@@ -162,7 +164,7 @@ module _ (d : Demonstration) (secret : Course SourceView) (folder : Holding) (ke
           folder = folder;
           kept = kept.folder;
           workers_left = workers';
-          entries = kept.entries;
+          closed = kept.store;
           sessions = whole;
           empty = subst (λ (k : KeyPair). IsEmptyVault k folder) (sym same) empty;
           rows = summed.rows;
@@ -176,11 +178,11 @@ module _ (d : Demonstration) (secret : Course SourceView) (folder : Holding) (ke
       let many : length (workers_of d.seed d.clients d.requests) ≡ d.clients = length-map-range_with_len (worker_of d.seed d.requests) 0 d.clients in
       omega arith
 
-  held_where : IsServedWhole own_views (own_span d secret folder kept.folder workers') RawKeys d.clients (min d.clients (length (workers_of d.seed d.clients d.requests))) kept.entries
-      → ((shown : Rows) → HasTree (sealing_of keys) (now kept.folder.log) shown → SumsUp (record { seed = d.seed; clients = d.clients; requests = d.requests }) kept.entries shown written)
+  held_where : IsServedWhole own_views (own_span d secret folder kept.folder workers' kept.store) RawKeys d.clients (min d.clients (length (workers_of d.seed d.clients d.requests))) kept.store.store.entries
+      → ((shown : Rows) → HasTree (sealing_of keys) (now kept.folder.log) shown → SumsUp (record { seed = d.seed; clients = d.clients; requests = d.requests }) kept.store.store.entries shown written)
       → IsHeldAs d written
   held_where whole sums =
-      held_by (subst (λ (m : ℕ). IsServedWhole own_views (own_span d secret folder kept.folder workers') RawKeys d.clients m kept.entries) workers_many whole) sums
+      held_by (subst (λ (m : ℕ). IsServedWhole own_views (own_span d secret folder kept.folder workers' kept.store) RawKeys d.clients m kept.store.store.entries) workers_many whole) sums
 
 -- what was done with these scripts
 pub record HasDone (scripts : Scripts) (written : List ℕ) : Type 0 where
@@ -194,13 +196,13 @@ pub record HasDone (scripts : Scripts) (written : List ℕ) : Type 0 where
   pub keys_are : raw_keys (line_of (key_line scripts.seed)) ≡ Some keys
   pub empty : IsEmptyVault keys folder
   pub workers_are : workers ≡ workers_of scripts.seed scripts.clients scripts.requests
-  pub whole : IsServedWhole own_views (span_of own_views [] secret (Some 0) folder kept.folder workers workers') RawKeys scripts.clients (min scripts.clients (length workers)) kept.entries
-  pub sums : (shown : Rows) → HasTree (sealing_of keys) (now kept.folder.log) shown → SumsUp scripts kept.entries shown written
+  pub whole : IsServedWhole own_views (span_of own_views [] secret (Some 0) folder kept.folder workers workers' (Some kept.store)) RawKeys scripts.clients (min scripts.clients (length workers)) kept.store.store.entries
+  pub sums : (shown : Rows) → HasTree (sealing_of keys) (now kept.folder.log) shown → SumsUp scripts kept.store.store.entries shown written
 
 done_with : (d : Demonstration) (written : List ℕ) → HasDone (record { seed = d.seed; clients = d.clients; requests = d.requests }) written → IsHeldAs d written
 done_with d written h =
     held_where d h.secret h.folder h.kept h.workers' h.keys written h.secret_is h.keys_are h.empty
-    (subst (λ (w : List (Worker Links Drawing)). IsServedWhole own_views (span_of own_views [] h.secret (Some 0) h.folder h.kept.folder w h.workers') RawKeys d.clients (min d.clients (length w)) h.kept.entries)
+    (subst (λ (w : List (Worker Links Drawing)). IsServedWhole own_views (span_of own_views [] h.secret (Some 0) h.folder h.kept.folder w h.workers' (Some h.kept.store)) RawKeys d.clients (min d.clients (length w)) h.kept.store.store.entries)
     h.workers_are h.whole) h.sums
 
 pub done_as : (d : Demonstration) (scripts : Scripts) (written : List ℕ) → AreScriptsOf d scripts → HasDone scripts written → IsHeldAs d written

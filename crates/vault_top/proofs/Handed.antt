@@ -17,7 +17,8 @@ use Rattle.shared_sessions.specs.Joined.{IsJoined}
 use Rattle.shared_sessions.specs.declared.workers.Worker.{Worker}
 use Rattle.shared_vault.specs.Turns.{StandsFor}
 use Rattle.store_history.specs.Turns.{IsFlushed, draws_for}
-use Rattle.vault_store.specs.Open.{OpenVault, idle_of}
+use Rattle.store_history.specs.Store.{StoreView}
+use Rattle.vault_store.specs.Open.{ClosedVault, OpenVault, idle_of}
 use Rattle.vault_top.specs.Span.{Views}
 use Rattle.vault_top.specs.Sharing.{IsSharedStore}
 use Rattle.vault_top.specs.Served.{IsClosing, IsCutOff}
@@ -39,10 +40,10 @@ pub served_all : {T D N C E : Type 0} (stands : T → Rows → Origin → List E
     (tree : T) (store : OpenVault D) (counts : Result SessionCounts Failed) (back : HandedBack D) (folder : D) (at_once : ℕ) → at_once ≡ min service.at_once (length workers)
     → (rows : Rows) × (origin : Origin) × start rows origin × IsJoined stands draws_for views.listener views.entropy views.link second service.sessions at_once rows origin tree workers workers' counts
     → ((rows : Rows) (origin : Origin) (history : List Entry) → stands tree rows origin history → IsSharedStore views.folder since store rows origin history)
-    → back.folder ≡ Some folder → (closing : Result (Unit {0}) Failed) → IsClosing store.store (views.folder store.folder) (views.folder folder) closing
-    → HasOutcome counts closing back.outcome → back.entries ≡ store.store.entries
+    → back.folder ≡ Some folder → (closed : ClosedVault) → back.store ≡ Some closed → IsClosing views.folder store.store store.folder closed folder
+    → HasOutcome counts closed.committed back.outcome
     → (ends : List SessionEnd) × HasServed start since views second service workers workers' ends back
-served_all stands start since views second service workers workers' tree store counts back folder at_once few (rows, origin, begins, j) right is closing closed outcome asked = (
+served_all stands start since views second service workers workers' tree store counts back folder at_once few (rows, origin, begins, j) right is closed closed_is closing outcome = (
   all_ends j.shares,
   inl (record {
     rows = rows;
@@ -65,25 +66,30 @@ served_all stands start since views second service workers workers' tree store c
     ended = refl;
     folder = folder;
     folder_is = is;
-    closing = closing;
     closed = closed;
+    closed_is = closed_is;
+    closing = closing;
     outcome = outcome;
-    asked = asked;
   }),
 )
 
 -- how the store was closed
-pub closing_of : {D X : Type 0} (view : D → FolderView) (vault : OpenVault D) (folder : D) (closing : Result X Failed) → (view vault.folder).faults ≤ (view folder).faults
-    → (IsNone vault.store.stopped → OnOk closing (IsFlushed vault.store (idle_of vault.store) (view vault.folder) (view folder)))
-    → (IsSome vault.store.stopped → (folder ≡ vault.folder) × IsErr closing) → (IsNone vault.store.stopped → Changes (view vault.folder).log (view folder).log (AnyMoment vault.store.waiting))
-    → (IsErr closing → IsSome vault.store.stopped ⊎ Rose (view vault.folder).faults (view folder).faults) → IsClosing vault.store (view vault.folder) (view folder) closing
-closing_of {X = X} view vault folder closing later flushed stopped moments cause = record { later = later; well = well closing flushed stopped; badly = badly closing stopped moments cause }
+pub closing_of : {D : Type 0} (view : D → FolderView) (vault : OpenVault D) (closed : ClosedVault) (folder : D) → (view vault.folder).faults ≤ (view folder).faults → closed.store ≡ idle_of vault.store
+    → (IsNone vault.store.stopped → OnOk closed.committed (IsFlushed vault.store (idle_of vault.store) (view vault.folder) (view folder)))
+    → (IsSome vault.store.stopped → (folder ≡ vault.folder) × IsErr closed.committed) → (IsNone vault.store.stopped → Changes (view vault.folder).log (view folder).log (AnyMoment vault.store.waiting))
+    → (IsErr closed.committed → IsSome vault.store.stopped ⊎ Rose (view vault.folder).faults (view folder).faults) → IsClosing view vault.store vault.folder closed folder
+closing_of view vault closed folder later idle flushed stopped moments cause = record {
+  later = later;
+  idle = idle;
+  well = subst (λ (s : StoreView). OnOk closed.committed (IsFlushed vault.store s (view vault.folder) (view folder))) (sym idle) (well closed.committed flushed stopped);
+  badly = badly closed.committed stopped moments cause;
+}
   where
     some_or_none : (o : Option ℕ) → IsNone o ⊎ IsSome o
     some_or_none None = inl refl
     some_or_none (Some n) = inr refl
 
-    well : (r : Result X Failed) → (IsNone vault.store.stopped → OnOk r (IsFlushed vault.store (idle_of vault.store) (view vault.folder) (view folder)))
+    well : (r : Result (Unit {0}) Failed) → (IsNone vault.store.stopped → OnOk r (IsFlushed vault.store (idle_of vault.store) (view vault.folder) (view folder)))
         → (IsSome vault.store.stopped → (folder ≡ vault.folder) × IsErr r) → OnOk r (IsFlushed vault.store (idle_of vault.store) (view vault.folder) (view folder))
     well (Ok done) flushed stopped = elim (some_or_none vault.store.stopped) [
       | inl none ↦ flushed none
@@ -91,13 +97,23 @@ closing_of {X = X} view vault folder closing later flushed stopped moments cause
     ]
     well (Err failed) flushed stopped = tt
 
-    badly : (r : Result X Failed) → (IsSome vault.store.stopped → (folder ≡ vault.folder) × IsErr r) → (IsNone vault.store.stopped → Changes (view vault.folder).log (view folder).log (AnyMoment vault.store.waiting))
-        → (IsErr r → IsSome vault.store.stopped ⊎ Rose (view vault.folder).faults (view folder).faults) → OnErr r ((IsSome vault.store.stopped × (view folder ≡ view vault.folder)) ⊎ IsCutOff vault.store (view vault.folder) (view folder))
+    badly : (r : Result (Unit {0}) Failed) → (IsSome vault.store.stopped → (folder ≡ vault.folder) × IsErr r) → (IsNone vault.store.stopped → Changes (view vault.folder).log (view folder).log (AnyMoment vault.store.waiting))
+        → (IsErr r → IsSome vault.store.stopped ⊎ Rose (view vault.folder).faults (view folder).faults) → OnErr r ((IsSome vault.store.stopped × (folder ≡ vault.folder)) ⊎ IsCutOff vault.store (view vault.folder) (view folder))
     badly (Ok done) stopped moments cause = tt
     badly (Err failed) stopped moments cause = elim (some_or_none vault.store.stopped) [
-      | inr some ↦ inl (some, ap view (stopped some).0)
+      | inr some ↦ inl (some, (stopped some).0)
       | inl none ↦ elim (cause refl) [
-        | inl some ↦ inl (some, ap view (stopped some).0)
+        | inl some ↦ inl (some, (stopped some).0)
         | inr rose ↦ inr (record { running = none; moments = moments none; rose = rose })
       ]
     ]
+
+-- the same as its folder's views tell it
+pub seen_closing : {D : Type 0} (view : D → FolderView) (store : StoreView) (before : D) (closed : ClosedVault) (after : D) → IsClosing view store before closed after → IsClosing (λ v. v) store (view before) closed (view after)
+seen_closing view store before closed after is = record { later = is.later; idle = is.idle; well = is.well; badly = seen closed.committed is.badly }
+  where
+    seen : (r : Result (Unit {0}) Failed) → OnErr r ((IsSome store.stopped × (after ≡ before)) ⊎ IsCutOff store (view before) (view after))
+        → OnErr r ((IsSome store.stopped × (view after ≡ view before)) ⊎ IsCutOff store (view before) (view after))
+    seen (Ok done) is = tt
+    seen (Err failed) (inl same) = inl (same.0, ap view same.1)
+    seen (Err failed) (inr cut) = inr cut

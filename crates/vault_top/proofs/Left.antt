@@ -1,23 +1,24 @@
 -- What a store leaves that stands for a history.
-use Rattle.std.proofs.Common.{◌≡◌, ◌⊎◌, ℕ, suc, ◌≤◌, List, [], Option, Some, None, IsNone, IsSome, Result, Ok, Err, IsOk, IsErr, refl, sym, subst, inl, inr, arith, true≢false}
+use Rattle.std.proofs.Common.{◌≡◌, ◌⊎◌, ℕ, suc, ◌≤◌, List, [], Option, Some, None, IsNone, IsSome, Result, Ok, Err, IsOk, IsErr, OnOk, OnErr, refl, sym, ap, subst, inl, inr, arith, true, false, true≢false}
 use Rattle.std.specs.Option.{option_map}
 use Rattle.outside.specs.Calls.{Changes, Rose, Told}
 use Rattle.outside.specs.declared.stream.Failed.{Failed}
 use Rattle.outside.specs.Images.{Log, log_at, moment}
 use Rattle.outside.specs.Views.{FolderView}
 use Rattle.outside.proofs.Told.{told_then}
+use Rattle.deeds.proofs.Growing.{goes_nowhere}
 use Rattle.siv_mode.specs.Keys.{KeyPair}
 use Rattle.chunk_journal.specs.Opening.{HasOpened}
 use Rattle.tree_model.specs.Rows.{Rows}
 use Rattle.tree_history.specs.History.{Entry, Origin, tally_at, tally_of, AreCaused, IsLegal}
+use Rattle.stop_history.specs.Stands.{IsInState}
 use Rattle.stop_history.specs.Prefix.{BeginningRecovers, IsWhole, StopsRecover}
 use Rattle.store_history.specs.Store.{StoreView, ArePlaced, IsSaidFrom, IsStoredIn, IsStoreOf, bounded, moment_of, shows_under}
 use Rattle.store_history.specs.Turns.{IsFlushed}
 use Rattle.store_history.proofs.Ends.{closings_recover, stores_recover, stores_are_whole}
 use Rattle.store_history.proofs.Flushed.{flushes_stand}
-use Rattle.store_history.proofs.Placed.{goes_nowhere}
-use Rattle.vault_store.specs.Open.{idle_of}
-use Rattle.vault_top.specs.Served.{HasStops, IsClosing, IsCutOff}
+use Rattle.vault_store.specs.Open.{ClosedVault, idle_of}
+use Rattle.vault_top.specs.Served.{HasStops, IsClosing, IsCutOff, IsLeftWhole}
 use Rattle.vault_top.proofs.Faults.{rose_within}
 
 -- ---- a commit that failed
@@ -60,15 +61,52 @@ left_by before after store rows origin entries is = let recover = stores_recover
 
 -- ---- a vault that was closed
 
-module _ (before : FolderView) (store : StoreView) (back folder : FolderView) (rows : Rows) (origin : Origin) (entries : List Entry) (is : IsStoreOf before.log store back rows origin entries) where
+-- where a commit had failed, what waits is of no account
+module _ (found : Option Log) (store : StoreView) (folder : FolderView) (rows : Rows) (origin : Origin) (entries : List Entry) where
+  broken : (stopped : Option ℕ) (opened : ℕ) (log : Log) → IsSome stopped
+      → IsInState (shows_under store.keys) opened rows entries store.waiting log stopped → IsInState (shows_under store.keys) opened rows entries [] log stopped
+  broken None opened log some is = absurd (true≢false (sym some))
+  broken (Some f) opened log some is = is
+
+  never : (stopped : Option ℕ) → IsSome stopped → IsNone stopped → ⊥
+  never None some none = true≢false (sym some)
+  never (Some f) some none = let no : true ≡ false = none in absurd cc
+
+  idle_in : (log : Log) → IsSome (tally_of origin entries).stopped → IsStoredIn found store rows origin entries log → IsStoredIn found (idle_of store) rows origin entries log
+  idle_in log some is = record {
+    state = λ opened from. broken (tally_of origin entries).stopped opened log some (is.state opened from);
+    begun = is.begun;
+    waits = λ none. absurd (never (tally_of origin entries).stopped some none);
+    tree = λ none. absurd (never (tally_of origin entries).stopped some none);
+    since = is.since;
+    answered = is.answered;
+    placed = is.placed;
+  }
+
+  idle_stands : IsSome store.stopped → IsStoreOf found store folder rows origin entries → IsStoreOf found (idle_of store) folder rows origin entries
+  idle_stands some is = record {
+    stored = told_then folder.log (IsStoredIn found store rows origin entries) (IsStoredIn found (idle_of store) rows origin entries) is.stored
+        (λ log stored. idle_in log (some_stopped (tally_of origin entries).stopped store.stopped is.stopped some) stored);
+    grown = is.grown;
+    opened = is.opened;
+    caused = is.caused;
+    faults = is.faults;
+    moment = is.moment;
+    stopped = is.stopped;
+    count = is.count;
+  }
+
+module _ (before : FolderView) (store : StoreView) (back folder : FolderView) (rows : Rows) (origin : Origin) (entries : List Entry) (is : IsStoreOf before.log store back rows origin entries)
+    (closed : ClosedVault) (how : IsClosing (λ view. view) store back closed folder) where
   -- what waited was committed
-  flushed : IsFlushed store (idle_of store) back folder → IsStoreOf before.log (idle_of store) folder rows origin entries
-  flushed done = flushes_stand store (idle_of store) back folder done before.log rows origin entries is
+  flushed : IsFlushed store closed.store back folder → IsStoreOf before.log closed.store folder rows origin entries
+  flushed done = flushes_stand store closed.store back folder done before.log rows origin entries is
 
   -- that failed
-  cut_off : IsCutOff store back folder → back.faults ≤ folder.faults → Leaves store.keys rows origin entries before folder
-  cut_off cut later =
+  cut_off : IsCutOff store back folder → Leaves store.keys rows origin entries before folder
+  cut_off cut =
       let short = closings_recover before.log store back folder rows origin entries is cut.running cut.moments in
+      let later = how.later in
       record {
         caused = is.caused;
         legal = told_before before.log back.log _ _ (IsLegal rows origin entries) is.grown is.stored (λ log stored. record { caused = is.caused; answered = stored.answered });
@@ -79,31 +117,56 @@ module _ (before : FolderView) (store : StoreView) (back folder : FolderView) (r
         moment = short.moment;
       }
 
-  not_closed : (IsSome store.stopped × (folder ≡ back)) ⊎ IsCutOff store back folder → back.faults ≤ folder.faults → Leaves store.keys rows origin entries before folder
-  not_closed (inl same) later = subst (λ (v : FolderView). Leaves store.keys rows origin entries before v) (sym same.1) (left_by before back store rows origin entries is)
-  not_closed (inr cut) later = cut_off cut later
+  same_keys : closed.store.keys ≡ store.keys
+  same_keys = ap (λ (s : StoreView). s.keys) how.idle
 
-  pub left_closed : {X : Type 0} (closing : Result X Failed) → IsClosing store back folder closing → Leaves store.keys rows origin entries before folder
-  left_closed (Ok done) how = left_by before folder (idle_of store) rows origin entries (flushed how.well)
-  left_closed (Err failed) how = not_closed how.badly how.later
+  left_when : (committed : Result (Unit {0}) Failed) → OnOk committed (IsFlushed store closed.store back folder)
+      → OnErr committed ((IsSome store.stopped × (folder ≡ back)) ⊎ IsCutOff store back folder) → Leaves store.keys rows origin entries before folder
+  left_when (Ok done) well badly =
+      subst (λ (keys : KeyPair). Leaves keys rows origin entries before folder) same_keys (left_by before folder closed.store rows origin entries (flushed well))
+  left_when (Err failed) well (inl same) = subst (λ (v : FolderView). Leaves store.keys rows origin entries before v) (sym same.1) (left_by before back store rows origin entries is)
+  left_when (Err failed) well (inr cut) = cut_off cut
+
+  pub left_closed : Leaves store.keys rows origin entries before folder
+  left_closed = left_when closed.committed how.well how.badly
+
+  -- unless just the last commit failed, it stands for the same on the folder that it left
+  stands_when : (committed : Result (Unit {0}) Failed) → OnOk committed (IsFlushed store closed.store back folder)
+      → OnErr committed ((IsSome store.stopped × (folder ≡ back)) ⊎ IsCutOff store back folder) → IsOk committed ⊎ IsSome closed.store.stopped
+      → IsStoreOf before.log closed.store folder rows origin entries
+  stands_when (Ok done) well badly whole = flushed well
+  stands_when (Err failed) well (inl same) whole =
+      subst (λ (s : StoreView). IsStoreOf before.log s folder rows origin entries) (sym how.idle)
+      (subst (λ (v : FolderView). IsStoreOf before.log (idle_of store) v rows origin entries) (sym same.1) (idle_stands before.log store back rows origin entries same.0 is))
+  stands_when (Err failed) well (inr cut) (inl ok) = absurd (true≢false (sym ok))
+  stands_when (Err failed) well (inr cut) (inr some) =
+      absurd (never before.log store back rows origin entries store.stopped (subst (λ (s : StoreView). IsSome s.stopped) how.idle some) cut.running)
+
+  pub closed_stands : IsLeftWhole closed → IsStoreOf before.log closed.store folder rows origin entries
+  closed_stands = stands_when closed.committed how.well how.badly
 
   -- closed well, no commit had failed, and all entries are on the disk
-  pub none_failed : {X : Type 0} (closing : Result X Failed) → IsClosing store back folder closing → IsOk closing → IsNone (tally_of origin entries).stopped
-  none_failed (Ok done) how ok = none_stopped (tally_of origin entries).stopped store.stopped is.stopped how.well.running
-  none_failed (Err failed) how ok = absurd (true≢false (sym ok))
+  flushed_when : (committed : Result (Unit {0}) Failed) → OnOk committed (IsFlushed store closed.store back folder) → IsOk committed → IsFlushed store closed.store back folder
+  flushed_when (Ok done) well ok = well
+  flushed_when (Err failed) well ok = absurd (true≢false (sym ok))
 
-  pub whole_closed : {X : Type 0} (closing : Result X Failed) → IsClosing store back folder closing → IsOk closing → Told folder.log (λ log. IsWhole (shows_under store.keys) rows entries log)
-  whole_closed (Ok done) how ok =
-      stores_are_whole before.log (idle_of store) folder rows origin entries (flushed how.well) refl (none_stopped (tally_of origin entries).stopped store.stopped is.stopped how.well.running)
-  whole_closed (Err failed) how ok = absurd (true≢false (sym ok))
+  pub none_failed : IsOk closed.committed → IsNone (tally_of origin entries).stopped
+  none_failed ok = none_stopped (tally_of origin entries).stopped store.stopped is.stopped (flushed_when closed.committed how.well ok).running
+
+  pub whole_closed : IsOk closed.committed → Told folder.log (λ log. IsWhole (shows_under store.keys) rows entries log)
+  whole_closed ok =
+      subst (λ (keys : KeyPair). Told folder.log (λ log. IsWhole (shows_under keys) rows entries log)) same_keys
+      (stores_are_whole before.log closed.store folder rows origin entries (flushed (flushed_when closed.committed how.well ok)) (ap (λ (s : StoreView). s.waiting) how.idle) (none_failed ok))
 
   -- closed badly, one had, or the folder failed since
-  pub failed_closed : {X : Type 0} (closing : Result X Failed) → IsClosing store back folder closing → IsErr closing → IsSome (tally_of origin entries).stopped ⊎ Rose (tally_of origin entries).folder_faults folder.faults
-  failed_closed (Ok done) how bad = absurd (true≢false (sym bad))
-  failed_closed (Err failed) how bad = elim how.badly [
-    | inl same ↦ inl (some_stopped (tally_of origin entries).stopped store.stopped is.stopped same.0)
-    | inr cut ↦ inr (rose_within (tally_of origin entries).folder_faults back.faults folder.faults folder.faults is.faults how.later (omega arith) cut.rose)
-  ]
+  failed_when : (committed : Result (Unit {0}) Failed) → OnErr committed ((IsSome store.stopped × (folder ≡ back)) ⊎ IsCutOff store back folder) → IsErr committed
+      → IsSome (tally_of origin entries).stopped ⊎ Rose (tally_of origin entries).folder_faults folder.faults
+  failed_when (Ok done) badly bad = absurd (true≢false (sym bad))
+  failed_when (Err failed) (inl same) bad = inl (some_stopped (tally_of origin entries).stopped store.stopped is.stopped same.0)
+  failed_when (Err failed) (inr cut) bad = inr (rose_within (tally_of origin entries).folder_faults back.faults folder.faults folder.faults is.faults how.later (omega arith) cut.rose)
+
+  pub failed_closed : IsErr closed.committed → IsSome (tally_of origin entries).stopped ⊎ Rose (tally_of origin entries).folder_faults folder.faults
+  failed_closed bad = failed_when closed.committed how.badly bad
 
 -- ---- nothing is said of a folder that is as it was, where the history's moment is still to come
 
@@ -122,4 +185,4 @@ stops_nowhere keys rows origin view next = stops_in view.log next
   where
     stops_in : (log : Option Log) → origin.moment ≡ suc (moment_of log) → HasStops keys rows origin [] (record view { log = log }) (record view { log = log })
     stops_in None same = record { grown = tt; recover = tt; begun = tt }
-    stops_in (Some log) same = record { grown = λ sound. goes_nowhere log; recover = nothing_since keys rows origin log same; begun = nothing_before keys rows origin log same }
+    stops_in (Some log) same = record { grown = goes_nowhere log; recover = nothing_since keys rows origin log same; begun = nothing_before keys rows origin log same }

@@ -8,6 +8,7 @@ pub mod Begun
 pub mod Left
 pub mod Handed
 pub mod Reasons
+mod RightlyTaken
 pub mod Asked
 pub mod Numbers
 pub mod Faults

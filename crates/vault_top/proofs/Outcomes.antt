@@ -27,7 +27,7 @@ counts_of ends outcome counts e h = subst (λ o. AreCounted ends o) e h
 pub may_end : (ends : List SessionEnd) (outcome other : Outcome) (ending : Ending) → outcome ≡ other → MayEnd ends other ending → MayEnd ends outcome ending
 may_end ends outcome other ending e h = subst (λ o. MayEnd ends o ending) (sym e) h
 
-counted_as : {X : Type 0} (counts : Result SessionCounts Failed) (closing : Result X Failed) (all ends : List SessionEnd) (outcome : Outcome) → HasOutcome counts closing outcome → IfOk counts (λ c. AreCounts c all) → all ≡ ends → AreCounted ends outcome
+counted_as : (counts : Result SessionCounts Failed) (closing : Result (Unit {0}) Failed) (all ends : List SessionEnd) (outcome : Outcome) → HasOutcome counts closing outcome → IfOk counts (λ c. AreCounts c all) → all ≡ ends → AreCounted ends outcome
 counted_as counts closing all ends (Served c) h counted same =
     let counted' : AreCounts c all = subst (λ (r : Result SessionCounts Failed). IfOk r (λ c. AreCounts c all)) h.0 counted in
     subst (λ (l : List SessionEnd). AreCounts c l) same counted'

@@ -4,7 +4,6 @@ use Rattle.std.proofs.lemmas.Bool.{false≢true}
 use Rattle.outside.specs.Calls.{Rose, Told}
 use Rattle.outside.specs.Images.{Log, now}
 use Rattle.outside.specs.Views.{EntropyView}
-use Rattle.clap.specs.Words.{Text}
 use Rattle.masterkey_file.specs.Password.{password_of}
 use Rattle.vault_unlock.specs.declared.secret.SecretErr.{SecretErr}
 use Rattle.vault_unlock.specs.declared.secret.SecretErr.TheVariants as secret_errs
@@ -17,7 +16,6 @@ use Rattle.vault_words.specs.Jobs.{serve, make, demo, help, version}
 use Rattle.vault_causes.specs.Causes.{of_secret, of_make}
 use Rattle.vault_causes.specs.declared.cause.Cause.{Cause}
 use Rattle.vault_causes.specs.declared.cause.Cause.TheVariants.{Memory}
-use Rattle.vault_top.specs.Words.{Ask}
 use Rattle.vault_top.specs.Span.{Course, Views, WorkerSpan, Span, Given}
 use Rattle.vault_top.specs.Making.{HasNoPassword, HasRisen, IsNotMade}
 use Rattle.vault_top.specs.Ending.{Ending, refused, usage_said, version_said, made, no_memory_to_serve, served, listener_fault, closing_fault, no_memory_to_report, demonstrated, DrawsAlone, IsRefused, HasReason}

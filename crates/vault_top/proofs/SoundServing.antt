@@ -20,6 +20,7 @@ use Rattle.vault_top.specs.Words.{sharers}
 use Rattle.vault_top.specs.Ending.{Ending, refused, usage_said, version_said, made, no_memory_to_serve, served, listener_fault, closing_fault, no_memory_to_report, demonstrated, HasReason, ListenerFailed, Never}
 use Rattle.vault_top.specs.Sound.{IsFaultless, SomeRandomFailed, IsDoneOrFull, IsServedOut, IsServedSoundly, HasServedSoundly}
 use Rattle.vault_top.proofs.Faults.{faults_rise, rose_within}
+use Rattle.vault_top.proofs.RightlyTaken.{rightly_taken}
 
 -- ---- counts of random sources
 
@@ -121,6 +122,7 @@ served_soundly : {C : Type 0} (view : C → LinkView) (span : Span C) (keys : Ke
     → (Rose span.given.folder.before.faults span.given.folder.after.faults → ⊥) → (SomeRandomFailed span.workers → ⊥) → IsServedSoundly view history
 served_soundly view span keys MayStop sessions sharing shares history are told still none = record {
   stepped = steps span keys shares history told still none;
+  rightly = rightly_taken keys history.rows history.origin history.entries span.given.folder.after.log history.caused (steps span keys shares history told still none) history.placed;
   sessions = shares_served_out view span.given.second MayStop sessions sharing 0 span.workers shares are;
 }
 

@@ -63,7 +63,7 @@ of_job views span ending (inr (inr holding)) faultless reason = of_holding endin
 pub sound_status : {D N C E : Type 0} (views : Views D N C E) (words : List Text) (secret : Course SourceView) (second : Option ℕ) (folder : D) (workers workers' : List (Worker N E)) (sink : Course SinkView) (ended : Ended D)
     → IsSoundRun views words secret second folder workers workers' sink ended → IsGood ended.status
 sound_status views words secret second folder workers workers' sink ended is =
-    let span = span_of views words secret second folder is.run.kept workers workers' in
+    let span = span_of views words secret second folder is.run.kept workers workers' ended.store in
     let good = of_job views span is.run.ending is.sound is.faultless is.run.reason in
     elim is.run.reported [
       | inl whole ↦ subst IsGood (sym whole.0) good

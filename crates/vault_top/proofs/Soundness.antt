@@ -17,15 +17,14 @@ use Rattle.vault_unlock.specs.Unlock.{IsUnlocking}
 use Rattle.vault_unlock.specs.declared.unlocking.SecretKind.{SecretKind}
 use Rattle.vault_unlock.specs.declared.refusal.Refusal.{Refusal}
 use Rattle.vault_unlock.specs.declared.refusal.Refusal.TheVariants as refusals
-use Rattle.vault_words.specs.Jobs.{Serving, serve, make, demo, help, version}
-use Rattle.clap.specs.Words.{Text}
+use Rattle.vault_words.specs.Jobs.{serve, make, demo, help, version}
 use Rattle.tree_loading.specs.Clear.{HasTooMany, root_folder}
 use Rattle.vault_store.specs.declared.opening.OpenErr.{OpenErr}
 use Rattle.vault_store.specs.declared.opening.OpenErr.TheVariants as open_errs
 use Rattle.vault_causes.specs.Causes.{of_refusal, of_unlock}
 use Rattle.vault_causes.specs.declared.cause.Cause.{Cause}
 use Rattle.vault_causes.specs.declared.cause.Cause.TheVariants.{Memory}
-use Rattle.vault_top.specs.Words.{Ask, kind_of}
+use Rattle.vault_top.specs.Words.{kind_of}
 use Rattle.vault_top.specs.Span.{Views, Span, Given, IsOnlyRead}
 use Rattle.vault_top.specs.Served.{Share, HasHistory}
 use Rattle.vault_top.specs.Opening.{IsLocked, IsClosedBy, FailsToUnlock, FailsToOpen, of_opening}

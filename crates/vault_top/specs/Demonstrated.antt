@@ -5,6 +5,7 @@ use Rattle.outside_mem.specs.Held.{Holding}
 use Rattle.outside_mem.specs.Links.{Ends, Links}
 use Rattle.outside_mem.specs.Words.{Drawing}
 use Rattle.tree_history.specs.History.{rows_after}
+use Rattle.vault_store.specs.Open.{ClosedVault}
 use Rattle.vault_unlock.specs.declared.unlocking.SecretKind.TheVariants.{RawKeys}
 use Rattle.vault_words.specs.Jobs.{Demonstration}
 use Rattle.demo_work.specs.Summary.{PlainRow, summary_line}
@@ -26,8 +27,8 @@ abbrev pub workers_of : ℕ → ℕ → ℕ → List (Worker Links Drawing)
 workers_of seed clients requests = map (worker_of seed requests) (range_with_len 0 clients)
 
 -- what it is given and leaves: the clock is at 0, and each client has a worker
-abbrev pub own_span : Demonstration → Course SourceView → Holding → Holding → List (Worker Links Drawing) → Span Ends
-own_span d secret folder kept workers' = span_of own_views [] secret (Some 0) folder kept (workers_of d.seed d.clients d.requests) workers'
+abbrev pub own_span : Demonstration → Course SourceView → Holding → Holding → List (Worker Links Drawing) → ClosedVault → Span Ends
+own_span d secret folder kept workers' closed = span_of own_views [] secret (Some 0) folder kept (workers_of d.seed d.clients d.requests) workers' (Some closed)
 
 -- It was held: an empty vault, whose keys are the first bytes of stream 0, was served to the clients, each of whom was one session that sent its script. The line
 -- sums up the rows after the last entry of the one history of all sessions, with the number of its entries.
@@ -37,8 +38,8 @@ pub record HasHeld (d : Demonstration) (text : List ℕ) : Type 0 where
   pub folder : Holding
   pub kept : Holding
   pub workers_left : List (Worker Links Drawing)
-  pub entries : ℕ
-  pub sessions : IsServedWhole own_views (own_span d secret folder kept workers_left) RawKeys d.clients d.clients entries
+  pub closed : ClosedVault
+  pub sessions : IsServedWhole own_views (own_span d secret folder kept workers_left closed) RawKeys d.clients d.clients closed.store.entries
   pub empty : IsEmptyVault sessions.served.vault.keys folder
   pub rows : List PlainRow
   pub left : AreLeft (rows_after sessions.served.history.rows sessions.served.history.entries) rows

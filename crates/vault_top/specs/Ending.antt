@@ -9,11 +9,11 @@ use Rattle.clap.specs.Words.{Text}
 use Rattle.vault_keys.specs.Unlock.{UnlockedVault}
 use Rattle.vault_words.specs.Jobs.{Serving, Demonstration, serve, make, demo, help, version}
 use Rattle.vault_words.specs.declared.job.TheConstants.{USAGE, VERSION}
-use Rattle.siv_mode.specs.Keys.{KeyPair}
 use Rattle.store_history.specs.Ends.{IsFoundClear}
 use Rattle.tree_model.specs.Rows.{Rows}
-use Rattle.tree_history.specs.History.{Origin, tally_of}
+use Rattle.tree_history.specs.History.{Origin}
 pub use Rattle.session_workers.specs.Workers.{ListenerFailed, SomeFailed}
+use Rattle.vault_store.specs.Open.{ClosedVault}
 use Rattle.vault_causes.specs.Causes.{text_of}
 use Rattle.vault_causes.specs.Causes as causes
 use Rattle.vault_causes.specs.declared.cause.Cause.{Cause}
@@ -21,7 +21,7 @@ use Rattle.vault_causes.specs.declared.cause.Cause.TheVariants.{Words, Memory}
 use Rattle.vault_top.specs.Words.{Ask, AreRefused, kind_of, sharers}
 use Rattle.vault_top.specs.Report.{line, sessions_line, TakesPart}
 use Rattle.vault_top.specs.Span.{Course, SourceView, SinkView, Views, WorkerSpan, Span, span_of}
-use Rattle.vault_top.specs.Served.{Share, HasStops}
+use Rattle.vault_top.specs.Served.{HasStops}
 pub use Rattle.vault_top.specs.Sessions.{IsServedTo, IsClosedWell, IsClosedBadly, FailsAtTheEnd, Never, stopped_in}
 use Rattle.vault_top.specs.Demonstrated.{HasHeld}
 use Rattle.vault_top.specs.Opening.{IsUnlocked, IsUnopened}
@@ -182,11 +182,25 @@ IsReported sink ending status =
 abbrev pub IsGivenBack : {D : Type 0} → Ending → D → Option D → Type 0
 IsGivenBack ending kept folder = (folder ≡ Some kept) ⊎ ((folder ≡ None) × (ending ≡ no_memory_to_serve))
 
+-- a closed store is handed back after each ending of a vault that was served, and after no other
+abbrev pub IsStoreLeft : Ending → Option ClosedVault → Type 0
+IsStoreLeft (refused cause) store = IsNone store
+IsStoreLeft usage_said store = IsNone store
+IsStoreLeft version_said store = IsNone store
+IsStoreLeft made store = IsNone store
+IsStoreLeft no_memory_to_serve store = IsNone store
+IsStoreLeft (served ends) store = IsSome store
+IsStoreLeft (listener_fault ends) store = IsSome store
+IsStoreLeft (closing_fault ends) store = IsSome store
+IsStoreLeft (no_memory_to_report ends) store = IsSome store
+IsStoreLeft (demonstrated text) store = IsNone store
+
 -- the workers are those that they were, in their order: each is the one of its place
 pub record HasRun {D N C E : Type 0} (views : Views D N C E) (words : List (List ℕ)) (secret : Course SourceView) (second : Option ℕ) (folder : D) (workers workers' : List (Worker N E)) (sink : Course SinkView) (ended : Ended D) : Type 0 where
   pub ending : Ending
   pub kept : D
   pub folder_is : IsGivenBack ending kept ended.folder
+  pub store_is : IsStoreLeft ending ended.store
   pub count : length workers' ≡ length workers
-  pub reason : HasReason views (span_of views words secret second folder kept workers workers') ending
+  pub reason : HasReason views (span_of views words secret second folder kept workers workers' ended.store) ending
   pub reported : IsReported sink ending ended.status

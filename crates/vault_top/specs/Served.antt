@@ -1,7 +1,6 @@
 -- What a vault that was served has done: each worker served its share of the sessions, and what was asked in all of them is one legal
 -- history of the tree that the vault's disk stands for.
-use Rattle.std.specs.Prelude.{◌≡◌, ◌⊎◌, ℕ, zero, suc, ◌*◌, ◌<◌, ◌≤◌, List, [], ◌∷◌, length, map, Result, OnOk, OnErr, IsSome, IsNone, ⊤}
-use Rattle.outside.specs.declared.stream.Failed.{Failed}
+use Rattle.std.specs.Prelude.{◌≡◌, ◌⊎◌, ℕ, zero, suc, ◌*◌, ◌<◌, ◌≤◌, List, [], ◌∷◌, length, map, Option, Some, OnOk, OnErr, IsOk, IsSome, IsNone, ⊤}
 use Rattle.outside.specs.Calls.{Changes, Told, Rose}
 use Rattle.outside.specs.Images.{log_at, moment, now}
 use Rattle.outside.specs.Views.{FolderView}
@@ -14,14 +13,14 @@ use Rattle.shared_sessions.specs.Joined.{all_asked}
 use Rattle.shared_vault.specs.declared.TheConstants.{MOST_TICKETS}
 use Rattle.turn_lock.specs.declared.TheConstants.{TURN_LIMIT}
 use Rattle.shared_vault.specs.Clients.{AreDrawnFor}
+use Rattle.deeds.specs.Deeds.{LogGoesOn}
 use Rattle.chunk_journal.specs.Journal.{AnyMoment}
 use Rattle.chunk_journal.specs.Opening.{HasOpened}
-use Rattle.stop_history.specs.Opening.{IsSoundlyFound}
 use Rattle.stop_history.specs.Prefix.{StopsRecover, BeginningRecovers, IsWhole}
-use Rattle.store_history.specs.Store.{StoreView, ArePlaced, IsSaidFrom, IsStoreOf, LogGoesOn, moment_of, shows_under}
+use Rattle.store_history.specs.Store.{StoreView, ArePlaced, IsSaidFrom, IsStoreOf, moment_of, shows_under}
 use Rattle.store_history.specs.Turns.{IsFlushed, draws_for}
 use Rattle.store_history.specs.Ends.{IsFoundClear}
-use Rattle.vault_store.specs.Open.{idle_of}
+use Rattle.vault_store.specs.Open.{ClosedVault, idle_of}
 use Rattle.vault_top.specs.Span.{WorkerSpan, Span}
 
 -- ---- callers
@@ -49,7 +48,7 @@ entropy_after (worker ∷ workers) (suc j) = entropy_after workers j
 pub record IsSince {C : Type 0} (span : Span C) (origin : Origin) : Type 0 where
   pub folder : span.given.folder.before.faults ≤ origin.folder_faults
   pub entropy : (j : ℕ) → entropy_before span.workers j ≤ origin.entropy_faults j
-  pub moment : Told span.given.folder.before.log (λ log. IsSoundlyFound (now log) → moment log ≤ origin.moment)
+  pub moment : Told span.given.folder.before.log (λ log. moment log ≤ origin.moment)
 
 -- the counts at which a run ended
 abbrev pub end_of : {C : Type 0} → Span C → Origin
@@ -75,30 +74,38 @@ pub record IsCutOff (store : StoreView) (before after : FolderView) : Type 0 whe
   pub moments : Changes before.log after.log (AnyMoment store.waiting)
   pub rose : Rose before.faults after.faults
 
--- How a store was closed: what waited was committed; or an earlier commit had failed, and nothing more was done; or this one failed.
-pub record IsClosing {X : Type 0} (store : StoreView) (before after : FolderView) (closing : Result X Failed) : Type 0 where
-  pub later : before.faults ≤ after.faults
-  pub well : OnOk closing (IsFlushed store (idle_of store) before after)
-  pub badly : OnErr closing ((IsSome store.stopped × (after ≡ before)) ⊎ IsCutOff store before after)
+-- How a store was closed: what waited was committed; or an earlier commit had failed, and nothing more was done; or this one failed. In memory it
+-- is what it was, but that nothing waits.
+pub record IsClosing {X : Type 0} (view : X → FolderView) (store : StoreView) (before : X) (closed : ClosedVault) (after : X) : Type 0 where
+  pub later : (view before).faults ≤ (view after).faults
+  pub idle : closed.store ≡ idle_of store
+  pub well : OnOk closed.committed (IsFlushed store closed.store (view before) (view after))
+  pub badly : OnErr closed.committed ((IsSome store.stopped × (after ≡ before)) ⊎ IsCutOff store (view before) (view after))
 
--- The lock gave this store back once all callers had left. Over the folder, as it was then, it stands for these entries of all their turns; and it was
--- closed, which left the folder as the run did.
-pub record IsHandedBack (keys : KeyPair) (rows : Rows) (origin : Origin) (entries : List Entry) (before after : FolderView) : Type 0 where
+-- What waited was committed as it was closed, or an earlier commit had failed.
+abbrev pub IsLeftWhole : ClosedVault → Type 0
+IsLeftWhole closed = IsOk closed.committed ⊎ IsSome closed.store.stopped
+
+-- The store that all callers asked is handed back, closed. As the lock gave it back, once all callers had left, it stood for these entries of all their turns over the
+-- folder as it was then; closing it left the folder as the run did; and it stands for them on that, unless just the last commit failed.
+pub record IsHandedBack (keys : KeyPair) (rows : Rows) (origin : Origin) (entries : List Entry) (before after : FolderView) (handed : Option ClosedVault) : Type 0 where
+  pub closed : ClosedVault
+  pub is : handed ≡ Some closed
+  pub keys_are : closed.store.keys ≡ keys
   pub store : StoreView
-  pub keys_are : store.keys ≡ keys
   pub folder : FolderView
   pub later : before.faults ≤ folder.faults
-  pub stands : IsStoreOf before.log store folder rows origin entries
-  pub closing : Result (Unit {0}) Failed
-  pub closed : IsClosing store folder after closing
+  pub stood : IsStoreOf before.log store folder rows origin entries
+  pub closing : IsClosing (λ view. view) store folder closed after
+  pub stands : IsLeftWhole closed → IsStoreOf before.log closed.store after rows origin entries
 
 -- ---- the history
 
--- What a stop leaves of a vault that was served under these keys with these entries. The folder's log goes on from the one that was found, where that was sound; a stop at
+-- What a stop leaves of a vault that was served under these keys with these entries. The folder's log goes on from the one that was found; a stop at
 -- any moment, from the end of the opening on, and where the disk was found sound from the end of the opening's first sync on, recovers to a prefix of the history
 -- that holds all that was synced; and up to the moment at which the history begins to a disk that shows the rows that it begins with.
 pub record HasStops (keys : KeyPair) (rows : Rows) (origin : Origin) (entries : List Entry) (before after : FolderView) : Type 0 where
-  pub grown : Changes before.log after.log (λ old new. IsSoundlyFound (now old) → LogGoesOn old new)
+  pub grown : Changes before.log after.log LogGoesOn
   pub recover : Told after.log (λ log. (opened : ℕ) → IsSaidFrom before.log origin opened → StopsRecover (shows_under keys) opened rows entries log)
   pub begun : Told after.log (λ log. (opened : ℕ) → IsSaidFrom before.log origin opened → BeginningRecovers (shows_under keys) opened origin.moment rows log)
 
@@ -106,7 +113,7 @@ pub record HasStops (keys : KeyPair) (rows : Rows) (origin : Origin) (entries : 
 -- that number, in order, but for requests that were answered as exhausted; and nothing else. One is answered so only where the most tickets that all requests may
 -- take are more than there are turns. Each entry has its cause, and each caller's random source gave what its entries drew, in order. Where the folder tells its log the history is legal, and
 -- each entry names the place that is taken; and what a stop leaves follows it. It begins at a moment at which the journal that was found had been opened. It is the history
--- of the one store that all callers asked behind the lock, and that was closed when they had left.
+-- for which the store that the lock gave back stands, which is handed back.
 pub record HasHistory {C : Type 0} (span : Span C) (keys : KeyPair) (shares : List (Share C)) : Type 0 where
   pub rows : Rows
   pub origin : Origin
@@ -123,7 +130,7 @@ pub record HasHistory {C : Type 0} (span : Span C) (keys : KeyPair) (shares : Li
   pub clear : Told span.given.folder.before.log (λ log. IsFoundClear keys (now log) unlocked rows)
   pub second : Told span.given.second (λ second. unlocked ≡ second)
   pub opened : Changes span.given.folder.before.log span.given.folder.after.log (λ old new. HasOpened old (log_at new origin.moment))
-  pub handed_back : IsHandedBack keys rows origin entries span.given.folder.before span.given.folder.after
+  pub handed_back : IsHandedBack keys rows origin entries span.given.folder.before span.given.folder.after span.closed
   pub stops : HasStops keys rows origin entries span.given.folder.before span.given.folder.after
 
 -- all entries of a history are on the disk: it shows the rows after them, and so does what any stop leaves

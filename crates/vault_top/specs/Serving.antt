@@ -1,5 +1,5 @@
 -- What serving a vault does, step by step.
-use Rattle.std.specs.Prelude.{◌≡◌, ◌⊎◌, ℕ, ◌<◌, ◌≤◌, ◌-◌, ◌^◌, min, List, [], ◌++◌, length, Option, Some, Result, Ok, IsErr, IsOk, OnErr, OnOk, IfSome, IsSome, IsNone, ⊤}
+use Rattle.std.specs.Prelude.{◌≡◌, ◌⊎◌, ℕ, ◌<◌, ◌-◌, ◌^◌, min, List, [], ◌++◌, length, Option, Some, None, Result, Ok, IsErr, IsOk, IfSome, ⊤}
 use Rattle.outside.specs.declared.stream.Failed.{Failed}
 use Rattle.outside.specs.Calls.{Rose}
 use Rattle.outside.specs.Views.{FolderView}
@@ -14,7 +14,7 @@ use Rattle.shared_sessions.specs.declared.workers.Worker.{Worker}
 use Rattle.siv_mode.specs.Keys.{KeyPair}
 use Rattle.store_history.specs.Store.{StoreView}
 use Rattle.store_history.specs.Turns.{draws_for}
-use Rattle.vault_store.specs.Open.{OpenVault}
+use Rattle.vault_store.specs.Open.{ClosedVault, OpenVault}
 use Rattle.demo_work.specs.Summary.{PlainRow, summary_line}
 use Rattle.demo_rows.specs.Left.{AreLeft}
 use Rattle.vault_top.specs.Report.{line}
@@ -35,7 +35,7 @@ use Rattle.vault_top.specs.declared.task.Service.{Service}
 use Rattle.vault_top.specs.declared.task.Scripts.{Scripts}
 
 -- an outcome's cause: what failed, or the sessions that were counted; and how the vault was closed
-abbrev pub HasOutcome : {X : Type 0} → Result SessionCounts Failed → Result X Failed → Outcome → Type 0
+abbrev pub HasOutcome : Result SessionCounts Failed → Result (Unit {0}) Failed → Outcome → Type 0
 HasOutcome counts closing (outcomes.Served c) = (counts ≡ Ok c) × IsOk closing
 HasOutcome counts closing outcomes.ListenerFault = IsErr counts × IsOk closing
 HasOutcome counts closing outcomes.FolderFault = IsErr closing
@@ -53,10 +53,10 @@ pub record HasServedAll {D N C E : Type 0} (start : Rows → Origin → Type 0) 
   pub ended : all_ends joined.shares ≡ ends
   pub folder : D
   pub folder_is : back.folder ≡ Some folder
-  pub closing : Result (Unit {0}) Failed
-  pub closed : IsClosing store.store (views.folder store.folder) (views.folder folder) closing
-  pub outcome : HasOutcome counts closing back.outcome
-  pub asked : back.entries ≡ store.store.entries
+  pub closed : ClosedVault
+  pub closed_is : back.store ≡ Some closed
+  pub closing : IsClosing views.folder store.store store.folder closed folder
+  pub outcome : HasOutcome counts closed.committed back.outcome
 
 -- the folder of a store that stood for no entries
 pub record IsUnasked {D : Type 0} (view : D → FolderView) (start : Rows → Origin → Type 0) (since : FolderView → KeyPair → Rows → Type 0) (folder : D) : Type 0 where
@@ -70,6 +70,7 @@ pub record IsUnasked {D : Type 0} (view : D → FolderView) (start : Rows → Or
 -- there was no memory to serve, and no worker did anything; a store that is left stood for no entries
 pub record HasServedNone {D N C E : Type 0} (start : Rows → Origin → Type 0) (since : FolderView → KeyPair → Rows → Type 0) (views : Views D N C E) (workers workers' : List (Worker N E)) (back : HandedBack D) : Type 0 where
   pub outcome : back.outcome ≡ outcomes.NoMemory
+  pub store : back.store ≡ None
   pub same : workers' ≡ workers
   pub folder : IfSome back.folder (λ folder. IsUnasked views.folder start since folder)
 
@@ -114,6 +115,7 @@ pub record HasServedVault {D N C E : Type 0} (start : Rows → Origin → Type 0
   pub ending : Ending
   pub may : MayEnd ends back.outcome ending
   pub folder_is : ended.folder ≡ back.folder
+  pub store_is : ended.store ≡ back.store
   pub reported : IsReported sink ending ended.status
 
 -- ---- a demonstration
@@ -125,8 +127,8 @@ pub record IsKeptOf {D : Type 0} (back : HandedBack D) (sessions : ℕ) (kept : 
   pub sessions_are : counts.sessions ≡ sessions
   pub done : counts.done ≡ sessions
   pub folder : back.folder ≡ Some kept.folder
-  pub entries : back.entries ≡ kept.entries
-  pub few : kept.entries < 2 ^ 64 - 1
+  pub store : back.store ≡ Some kept.store
+  pub few : kept.store.store.entries < 2 ^ 64 - 1
 
 -- a text is the line of what these rows leave after so many entries
 pub record SumsUp (scripts : Scripts) (entries : ℕ) (shown : Rows) (written : List ℕ) : Type 0 where

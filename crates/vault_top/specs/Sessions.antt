@@ -32,13 +32,13 @@ FailsAtTheEnd {span = span} history = Rose (tally_of history.origin history.entr
 
 -- closing the store was answered Ok: no commit failed, and all entries are on the disk
 pub record IsClosedWell {C : Type 0} {span : Span C} {keys : KeyPair} {shares : List (Share C)} (history : HasHistory span keys shares) : Type 0 where
-  pub closed : IsOk history.handed_back.closing
+  pub closed : IsOk history.handed_back.closed.committed
   pub running : IsNone (stopped_in history)
   pub on_disk : IsOnDisk history
 
 -- closing it failed: a commit had failed, in an entry, or what waited in the end couldn't be committed
 pub record IsClosedBadly {C : Type 0} {span : Span C} {keys : KeyPair} {shares : List (Share C)} (history : HasHistory span keys shares) : Type 0 where
-  pub failed : IsErr history.handed_back.closing
+  pub failed : IsErr history.handed_back.closed.committed
   pub cause : IsSome (stopped_in history) ⊎ FailsAtTheEnd history
 
 abbrev pub Never : {C : Type 0} → WorkerSpan C → Type 0

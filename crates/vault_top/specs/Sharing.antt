@@ -6,7 +6,6 @@ use Rattle.outside.specs.Views.{FolderView}
 use Rattle.tree_model.specs.Rows.{Rows}
 use Rattle.tree_history.specs.History.{Entry, Origin}
 use Rattle.siv_mode.specs.Keys.{KeyPair}
-use Rattle.stop_history.specs.Opening.{IsSoundlyFound}
 use Rattle.store_history.specs.Store.{IsStoreOf}
 use Rattle.store_history.specs.Ends.{IsFoundClear}
 use Rattle.vault_keys.specs.Unlock.{UnlockedVault}
@@ -29,7 +28,7 @@ pub record IsSharedStore {D : Type 0} (view : D → FolderView) (since : FolderV
 pub record Begins {D N C E : Type 0} (views : Views D N C E) (folder : D) (workers : List (Worker N E)) (rows : Rows) (origin : Origin) : Type 0 where
   pub folder_faults : origin.folder_faults ≡ (views.folder folder).faults
   pub entropy_faults : origin.entropy_faults ≡ entropy_before (worker_spans views workers workers)
-  pub moment : Told (views.folder folder).log (λ log. IsSoundlyFound (now log) → moment log ≤ origin.moment)
+  pub moment : Told (views.folder folder).log (λ log. moment log ≤ origin.moment)
 
 -- these are the rows and counts from which a run's history may begin
 pub record AreBeginnings {D N C E : Type 0} (start : Rows → Origin → Type 0) (views : Views D N C E) (folder : D) (workers : List (Worker N E)) : Type 0 where

@@ -1,13 +1,18 @@
 -- What the program is given that is sound, that nothing failed, and what it comes to. To serve, the words ask for it, and secret and disk are told, of which
 -- the one unlocks the other; to make, the words ask for it, and the secret has a password and the folder is empty, both told.
-use Rattle.std.specs.Prelude.{◌≡◌, ◌⊎◌, ℕ, List, [], ◌∷◌, Option, Some, Ok, IsSome, IsSomeAnd, ⊤}
+use Rattle.std.specs.Prelude.{◌≡◌, ◌⊎◌, ℕ, List, [], ◌∷◌, take, Option, Some, Ok, IsSome, IsSomeAnd, ⊤}
 use Rattle.std.specs.List.{AllByRecursion}
-use Rattle.outside.specs.Calls.{Rose}
-use Rattle.outside.specs.Disk.{Disk, IsFolder}
-use Rattle.outside.specs.Images.{now, disk_in}
+use Rattle.outside.specs.Calls.{Rose, Told}
+use Rattle.outside.specs.Disk.{Disk, Path, IsFolder}
+use Rattle.outside.specs.Images.{Log, log_at, now, disk_in}
 use Rattle.outside.specs.Views.{LinkView}
 use Rattle.siv_mode.specs.Keys.{KeyPair}
-use Rattle.tree_history.specs.Laws.{AreStepped}
+use Rattle.tree_model.specs.Rows.{Rows}
+use Rattle.tree_history.specs.History.{Made, Entry, Origin, entry_at, rows_at, tally_of}
+use Rattle.tree_history.specs.Laws.{AreStepped, IsPlaceTaken}
+use Rattle.directory_scan.specs.Format.{sealing_of}
+use Rattle.store_history.specs.Store.{IsPlacedOn}
+use Rattle.taken_places.specs.Places.{AreUnmarked, MayBeTaken}
 use Rattle.session_server.specs.declared.ending.SessionEnd.{SessionEnd}
 use Rattle.session_server.specs.declared.ending.SessionEnd.TheVariants as ends
 use Rattle.session_server.specs.Served.{ServedLink}
@@ -115,8 +120,8 @@ IsSoundJob span = IsSound span ⊎ (IsSoundToMake span × ¬ (SomeRandomFailed s
 -- a run with a sound job, in which nothing failed, the sink neither
 pub record IsSoundRun {D N C E : Type 0} (views : Views D N C E) (words : List (List ℕ)) (secret : Course SourceView) (second : Option ℕ) (folder : D) (workers workers' : List (Worker N E)) (sink : Course SinkView) (ended : Ended D) : Type 0 where
   pub run : HasRun views words secret second folder workers workers' sink ended
-  pub sound : IsSoundJob (span_of views words secret second folder run.kept workers workers')
-  pub faultless : IsFaultless (span_of views words secret second folder run.kept workers workers')
+  pub sound : IsSoundJob (span_of views words secret second folder run.kept workers workers' ended.store)
+  pub faultless : IsFaultless (span_of views words secret second folder run.kept workers workers' ended.store)
   pub written : Rose sink.before.faults sink.after.faults → ⊥
 
 -- ---- words that are refused
@@ -143,9 +148,22 @@ IsDoneOrFull before after end = ((end ≡ ends.Done) × (after.left ≡ Some [])
 abbrev pub IsServedOut : {C : Type 0} → (C → LinkView) → ServedLink C → Type 0
 IsServedOut view link = IsWhole (view link.came).left → links.IsFaultless (view link.came) (view link.given) → IsDoneOrFull (view link.came) (view link.given) link.end
 
--- each request was answered as the step says, or that its place is taken, or that memory ran out where it may; and each session was served out
+-- the place that an entry names as taken, on a disk by a tree which has these rows, is one that may be taken where nothing is foreign
+pub record IsRightlyTaken (keys : KeyPair) (disk : Disk) (rows : Rows) (made : Made) (path : Path) : Type 0 where
+  pub placed : IsPlacedOn keys disk rows made
+  pub may : MayBeTaken (sealing_of keys) disk placed.live made.asked.request made.drawn path
+
+-- it is so of each entry that is answered so, if no row from which the history begins has a mark of foreign entries
+abbrev pub AreRightlyTaken : KeyPair → Rows → Origin → List Entry → Log → Type 0
+AreRightlyTaken keys rows origin entries log = AreUnmarked rows → (i : ℕ) (entry : Entry) → entry_at entries i ≡ Some entry
+    → (taken : IsPlaceTaken (rows_at rows entries i) entry.made)
+    → IsRightlyTaken keys (now (log_at log (tally_of origin (take i entries)).moment)) (rows_at rows entries i) entry.made taken.path
+
+-- Each request was answered as the step says, or that its place is taken, or that memory ran out where it may; a place that is taken may be; and each
+-- session was served out.
 pub record IsServedSoundly {C : Type 0} (view : C → LinkView) {span : Span C} {keys : KeyPair} {shares : List (Share C)} (history : HasHistory span keys shares) : Type 0 where
   pub stepped : AreStepped history.rows history.origin history.entries
+  pub rightly : Told span.given.folder.after.log (AreRightlyTaken keys history.rows history.origin history.entries)
   pub sessions : AllByRecursion (λ share. AllByRecursion (IsServedOut view) share.links) shares
 
 -- of a run that served a vault, whatever became of its report

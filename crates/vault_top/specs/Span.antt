@@ -5,6 +5,7 @@ use Rattle.outside.specs.Views.{FolderView, folder_view, EntropyView, entropy_vi
 pub use Rattle.session_workers.specs.Shares.{Course, course, WorkerSpan}
 use Rattle.shared_sessions.specs.Workers as workers
 use Rattle.shared_sessions.specs.declared.workers.Worker.{Worker}
+use Rattle.vault_store.specs.Open.{ClosedVault}
 
 -- the bytes that are left of a source, and its faults
 pub record SourceView : Type 0 where
@@ -47,11 +48,12 @@ pub record Given : Type 0 where
   pub folder : Course FolderView
   pub second : Option ℕ
 
--- the words after the program's name, what a vault is unlocked by, and the workers
+-- the words after the program's name, what a vault is unlocked by, the workers, and the closed store that is handed back, if a vault was served
 pub record Span (C : Type 0) : Type 0 where
   pub words : List (List ℕ)
   pub given : Given
   pub workers : List (WorkerSpan C)
+  pub closed : Option ClosedVault
 
 abbrev pub worker_span : {D N C E : Type 0} → Views D N C E → Worker N E → Worker N E → WorkerSpan C
 worker_span views before after = workers.worker_span views.listener views.entropy before after
@@ -65,11 +67,12 @@ abbrev pub given_of : {D : Type 0} → (D → FolderView) → Course SourceView 
 given_of view secret second folder kept = record { secret = secret; folder = course view folder kept; second = second }
 
 -- what a run is given and leaves, as these views see it
-abbrev pub span_of : {D N C E : Type 0} → Views D N C E → List (List ℕ) → Course SourceView → Option ℕ → D → D → List (Worker N E) → List (Worker N E) → Span C
-span_of views words secret second folder kept workers workers' = record {
+abbrev pub span_of : {D N C E : Type 0} → Views D N C E → List (List ℕ) → Course SourceView → Option ℕ → D → D → List (Worker N E) → List (Worker N E) → Option ClosedVault → Span C
+span_of views words secret second folder kept workers workers' closed = record {
   words = words;
   given = given_of views.folder secret second folder kept;
   workers = worker_spans views workers workers';
+  closed = closed;
 }
 
 -- a folder that was only read since

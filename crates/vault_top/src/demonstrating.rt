@@ -34,16 +34,17 @@ use std::marker::Brand;
 use std::sync::Wait;
 use std::thread::Threads;
 use tree_loading::load;
+use vault_store::ClosedStore;
 use vault_unlock::{SecretKind, read_keys};
 
 // The threshold of the vault. It decides nothing where a tree is loaded.
 const THRESHOLD: u32 = 220;
 
-/// The folder of a vault all of whose sessions were held, and how many requests it answered.
+/// The folder of a vault all of whose sessions were held, and its store, which was closed.
 #[derive(Drop)]
 pub(crate) struct Kept<D> {
     pub folder: D,
-    pub entries: u64,
+    pub store: ClosedStore,
 }
 
 /// The line that sums up a demonstration, with its LF.
@@ -145,8 +146,8 @@ where
         (span_of (views_of D.log D.faults D.changes N.to_come N.given_back N.faults
         N.Conn.left N.Conn.taken N.Conn.read_faults N.Conn.write_faults E.drawn E.faults)
         words (course (source_view S.left S.faults) secret.old secret.new) (K.second clock.now)
-        folder kept.folder workers.old.items workers.new.items)
-        service.kind service.sessions (min service.at_once (length workers.old.items)) kept.entries) }
+        folder kept.folder workers.old.items workers.new.items (Some kept.store))
+        service.kind service.sessions (min service.at_once (length workers.old.items)) kept.store.store.entries) }
 {
     match open_vault(alloc, service.kind, folder, secret, clock) {
         Ok(store) => kept_of(
@@ -164,18 +165,19 @@ fn kept_of<D: Drop>(back: HandedBack<D>, sessions: u32) -> Option<Kept<D>>
     let HandedBack {
         folder,
         outcome,
-        entries,
+        store,
     } = back;
     let Outcome::Served(counts) = outcome else {
         return None;
     };
+    let store = store?;
     // A count at its end says nothing of how many there are.
-    if counts.sessions != sessions || counts.done != sessions || entries == u64::MAX {
+    if counts.sessions != sessions || counts.done != sessions || store.entries() == u64::MAX {
         return None;
     }
     Some(Kept {
         folder: folder?,
-        entries,
+        store,
     })
 }
 
@@ -187,7 +189,7 @@ fn sum_up(
     mut kept: Kept<MemFolder>,
 ) -> Result<Vec<u8>, AllocError>
     ensures { IfOk result (λ written. (shown : Rows) → HasTree (sealing_of keys.now) (now kept.folder.log) shown
-        → SumsUp scripts kept.entries shown written.items) }
+        → SumsUp scripts kept.store.store.entries shown written.items) }
 {
     let Ok(tree) = load(alloc, &mut kept.folder, keys, THRESHOLD) else {
         return Err(AllocError);
@@ -199,7 +201,7 @@ fn sum_up(
         alloc,
         scripts.clients,
         scripts.requests,
-        kept.entries,
+        kept.store.entries(),
         &rows,
     )?;
     line.push(b'\n')?;

@@ -30,7 +30,8 @@ pub fn a_sound_run_ends_with_0_or_5<D: Folder, N: Listener, E: Entropy>()
 {}
 
 /// Where a vault was served, the folder tells and nothing failed, each request was answered as the step says, unless a place is taken or memory
-/// runs out where it may; and each session of whole messages, over a link that never failed, was done, or memory ran out before
+/// runs out where it may; if no directory of the vault held foreign entries, a place that is taken is the long one of another name, or one of the identifier
+/// that was drawn for a new directory; and each session of whole messages, over a link that never failed, was done, or memory ran out before
 /// it read anything. It does nothing.
 pub fn a_sound_run_answers_as_the_step<D: Folder, N: Listener, E: Entropy>()
     ensures { (views : Views D N N.Conn E) (span : Span N.Conn) (ending : Ending) (reason : HasReason views span ending)

@@ -30,17 +30,19 @@ use std::marker::Brand;
 use std::sync::Wait;
 use std::thread::Threads;
 use vault_causes::Cause;
-use vault_store::Store;
+use vault_store::{ClosedStore, Store};
 use vault_words::{USAGE, VERSION, WordsErr};
 
 /// The status where the report's last line wasn't taken whole.
 const CUT_STATUS: u8 = 4;
 
-/// How the program ended: its exit status, and the vault's folder. None comes with status 5 alone.
+/// How the program ended: its exit status; the vault's folder, of which none comes with status 5 alone; and, if the vault was served, the store
+/// that all sessions asked, closed.
 #[derive(Drop)]
 pub struct Ended<D> {
     pub status: u8,
     pub folder: Option<D>,
+    pub store: Option<ClosedStore>,
 }
 
 /// Runs the program: does the job that the words after its name ask for, and writes the report to `out`.
@@ -117,22 +119,27 @@ where
         Ok(Task::Demo(scripts)) => Ended {
             status: report_demonstration(rt, alloc, scripts, out),
             folder: Some(folder),
+            store: None,
         },
         Ok(Task::Usage) => Ended {
             status: report(out, USAGE.as_bytes(), 0, CUT_STATUS),
             folder: Some(folder),
+            store: None,
         },
         Ok(Task::Version) => Ended {
             status: report(out, VERSION.as_bytes(), 0, CUT_STATUS),
             folder: Some(folder),
+            store: None,
         },
         Err(WordsErr::Refused) => Ended {
             status: refuse(out, &Cause::Words),
             folder: Some(folder),
+            store: None,
         },
         Err(WordsErr::Memory) => Ended {
             status: refuse(out, &Cause::Memory),
             folder: Some(folder),
+            store: None,
         },
     }
 }
@@ -180,6 +187,7 @@ where
         Err(Refused { folder, cause }) => Ended {
             status: refuse(out, &cause),
             folder: Some(folder),
+            store: None,
         },
     }
 }
@@ -212,6 +220,7 @@ fn make<D: Folder, N: Listener, E: Entropy, S: Source, O: Sink>(
     Ended {
         status,
         folder: Some(folder),
+        store: None,
     }
 }
 
@@ -253,6 +262,7 @@ where
     Ended {
         status,
         folder: served.folder,
+        store: served.store,
     }
 }
 

@@ -20,7 +20,7 @@ use shared_vault::Start;
 use std::alloc::Global;
 use std::sync::Wait;
 use std::thread::Threads;
-use vault_store::Store;
+use vault_store::{ClosedStore, Store};
 
 /// What serving came to.
 #[derive(Clone, Copy, Debug, PartialEq, Eq)]
@@ -46,13 +46,13 @@ impl Outcome {
     }
 }
 
-/// What is handed back after serving: the folder, which may be lost where memory ran out, what serving came to, and how many requests the
-/// vault answered, as far as 64 bits go.
+/// What is handed back after serving: the folder, which may be lost where memory ran out, what serving came to, and the closed store, if
+/// sessions were served.
 #[derive(Drop)]
 pub(crate) struct HandedBack<D> {
     pub folder: Option<D>,
     pub outcome: Outcome,
-    pub entries: u64,
+    pub store: Option<ClosedStore>,
 }
 
 /// Serves all workers' sessions over an open vault, and closes the vault.
@@ -93,19 +93,17 @@ where
         clock,
     ) {
         Ok(Served { tree, counts }) => {
-            let store = tree.into_store();
-            let entries = store.entries();
-            let (folder, closed) = store.close();
+            let (folder, closed) = tree.into_store().close();
             HandedBack {
                 folder: Some(folder),
-                outcome: outcome_of(counts, closed),
-                entries,
+                outcome: outcome_of(counts, closed.committed()),
+                store: Some(closed),
             }
         }
         Err(left) => HandedBack {
             folder: folder_of(left),
             outcome: Outcome::NoMemory,
-            entries: 0,
+            store: None,
         },
     }
 }
@@ -127,10 +125,10 @@ fn folder_of<D: Folder, B: Since>(left: Option<SharedVault<D, B>>) -> Option<D>
     }
 }
 
-fn outcome_of(counts: Result<SessionCounts, Failed>, closed: Result<(), Failed>) -> Outcome
-    ensures { HasOutcome counts closed result }
+fn outcome_of(counts: Result<SessionCounts, Failed>, committed: Result<(), Failed>) -> Outcome
+    ensures { HasOutcome counts committed result }
 {
-    match (counts, closed) {
+    match (counts, committed) {
         (_, Err(_)) => Outcome::FolderFault,
         (Err(_), Ok(())) => Outcome::ListenerFault,
         (Ok(counts), Ok(())) => Outcome::Served(counts),

@@ -37,7 +37,7 @@ hold_sessions-kept-requires-clause-since g c κs within = record { all = λ star
 
 pub returns-in-Some : goal.returns-in-Some
 returns-in-Some g c = IfOk-weaker c.sum_up.result
-    (λ written. (shown : Rows) → HasTree (sealing_of c.in_ok-keys.keys) (now c.in-Some.kept.folder.log) shown → SumsUp c.args.scripts c.in-Some.kept.entries shown written.items) _
+    (λ written. (shown : Rows) → HasTree (sealing_of c.in_ok-keys.keys) (now c.in-Some.kept.folder.log) shown → SumsUp c.args.scripts c.in-Some.kept.store.store.entries shown written.items) _
     (λ written sums d are.
     let secret = course (source_view (λ (s : Left). Some s.left) (λ (s : Left). s.plan.faults)) c.new-secret.result c.hold_sessions-kept.new.secret in
     let folder = c.in_ok-folder.folder in
@@ -58,7 +58,7 @@ returns-in-Some g c = IfOk-weaker c.sum_up.result
       keys_are = subst (λ (bytes : List ℕ). raw_keys (line_of bytes) ≡ Some c.in_ok-keys.keys) (c.deref.ensures.value ∙ c.in_ok-line.ensures) c.in_ok-keys.ensures;
       empty = c.in_ok-folder.ensures;
       workers_are = c.in_ok-workers.ensures;
-      whole = subst (λ (second : ℕ). IsServedWhole own_views (span_of own_views [] secret (Some second) folder kept.folder workers workers') RawKeys scripts.clients (min scripts.clients (length workers)) kept.entries)
+      whole = subst (λ (second : ℕ). IsServedWhole own_views (span_of own_views [] secret (Some second) folder kept.folder workers workers' (Some kept.store)) RawKeys scripts.clients (min scripts.clients (length workers)) kept.store.store.entries)
           c.new.ensures (c.in-Some.ensures.whole []);
       sums = sums;
     }) in

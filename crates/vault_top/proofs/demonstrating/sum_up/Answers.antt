@@ -14,5 +14,6 @@ returns c =
       rows = lines;
       left = left c.in-Ok.ensures.loaded shown has;
       is = c.in_ok-push.ensures.items ∙ ap (λ (text : List ℕ). text ++ 10 ∷ []) (c.in_ok-line.ensures
-          ∙ ap (λ (nodes : List DemoRow). summary_line scripts.clients scripts.requests c.args.kept.entries (map plain_row nodes)) c.deref.ensures.value);
+          ∙ ap (λ (nodes : List DemoRow). summary_line scripts.clients scripts.requests c.entries.result (map plain_row nodes)) c.deref.ensures.value
+          ∙ ap (λ (n : ℕ). summary_line scripts.clients scripts.requests n lines) c.entries.ensures);
     }

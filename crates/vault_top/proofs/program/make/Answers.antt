@@ -22,14 +22,14 @@ returns g c = λ words dir second asked.
     elim c.match-made.branch [
       | in-Ok w ↦
           run_making views words secret second c.args.folder kept dir first c.make_vault-made.new.entropy others c.args.workers.now.items c.put_back.new.workers.items
-          sink _ made (λ entropy. IsMade given entropy) asked refl workers_are c.put_back.ensures (w.in-Ok.ensures.made second) (λ h. h)
+          sink _ made (λ entropy. IsMade given entropy) asked refl refl workers_are c.put_back.ensures (w.in-Ok.ensures.made second) (λ h. h)
           (rw (w.out-is, w.status-is) w.report-status.ensures.written)
       | in-Err+in-NotEmpty-1 w ↦
           run_making views words secret second c.args.folder kept dir first c.make_vault-made.new.entropy others c.args.workers.now.items c.put_back.new.workers.items
-          sink _ (refused w.in-Err.cause) (λ entropy. IsNotMade given entropy w.in-Err.cause) asked refl workers_are c.put_back.ensures (w.in-Err.ensures.not_made second)
+          sink _ (refused w.in-Err.cause) (λ entropy. IsNotMade given entropy w.in-Err.cause) asked refl refl workers_are c.put_back.ensures (w.in-Err.ensures.not_made second)
           (λ h. inr (inr h)) (rw (w.out-is, w.status-is) w.refuse-status.ensures)
       | in-Err+in-Words-1 w ↦
           run_making views words secret second c.args.folder kept dir first c.make_vault-made.new.entropy others c.args.workers.now.items c.put_back.new.workers.items
-          sink _ (refused w.in-Err.cause) (λ entropy. IsNotMade given entropy w.in-Err.cause) asked refl workers_are c.put_back.ensures (w.in-Err.ensures.not_made second)
+          sink _ (refused w.in-Err.cause) (λ entropy. IsNotMade given entropy w.in-Err.cause) asked refl refl workers_are c.put_back.ensures (w.in-Err.ensures.not_made second)
           (λ h. inr (inr h)) (rw (w.out-is, w.status-is) w.refuse-status.ensures)
     ]

@@ -29,7 +29,7 @@ returns-in-Ok-Usage g c =
     g.N.Conn.Link.left g.N.Conn.Link.taken g.N.Conn.Link.read_faults g.N.Conn.Link.write_faults g.E.Entropy.drawn g.E.Entropy.faults in
     record {
       run = run_untouched views (words_of c.args.words.now) (source_view g.S.Source.left g.S.Source.faults c.args.secret.now) (g.K.Clock.second c.args.clock.now)
-          c.args.folder c.args.workers.now.items (course (sink_view g.O.Sink.taken g.O.Sink.faults) c.args.out.now c.report.new.out) _ usage_said refl
+          c.args.folder c.args.workers.now.items (course (sink_view g.O.Sink.taken g.O.Sink.faults) c.args.out.now c.report.new.out) _ usage_said refl refl
           (λ untouched. (rw c.in-Ok-Usage.field-0-is at c.in-Ok-Usage.ensures.task, untouched))
           (written_as _ _ _ _ _ 0 4 c.report.result c.as_bytes.ensures.value c.report.ensures.written);
     }
@@ -40,7 +40,7 @@ returns-in-Ok-Version g c =
     g.N.Conn.Link.left g.N.Conn.Link.taken g.N.Conn.Link.read_faults g.N.Conn.Link.write_faults g.E.Entropy.drawn g.E.Entropy.faults in
     record {
       run = run_untouched views (words_of c.args.words.now) (source_view g.S.Source.left g.S.Source.faults c.args.secret.now) (g.K.Clock.second c.args.clock.now)
-          c.args.folder c.args.workers.now.items (course (sink_view g.O.Sink.taken g.O.Sink.faults) c.args.out.now c.report-in-Ok-Version.new.out) _ version_said refl
+          c.args.folder c.args.workers.now.items (course (sink_view g.O.Sink.taken g.O.Sink.faults) c.args.out.now c.report-in-Ok-Version.new.out) _ version_said refl refl
           (λ untouched. (rw c.in-Ok-Version.field-0-is at c.in-Ok-Version.ensures.task, untouched))
           (written_as _ _ _ _ _ 0 4 c.report-in-Ok-Version.result c.as_bytes-in-Ok-Version.ensures.value c.report-in-Ok-Version.ensures.written);
     }
@@ -51,7 +51,7 @@ returns-in-Err-Refused g c =
     g.N.Conn.Link.left g.N.Conn.Link.taken g.N.Conn.Link.read_faults g.N.Conn.Link.write_faults g.E.Entropy.drawn g.E.Entropy.faults in
     record {
       run = run_badly_asked views (words_of c.args.words.now) (source_view g.S.Source.left g.S.Source.faults c.args.secret.now) (g.K.Clock.second c.args.clock.now)
-          c.args.folder c.args.workers.now.items (course (sink_view g.O.Sink.taken g.O.Sink.faults) c.args.out.now c.refuse.new.out) _ Words refl (inl (refl, rw c.in-Err-Refused.field-0-is at c.in-Err-Refused.ensures.cause)) c.refuse.ensures;
+          c.args.folder c.args.workers.now.items (course (sink_view g.O.Sink.taken g.O.Sink.faults) c.args.out.now c.refuse.new.out) _ Words refl refl (inl (refl, rw c.in-Err-Refused.field-0-is at c.in-Err-Refused.ensures.cause)) c.refuse.ensures;
     }
 
 pub returns-in-Err-Memory : goal.returns-in-Err-Memory
@@ -60,7 +60,7 @@ returns-in-Err-Memory g c =
     g.N.Conn.Link.left g.N.Conn.Link.taken g.N.Conn.Link.read_faults g.N.Conn.Link.write_faults g.E.Entropy.drawn g.E.Entropy.faults in
     record {
       run = run_badly_asked views (words_of c.args.words.now) (source_view g.S.Source.left g.S.Source.faults c.args.secret.now) (g.K.Clock.second c.args.clock.now)
-          c.args.folder c.args.workers.now.items (course (sink_view g.O.Sink.taken g.O.Sink.faults) c.args.out.now c.refuse-in-Err-Memory.new.out) _ Memory refl (inr refl) c.refuse-in-Err-Memory.ensures;
+          c.args.folder c.args.workers.now.items (course (sink_view g.O.Sink.taken g.O.Sink.faults) c.args.out.now c.refuse-in-Err-Memory.new.out) _ Memory refl refl (inr refl) c.refuse-in-Err-Memory.ensures;
     }
 
 pub report_demonstration-requires : goal.report_demonstration-requires
@@ -78,8 +78,8 @@ returns-in-Ok-Demo g c =
     let sink = course (sink_view g.O.Sink.taken g.O.Sink.faults) c.args.out.now c.report_demonstration.new.out in
     record {
       run = elim (c.report_demonstration.ensures asked.0 asked.2.are) [
-        | inl h ↦ run_untouched views words secret (g.K.Clock.second c.args.clock.now) c.args.folder c.args.workers.now.items sink _ (demonstrated h.0) refl
+        | inl h ↦ run_untouched views words secret (g.K.Clock.second c.args.clock.now) c.args.folder c.args.workers.now.items sink _ (demonstrated h.0) refl refl
             (λ untouched. record { demonstration = asked.0; words = asked.1; untouched = untouched; held = h.1 }) h.2
-        | inr reported ↦ run_badly_asked views words secret (g.K.Clock.second c.args.clock.now) c.args.folder c.args.workers.now.items sink _ Memory refl (inr refl) reported
+        | inr reported ↦ run_badly_asked views words secret (g.K.Clock.second c.args.clock.now) c.args.folder c.args.workers.now.items sink _ Memory refl refl (inr refl) reported
       ];
     }

@@ -41,6 +41,6 @@ returns-in-Err g c = λ words serving asked same.
     let kept = c.in-Err.field-0.folder in
     let cause = c.in-Err.field-0.cause in
     run_unserved views words secret second c.args.folder kept serving c.args.workers.now.items
-    (course (sink_view g.O.Sink.taken g.O.Sink.faults) c.args.out.now c.refuse.new.out) _ cause asked refl
+    (course (sink_view g.O.Sink.taken g.O.Sink.faults) c.args.out.now c.refuse.new.out) _ cause asked refl refl
     (subst (λ (k : SecretKind). IsUnopened (given_of views.folder secret second c.args.folder kept) k cause) same.kind c.in-Err.ensures.unopened)
     c.refuse.ensures

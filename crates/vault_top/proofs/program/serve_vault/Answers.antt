@@ -27,6 +27,7 @@ returns g c =
         ending = reported.ending;
         may = reported.may;
         folder_is = refl;
+        store_is = refl;
         reported = reported.reported;
       };
     }
