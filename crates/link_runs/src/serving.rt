@@ -9,7 +9,7 @@ use std::alloc::{AllocError, Global};
 use std::sync::Wait;
 use std::sync::atomic::AtomicU64;
 use std::thread::Threads;
-use vault_top::{Worker, run};
+use vault_top::{Ended, Worker, run};
 
 /// How many clients there are.
 const CLIENTS: usize = 2;
@@ -116,7 +116,7 @@ fn run_words<R: Threads + Wait + Sync>(
         return Err(RowErr::Line);
     }
     let mut report = MemSink::new(alloc);
-    let ended = run(
+    let Ended { status, folder, .. } = run(
         rt,
         alloc,
         words,
@@ -127,11 +127,8 @@ fn run_words<R: Threads + Wait + Sync>(
         &SetClock::new(SECOND),
         &OpenGate,
     );
-    let ending = ending_of(ended.status, report.taken());
-    match ended.folder {
-        Some(folder) => Ok((folder, ending)),
-        None => Err(RowErr::Differs("folder")),
-    }
+    let folder = folder.ok_or(RowErr::Differs("folder"))?;
+    Ok((folder, ending_of(status, report.taken())))
 }
 
 // Runs the program over workers, and returns the folder and how it ended.
