@@ -1,5 +1,5 @@
 -- A batch that is done phase by phase.
-use Rattle.std.proofs.Common.{◌≡◌, ℕ, suc, ◌≤◌, List, [], ◌∷◌, ◌++◌, Bool, true, cond, take, drop, Option, refl, sym, ap, subst, ◌∙◌, append_assoc}
+use Rattle.std.proofs.Common.{◌≡◌, ℕ, suc, ◌≤◌, List, [], ◌∷◌, ◌++◌, Bool, true, cond, take, drop, Option, sym, ap, subst, ◌∙◌, append_assoc}
 use Rattle.std.specs.List.{AllByRecursion}
 use Rattle.std.proofs.lemmas.List.{take-append-drop, append-nil}
 use Rattle.std.proofs.lemmas.List.Elements.{filter-append}
@@ -13,6 +13,7 @@ use Rattle.deeds.specs.declared.phase.DeedErr.TheVariants as errors
 use Rattle.deeds.specs.Deeds.{PlainDeed, MakesDir, Puts, Renames, Removes, RemovesDir, Reshapes, Does, DoesAll, is_of, of_phase, in_order, before_phase, IsRefusedIn, IsRefusedAt, IsRefusal, IfUnfit, AreWithin}
 use Rattle.deeds.specs.Grammar.{IsDeed}
 use Rattle.deeds.proofs.Doing.{same_run}
+use Rattle.deeds.proofs.Applying.{split_run}
 use Rattle.deeds.proofs.Phases.{refusal_after}
 use Rattle.deeds.proofs.Rising.{within_of}
 
@@ -33,11 +34,6 @@ refused_in phase ds a b fa fb fd (errors.Unfit index) before le refused =
     (λ x y first r. record { phase = phase; between = now y; before = first; refused = r }) before le refused
 
 -- ---- a deed that is refused is one that can't be done in the order of doing
-
--- what can be done can be done up to any of its deeds
-split_run : (xs ys : List PlainDeed) (a c : Disk) → DoesAll (xs ++ ys) a c → (b : Disk) × DoesAll xs a b × DoesAll ys b c
-split_run [] ys a c run = (a, refl, run)
-split_run (x ∷ xs) ys a c run = let more = split_run xs ys run.0 c run.2 in (more.0, (run.0, run.1, more.1), more.2)
 
 of_phase_at : (phase : Phase) (ds : List PlainDeed) (index : ℕ) (deed : PlainDeed) → drop index ds ≡ deed ∷ drop (suc index) ds → is_of phase deed ≡ true
     → of_phase phase ds ≡ of_phase phase (take index ds) ++ deed ∷ of_phase phase (drop (suc index) ds)

@@ -48,7 +48,7 @@ cut_of p len rs b c part = inr part
 
 -- ---- what they leave together
 
-set_twice : (d : Disk) (p : Path) (v w : Option Node) → set_at (set_at d p v) p w ≡ set_at d p w
+pub set_twice : (d : Disk) (p : Path) (v w : Option Node) → set_at (set_at d p v) p w ≡ set_at d p w
 set_twice d p v w = same_disk (set_at (set_at d p v) p w) (set_at d p w) (λ q. by_path q p
     (λ at. set_here (set_at d p v) p w q at ∙ sym (set_here d p w q at))
     (λ ne. set_there (set_at d p v) p w q ne ∙ set_there d p v q ne ∙ sym (set_there d p w q ne)))
@@ -170,7 +170,7 @@ phase_done xs old mid new steady does is = (
 
 -- ---- what deeds leave is determined
 
-does_one : (x : PlainDeed) (s a b : Disk) → Does x s a → Does x s b → a ≡ b
+pub does_one : (x : PlainDeed) (s a b : Disk) → Does x s a → Does x s b → a ≡ b
 does_one x s a b (inl p) (inl q) = p.1 ∙ sym q.1
 does_one x s a b (inr p) (inr q) = p.1 ∙ sym q.1
 does_one (Renames from to) s a b (inl p) (inr q) = absurd (let e : Some (file q.0.there.0) ≡ None = sym q.0.there.1 ∙ p.0.0 in cc)

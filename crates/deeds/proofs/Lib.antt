@@ -15,3 +15,6 @@ pub mod Rising
 pub mod Windows
 pub mod Lengths
 pub mod Growing
+pub mod CutShort
+pub mod Applying
+pub mod Written

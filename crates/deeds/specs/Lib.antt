@@ -5,3 +5,4 @@ pub mod Grammar
 pub mod Reading
 pub mod Writing
 pub mod Repeatable
+pub mod Applying

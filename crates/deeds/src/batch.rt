@@ -2,6 +2,7 @@ ghost use Rattle.std.specs.Prelude.{◌≡◌, ◌≤◌, ◌-◌, ◌++◌, ◌
 ghost use Rattle.outside.specs.Calls.{Told, Changes, HasCause};
 ghost use Rattle.outside.specs.Images.{now, IsSteady};
 ghost use Rattle.deeds.specs.Deeds.{DoesAll, StaysAmid, LogGoesOn, in_order, IsRefusal, IsRefusedAt, IfUnfit};
+ghost use Rattle.deeds.specs.Applying.{StaysApplied, HasStopped};
 ghost use Rattle.std.specs.List.{AllByRecursion};
 ghost use Rattle.deeds.specs.Plain.{plains};
 ghost use Rattle.deeds.specs.Grammar.{IsBatch, IsDeed, IsBadDeed, IsBadAt, IfBad, spelled, spelled_deeds, behind_gate};
@@ -89,8 +90,10 @@ pub fn do_batch<F: Folder>(folder: &mut F, deeds: &[Deed]) -> Result<(), DeedErr
         (λ old new. IsSteady new × DoesAll (in_order (plains deeds.now)) (now old) (now new))) }
     ensures amid { Changes (F.log folder.old) (F.log folder.new) (StaysAmid (in_order (plains deeds.now))) }
     ensures grown { Changes (F.log folder.old) (F.log folder.new) LogGoesOn }
+    ensures applied { Changes (F.log folder.old) (F.log folder.new) (StaysApplied (in_order (plains deeds.now))) }
     ensures unfit { IfErr result (λ error. IfUnfit error (λ index.
         IsRefusal (F.log folder.old) (F.faults folder.old) (F.faults folder.new) (IsRefusedAt (plains deeds.now) index))) }
+    ensures left { IfErr result (λ error. IfUnfit error (λ at. Changes (F.log folder.old) (F.log folder.new) (HasStopped (in_order (plains deeds.now))))) }
     ensures cause { HasCause (F.faults folder.old) (F.faults folder.new) (IsErrOf result DeedErr.Failed) }
 {
     do_phase(folder, deeds, Phase::Make)?;

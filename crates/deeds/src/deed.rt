@@ -3,6 +3,7 @@ ghost use Rattle.outside.specs.Calls.{HasCause, Told, Changes, IsUnfit};
 ghost use Rattle.outside.specs.Disk.{Disk};
 ghost use Rattle.outside.specs.Images.{now, IsSteady};
 ghost use Rattle.deeds.specs.Deeds.{MakesDir, Puts, Renames, Removes, RemovesDir, IsDoneAlready, Does, DoesAll, StaysAmid, LogGoesOn, is_of, of_phase, IsRefusal, IsRefusedIn, IfUnfit, IsWithin, AreWithin};
+ghost use Rattle.deeds.specs.Applying.{KeepsStill, StaysApplied, StaysRefused, HasBrokenOff, HasStopped};
 ghost use Rattle.deeds.specs.Plain.{plain, plains};
 
 use crate::phase::{DeedErr, Phase};
@@ -60,6 +61,7 @@ fn do_make_dir<F: Folder>(folder: &mut F, path: &VaultPath) -> Result<(), Folder
     ensures done { OnOk result (Changes (F.log folder.old) (F.log folder.new) (λ old new. Does (MakesDir path.now) (now old) (now new))) }
     ensures amid { Changes (F.log folder.old) (F.log folder.new) (StaysAmid (MakesDir path.now ∷ [])) }
     ensures grown { Changes (F.log folder.old) (F.log folder.new) LogGoesOn }
+    ensures still { Changes (F.log folder.old) (F.log folder.new) (KeepsStill (MakesDir path.now)) }
     ensures unfit { IsErrOf result FolderErr.Unfit
         → IsUnfit (F.log folder.old) (F.faults folder.old) (F.faults folder.new) (λ log. (after : Disk) × Does (MakesDir path.now) (now log) after) }
     ensures no_memory { IsErrOf result FolderErr.Memory → ⊥ }
@@ -74,6 +76,7 @@ fn do_put<F: Folder>(folder: &mut F, path: &VaultPath, bytes: &[u8]) -> Result<(
     ensures done { OnOk result (Changes (F.log folder.old) (F.log folder.new) (λ old new. Does (Puts path.now bytes.now) (now old) (now new))) }
     ensures amid { Changes (F.log folder.old) (F.log folder.new) (StaysAmid (Puts path.now bytes.now ∷ [])) }
     ensures grown { Changes (F.log folder.old) (F.log folder.new) LogGoesOn }
+    ensures still { Changes (F.log folder.old) (F.log folder.new) (KeepsStill (Puts path.now bytes.now)) }
     ensures unfit { IsErrOf result FolderErr.Unfit
         → IsUnfit (F.log folder.old) (F.faults folder.old) (F.faults folder.new) (λ log. (after : Disk) × Does (Puts path.now bytes.now) (now log) after) }
     ensures no_memory { IsErrOf result FolderErr.Memory → ⊥ }
@@ -88,6 +91,7 @@ fn do_remove<F: Folder>(folder: &mut F, path: &VaultPath) -> Result<(), FolderEr
     ensures done { OnOk result (Changes (F.log folder.old) (F.log folder.new) (λ old new. Does (Removes path.now) (now old) (now new))) }
     ensures amid { Changes (F.log folder.old) (F.log folder.new) (StaysAmid (Removes path.now ∷ [])) }
     ensures grown { Changes (F.log folder.old) (F.log folder.new) LogGoesOn }
+    ensures still { Changes (F.log folder.old) (F.log folder.new) (KeepsStill (Removes path.now)) }
     ensures unfit { IsErrOf result FolderErr.Unfit
         → IsUnfit (F.log folder.old) (F.faults folder.old) (F.faults folder.new) (λ log. (after : Disk) × Does (Removes path.now) (now log) after) }
     ensures no_memory { IsErrOf result FolderErr.Memory → ⊥ }
@@ -102,6 +106,7 @@ fn do_remove_dir<F: Folder>(folder: &mut F, path: &VaultPath) -> Result<(), Fold
     ensures done { OnOk result (Changes (F.log folder.old) (F.log folder.new) (λ old new. Does (RemovesDir path.now) (now old) (now new))) }
     ensures amid { Changes (F.log folder.old) (F.log folder.new) (StaysAmid (RemovesDir path.now ∷ [])) }
     ensures grown { Changes (F.log folder.old) (F.log folder.new) LogGoesOn }
+    ensures still { Changes (F.log folder.old) (F.log folder.new) (KeepsStill (RemovesDir path.now)) }
     ensures unfit { IsErrOf result FolderErr.Unfit
         → IsUnfit (F.log folder.old) (F.faults folder.old) (F.faults folder.new) (λ log. (after : Disk) × Does (RemovesDir path.now) (now log) after) }
     ensures no_memory { IsErrOf result FolderErr.Memory → ⊥ }
@@ -116,6 +121,7 @@ fn do_rename<F: Folder>(folder: &mut F, from: &VaultPath, to: &VaultPath) -> Res
     ensures done { OnOk result (Changes (F.log folder.old) (F.log folder.new) (λ old new. Does (Renames from.now to.now) (now old) (now new))) }
     ensures amid { Changes (F.log folder.old) (F.log folder.new) (StaysAmid (Renames from.now to.now ∷ [])) }
     ensures grown { Changes (F.log folder.old) (F.log folder.new) LogGoesOn }
+    ensures still { Changes (F.log folder.old) (F.log folder.new) (KeepsStill (Renames from.now to.now)) }
     ensures unfit { IsErrOf result FolderErr.Unfit
         → IsUnfit (F.log folder.old) (F.faults folder.old) (F.faults folder.new) (λ log. (after : Disk) × Does (Renames from.now to.now) (now log) after) }
     ensures no_memory { IsErrOf result FolderErr.Memory → ⊥ }
@@ -134,8 +140,10 @@ pub fn do_deed<F: Folder>(folder: &mut F, deed: &Deed) -> Result<(), FolderErr>
     ensures done { OnOk result (Changes (F.log folder.old) (F.log folder.new) (λ old new. Does (plain deed.now) (now old) (now new))) }
     ensures amid { Changes (F.log folder.old) (F.log folder.new) (StaysAmid (plain deed.now ∷ [])) }
     ensures grown { Changes (F.log folder.old) (F.log folder.new) LogGoesOn }
+    ensures refused { Changes (F.log folder.old) (F.log folder.new) (StaysRefused (plain deed.now)) }
     ensures unfit { IsErrOf result FolderErr.Unfit
         → IsUnfit (F.log folder.old) (F.faults folder.old) (F.faults folder.new) (λ log. (after : Disk) × Does (plain deed.now) (now log) after) }
+    ensures left { IsErrOf result FolderErr.Unfit → Changes (F.log folder.old) (F.log folder.new) (HasBrokenOff (plain deed.now)) }
     ensures no_memory { IsErrOf result FolderErr.Memory → ⊥ }
     ensures cause { HasCause (F.faults folder.old) (F.faults folder.new) (IsErrOf result FolderErr.Failed) }
 {
@@ -155,7 +163,9 @@ fn do_deeds<F: Folder>(folder: &mut F, deeds: &[Deed], phase: Phase) -> Result<(
     ensures done { OnOk result (Changes (F.log folder.old) (F.log folder.new) (λ old new. DoesAll (of_phase phase (plains deeds.now)) (now old) (now new))) }
     ensures amid { Changes (F.log folder.old) (F.log folder.new) (StaysAmid (of_phase phase (plains deeds.now))) }
     ensures grown { Changes (F.log folder.old) (F.log folder.new) LogGoesOn }
+    ensures applied { Changes (F.log folder.old) (F.log folder.new) (StaysApplied (of_phase phase (plains deeds.now))) }
     ensures unfit { IfErr result (λ error. IfUnfit error (λ index. IsRefusal (F.log folder.old) (F.faults folder.old) (F.faults folder.new) (IsRefusedIn phase (plains deeds.now) index))) }
+    ensures left { IfErr result (λ error. IfUnfit error (λ at. Changes (F.log folder.old) (F.log folder.new) (HasStopped (of_phase phase (plains deeds.now))))) }
     ensures cause { HasCause (F.faults folder.old) (F.faults folder.new) (IsErrOf result DeedErr.Failed) }
 {
     for (index, deed) in deeds.iter().enumerate() {
@@ -170,8 +180,10 @@ fn do_at<F: Folder>(folder: &mut F, deed: &Deed, index: usize, phase: Phase) -> 
     ensures done { OnOk result (Changes (F.log folder.old) (F.log folder.new) (λ old new. DoesAll (of_phase phase (plain deed.now ∷ [])) (now old) (now new))) }
     ensures amid { Changes (F.log folder.old) (F.log folder.new) (StaysAmid (of_phase phase (plain deed.now ∷ []))) }
     ensures grown { Changes (F.log folder.old) (F.log folder.new) LogGoesOn }
+    ensures applied { Changes (F.log folder.old) (F.log folder.new) (StaysApplied (of_phase phase (plain deed.now ∷ []))) }
     ensures unfit { IfErr result (λ error. IfUnfit error (λ at. (at ≡ index) × IsTrue (is_of phase (plain deed.now))
         × IsUnfit (F.log folder.old) (F.faults folder.old) (F.faults folder.new) (λ log. (after : Disk) × Does (plain deed.now) (now log) after))) }
+    ensures left { IfErr result (λ error. IfUnfit error (λ at. Changes (F.log folder.old) (F.log folder.new) (HasStopped (of_phase phase (plain deed.now ∷ []))))) }
     ensures cause { HasCause (F.faults folder.old) (F.faults folder.new) (IsErrOf result DeedErr.Failed) }
 {
     if !deed.is_of(phase) {
@@ -180,7 +192,8 @@ fn do_at<F: Folder>(folder: &mut F, deed: &Deed, index: usize, phase: Phase) -> 
     match do_deed(folder, deed) {
         Ok(()) => Ok(()),
         Err(FolderErr::Unfit) => Err(DeedErr::Unfit(index)),
-        Err(_) => Err(DeedErr::Failed),
+        Err(FolderErr::Failed) => Err(DeedErr::Failed),
+        Err(FolderErr::Memory) => Err(DeedErr::Failed),
     }
 }
 
@@ -191,7 +204,9 @@ pub fn do_phase<F: Folder>(folder: &mut F, deeds: &[Deed], phase: Phase) -> Resu
     ensures done { OnOk result (Changes (F.log folder.old) (F.log folder.new) (λ old new. IsSteady new × DoesAll (of_phase phase (plains deeds.now)) (now old) (now new))) }
     ensures amid { Changes (F.log folder.old) (F.log folder.new) (StaysAmid (of_phase phase (plains deeds.now))) }
     ensures grown { Changes (F.log folder.old) (F.log folder.new) LogGoesOn }
+    ensures applied { Changes (F.log folder.old) (F.log folder.new) (StaysApplied (of_phase phase (plains deeds.now))) }
     ensures unfit { IfErr result (λ error. IfUnfit error (λ index. IsRefusal (F.log folder.old) (F.faults folder.old) (F.faults folder.new) (IsRefusedIn phase (plains deeds.now) index))) }
+    ensures left { IfErr result (λ error. IfUnfit error (λ at. Changes (F.log folder.old) (F.log folder.new) (HasStopped (of_phase phase (plains deeds.now))))) }
     ensures cause { HasCause (F.faults folder.old) (F.faults folder.new) (IsErrOf result DeedErr.Failed) }
 {
     do_deeds(folder, deeds, phase)?;

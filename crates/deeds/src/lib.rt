@@ -24,7 +24,10 @@
 //!
 //! A path is its number of parts\[1\] (1 to 6), and each part's length\[1\] and bytes.
 //!
-//! Laws: `doing_again`, `staying_amid` and `doing_beside`, which do nothing.
+//! A batch of which a deed doesn't fit is done up to the first call whose condition fails: the deeds before it, and of a `Reshape` the writes before
+//! that call.
+//!
+//! Laws: `doing_again`, `staying_amid`, `doing_beside` and `applying_again`, which do nothing.
 #![tactic(auto)]
 
 mod batch;
@@ -37,8 +40,9 @@ mod window;
 mod writes;
 mod writing;
 
-ghost use Rattle.std.specs.Prelude.{List, ℕ, [], ◌∷◌};
+ghost use Rattle.std.specs.Prelude.{◌≡◌, List, ℕ, [], ◌∷◌};
 ghost use Rattle.outside.specs.Disk.{Disk, IsTree, IsFolder};
+ghost use Rattle.deeds.specs.Applying.{Applies, GoesAsFar};
 ghost use Rattle.deeds.specs.Deeds.{PlainDeed, DoesAll, AreApart, IsAmid, IsSameDisk, IsOneOf, IsAlikeBut, Unnamed, IsPartOfDeed};
 
 pub use batch::{do_batch, len_before, read_batch, write_batch};
@@ -69,4 +73,13 @@ pub fn doing_beside()
     ensures { (one two : List ℕ) (deeds : List PlainDeed) (old new other : Disk) → DoesAll deeds old new → Unnamed (one ∷ []) deeds → Unnamed (two ∷ []) deeds
         → (IsFolder old (one ∷ []) → ⊥) × (IsFolder old (two ∷ []) → ⊥) → IsAlikeBut (one ∷ []) (two ∷ []) old other
         → (after : Disk) × DoesAll deeds other after × IsAlikeBut (one ∷ []) (two ∷ []) new after }
+{}
+
+/// Deeds that are done up to the first call whose condition fails leave one disk, and where all of them can be done, what doing them leaves. Done so
+/// again on any disk amid what was done of them, they leave the same. It does nothing.
+pub fn applying_again()
+    ensures one { (deeds : List PlainDeed) (old new other : Disk) → Applies deeds old new → Applies deeds old other → new ≡ other }
+    ensures whole { (deeds : List PlainDeed) (old new : Disk) → DoesAll deeds old new → Applies deeds old new }
+    ensures again { (deeds part : List PlainDeed) (old new image : Disk) → GoesAsFar deeds old part → DoesAll part old new → IsTree new → AreApart deeds → IsAmid part old image
+        → (again : Disk) × Applies deeds image again × IsSameDisk again new }
 {}

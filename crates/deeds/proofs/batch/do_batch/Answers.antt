@@ -2,11 +2,13 @@ use Rattle.std.proofs.Common.{◌≡◌, ◌++◌, List, Option, refl, arith}
 use Rattle.std.proofs.lemmas.Result.{err_from_is_err_and}
 use Rattle.outside.specs.Calls.{Changes}
 use Rattle.outside.specs.Images.{Log, now, IsSteady}
-use Rattle.outside.proofs.Told.{through, changed_by, told_new, unchanged}
+use Rattle.outside.proofs.Told.{both_changed, through, changed_by, told_new, unchanged}
 use Rattle.deeds.specs.declared.phase.Phase.TheVariants as phases
 use Rattle.deeds.specs.Deeds.{PlainDeed, DoesAll, StaysAmid, of_phase}
+use Rattle.deeds.specs.Applying.{HasStopped, StaysApplied}
 use Rattle.deeds.specs.Plain.{plains}
 use Rattle.deeds.proofs.Doing.{does_then, stays_then, stays_front}
+use Rattle.deeds.proofs.Applying.{applied_front, applied_stays, stopped_front, stopped_then, unfit_by}
 use Rattle.deeds.proofs.Phases.{cause_then}
 use Rattle.deeds.proofs.Batches.{within_batch, refused_in}
 use Rattle.deeds.proofs.Growing.{grown_on}
@@ -163,3 +165,94 @@ returns-in_err-do_phase-3-clause-grown g c =
     let l1 = g.F.Reads.log c.do_phase.new.folder in
     let l2 = g.F.Reads.log c.do_phase-2.new.folder in
     grown_on l0 l2 (g.F.Reads.log c.do_phase-3.new.folder) (grown_on l0 l1 l2 c.in_ok-do_phase.ensures.grown c.in_ok-do_phase-2.ensures.grown) c.in_err-do_phase-3.ensures.grown
+
+-- ---- where a deed is refused, or the folder fails
+
+module _ (ds : List PlainDeed) (l0 l1 : Option Log) where
+  abbrev Whole : List PlainDeed → Log → Log → Type 0
+  Whole xs old new = Done xs old new × StaysAmid xs old new
+
+  abbrev Front : List PlainDeed → Log → Log → Type 0
+  Front xs old new = StaysAmid xs old new × StaysApplied xs old new
+
+  first_applied : Changes l0 l1 (StaysAmid (made ds)) → Changes l0 l1 (StaysApplied (made ds)) → Changes l0 l1 (StaysApplied (made ds ++ moved ds ++ removed ds))
+  first_applied stays applied =
+      changed_by l0 l1 (Front (made ds)) (StaysApplied (made ds ++ moved ds ++ removed ds))
+      (λ x y h. applied_front (made ds ++ moved ds) (removed ds) x y (stays_front (made ds) (moved ds) x y h.0) (applied_front (made ds) (moved ds) x y h.0 h.1))
+      (both_changed l0 l1 (StaysAmid (made ds)) (StaysApplied (made ds)) stays applied)
+
+  first_stopped : Changes l0 l1 (HasStopped (made ds)) → Changes l0 l1 (HasStopped (made ds ++ moved ds ++ removed ds))
+  first_stopped stopped = changed_by l0 l1 (HasStopped (made ds)) (HasStopped (made ds ++ moved ds ++ removed ds))
+      (λ x y h. stopped_front (made ds ++ moved ds) (removed ds) x y (stopped_front (made ds) (moved ds) x y h)) stopped
+
+  module _ (l2 : Option Log) where
+    second_applied : Changes l0 l1 (Done (made ds)) → Changes l0 l1 (StaysAmid (made ds)) → Changes l1 l2 (StaysAmid (moved ds)) → Changes l1 l2 (StaysApplied (moved ds)) → Changes l0 l2 (StaysApplied (made ds ++ moved ds ++ removed ds))
+    second_applied does first stays applied =
+        through l0 l1 l2 (Whole (made ds)) (Front (moved ds)) (StaysApplied (made ds ++ moved ds ++ removed ds))
+        (λ x y z h k. applied_front (made ds ++ moved ds) (removed ds) x z (stays_then (made ds) (moved ds) x y z h.1 k.0) (applied_stays (made ds) (moved ds) x y z h.0.1 h.1 k.1))
+        (both_changed l0 l1 (Done (made ds)) (StaysAmid (made ds)) does first) (both_changed l1 l2 (StaysAmid (moved ds)) (StaysApplied (moved ds)) stays applied)
+
+    second_stopped : Changes l0 l1 (Done (made ds)) → Changes l1 l2 (HasStopped (moved ds)) → Changes l0 l2 (HasStopped (made ds ++ moved ds ++ removed ds))
+    second_stopped does stopped =
+        through l0 l1 l2 (Done (made ds)) (HasStopped (moved ds)) (HasStopped (made ds ++ moved ds ++ removed ds))
+        (λ x y z h k. stopped_front (made ds ++ moved ds) (removed ds) x z (stopped_then (made ds) (moved ds) x y z h.1 k)) does stopped
+
+    module _ (l3 : Option Log) where
+      third_applied : Changes l0 l1 (Done (made ds)) → Changes l1 l2 (Done (moved ds)) → Changes l0 l1 (StaysAmid (made ds)) → Changes l1 l2 (StaysAmid (moved ds)) → Changes l2 l3 (StaysApplied (removed ds))
+          → Changes l0 l3 (StaysApplied (made ds ++ moved ds ++ removed ds))
+      third_applied one two first second applied =
+          through l0 l2 l3 (Whole (made ds ++ moved ds)) (StaysApplied (removed ds)) (StaysApplied (made ds ++ moved ds ++ removed ds))
+          (λ x y z h k. applied_stays (made ds ++ moved ds) (removed ds) x y z h.0.1 h.1 k)
+          (both_changed l0 l2 (Done (made ds ++ moved ds)) (StaysAmid (made ds ++ moved ds)) (two_done ds l0 l1 l2 one two) (moved_amid ds l0 l1 l2 first second)) applied
+
+      third_stopped : Changes l0 l1 (Done (made ds)) → Changes l1 l2 (Done (moved ds)) → Changes l2 l3 (HasStopped (removed ds)) → Changes l0 l3 (HasStopped (made ds ++ moved ds ++ removed ds))
+      third_stopped one two stopped =
+          through l0 l2 l3 (Done (made ds ++ moved ds)) (HasStopped (removed ds)) (HasStopped (made ds ++ moved ds ++ removed ds))
+          (λ x y z h k. stopped_then (made ds ++ moved ds) (removed ds) x y z h.1 k) (two_done ds l0 l1 l2 one two) stopped
+
+pub returns-in_err-do_phase-clause-applied : goal.returns-in_err-do_phase-clause-applied
+returns-in_err-do_phase-clause-applied g c =
+    first_applied (plains c.args.deeds.now) (g.F.Reads.log c.args.folder.now) (g.F.Reads.log c.do_phase.new.folder) c.in_err-do_phase.ensures.amid c.in_err-do_phase.ensures.applied
+
+pub returns-in_err-do_phase-clause-left : goal.returns-in_err-do_phase-clause-left
+returns-in_err-do_phase-clause-left g c =
+    let ds = plains c.args.deeds.now in
+    let l0 = g.F.Reads.log c.args.folder.now in
+    let l1 = g.F.Reads.log c.do_phase.new.folder in
+    let q = err_from_is_err_and c.from_residual.result c.from_residual.ensures.1 in
+    rw (q.1, q.2) (unfit_by c.in_err-do_phase.field-0.0 (λ at. Changes l0 l1 (HasStopped (made ds))) (λ at. Changes l0 l1 (HasStopped (made ds ++ moved ds ++ removed ds))) (λ at stopped. first_stopped ds l0 l1 stopped) c.in_err-do_phase.ensures.left)
+
+pub returns-in_err-do_phase-2-clause-applied : goal.returns-in_err-do_phase-2-clause-applied
+returns-in_err-do_phase-2-clause-applied g c =
+    second_applied (plains c.args.deeds.now) (g.F.Reads.log c.args.folder.now) (g.F.Reads.log c.do_phase.new.folder) (g.F.Reads.log c.do_phase-2.new.folder)
+    c.in_ok-do_phase.ensures.done c.in_ok-do_phase.ensures.amid c.in_err-do_phase-2.ensures.amid c.in_err-do_phase-2.ensures.applied
+
+pub returns-in_err-do_phase-2-clause-left : goal.returns-in_err-do_phase-2-clause-left
+returns-in_err-do_phase-2-clause-left g c =
+    let ds = plains c.args.deeds.now in
+    let l0 = g.F.Reads.log c.args.folder.now in
+    let l1 = g.F.Reads.log c.do_phase.new.folder in
+    let l2 = g.F.Reads.log c.do_phase-2.new.folder in
+    let q = err_from_is_err_and c.from_residual-in_err-do_phase-2.result c.from_residual-in_err-do_phase-2.ensures.1 in
+    rw (q.1, q.2) (unfit_by c.in_err-do_phase-2.field-0.0 (λ at. Changes l1 l2 (HasStopped (moved ds))) (λ at. Changes l0 l2 (HasStopped (made ds ++ moved ds ++ removed ds)))
+    (λ at stopped. second_stopped ds l0 l1 l2 c.in_ok-do_phase.ensures.done stopped) c.in_err-do_phase-2.ensures.left)
+
+pub returns-in_err-do_phase-3-clause-applied : goal.returns-in_err-do_phase-3-clause-applied
+returns-in_err-do_phase-3-clause-applied g c =
+    third_applied (plains c.args.deeds.now) (g.F.Reads.log c.args.folder.now) (g.F.Reads.log c.do_phase.new.folder) (g.F.Reads.log c.do_phase-2.new.folder) (g.F.Reads.log c.do_phase-3.new.folder)
+    c.in_ok-do_phase.ensures.done c.in_ok-do_phase-2.ensures.done c.in_ok-do_phase.ensures.amid c.in_ok-do_phase-2.ensures.amid c.in_err-do_phase-3.ensures.applied
+
+pub returns-in_err-do_phase-3-clause-left : goal.returns-in_err-do_phase-3-clause-left
+returns-in_err-do_phase-3-clause-left g c =
+    let ds = plains c.args.deeds.now in
+    let l0 = g.F.Reads.log c.args.folder.now in
+    let l2 = g.F.Reads.log c.do_phase-2.new.folder in
+    let l3 = g.F.Reads.log c.do_phase-3.new.folder in
+    let q = err_from_is_err_and c.from_residual-in_err-do_phase-3.result c.from_residual-in_err-do_phase-3.ensures.1 in
+    rw (q.1, q.2) (unfit_by c.in_err-do_phase-3.field-0.0 (λ at. Changes l2 l3 (HasStopped (removed ds))) (λ at. Changes l0 l3 (HasStopped (made ds ++ moved ds ++ removed ds)))
+    (λ at stopped. third_stopped ds l0 (g.F.Reads.log c.do_phase.new.folder) l2 l3 c.in_ok-do_phase.ensures.done c.in_ok-do_phase-2.ensures.done stopped) c.in_err-do_phase-3.ensures.left)
+
+pub returns-clause-applied : goal.returns-clause-applied
+returns-clause-applied g c =
+    third_applied (plains c.args.deeds.now) (g.F.Reads.log c.args.folder.now) (g.F.Reads.log c.do_phase.new.folder) (g.F.Reads.log c.do_phase-2.new.folder) (g.F.Reads.log c.do_phase-3.new.folder)
+    c.in_ok-do_phase.ensures.done c.in_ok-do_phase-2.ensures.done c.in_ok-do_phase.ensures.amid c.in_ok-do_phase-2.ensures.amid c.in_ok-do_phase-3.ensures.applied

@@ -1,12 +1,15 @@
-use Rattle.std.proofs.Common.{◌≡◌, Result, Ok, Err, OnOk}
+use Rattle.std.proofs.Common.{◌≡◌, Result, Ok, Err, OnOk, Option, sym, ap, subst}
 use Rattle.std.specs.Prelude.{OnErr}
 use Rattle.std.specs.Result.{is_ok}
-use Rattle.outside.specs.Images.{Synced, now, adds, IsSteady}
-use Rattle.outside.proofs.Told.{through}
-use Rattle.outside.proofs.Told.{told_through}
+use Rattle.outside.specs.Calls.{Changes}
+use Rattle.outside.specs.Disk.{Disk}
+use Rattle.outside.specs.Images.{Log, Synced, now, adds, IsSteady}
+use Rattle.outside.proofs.Told.{both_changed, changed_by, through, told_through}
 use Rattle.deeds.specs.Deeds.{DoesAll, StaysAmid, of_phase}
+use Rattle.deeds.specs.Applying.{StaysApplied}
 use Rattle.deeds.specs.Plain.{plains}
 use Rattle.deeds.proofs.Doing.{phase_done, synced_amid}
+use Rattle.deeds.proofs.Applying.{whole_stays}
 use Rattle.deeds.proofs.Growing.{synced_grown, grown_on}
 use Rattle.deeds.proofs.deed.do_phase.Goals as goal
 
@@ -43,3 +46,17 @@ returns-clause-grown g c =
     on_either c.sync.result c.sync.ensures.synced c.sync.ensures.failed
     (λ synced. grown_on a b d c.in_ok-do_deeds.ensures.grown (synced_grown b d synced))
     (λ same. rw same c.in_ok-do_deeds.ensures.grown)
+
+pub returns-clause-applied : goal.returns-clause-applied
+returns-clause-applied g c =
+    let a = g.F.Reads.log c.args.folder.now in
+    let b = g.F.Reads.log c.do_deeds.new.folder in
+    let d = g.F.Reads.log c.sync.new.self in
+    let xs = of_phase c.args.phase (plains c.args.deeds.now) in
+    let Both = λ (old new : Log). DoesAll xs (now old) (now new) × StaysAmid xs old new in
+    let both = both_changed a b (λ old new. DoesAll xs (now old) (now new)) (StaysAmid xs) c.in_ok-do_deeds.ensures.done c.in_ok-do_deeds.ensures.amid in
+    let whole = λ (old new : Log) (h : Both old new). whole_stays xs old new h.0 h.1 in
+    on_either c.sync.result c.sync.ensures.synced c.sync.ensures.failed
+    (λ synced. through a b d Both (λ mid new. new ≡ adds mid Synced) (StaysApplied xs)
+    (λ old mid new h is. whole_stays xs old new (subst (λ (k : Disk). DoesAll xs (now old) k) (sym (ap now is)) h.0) (synced_amid xs old mid new h.1 is)) both synced)
+    (λ same. subst (λ (o : Option Log). Changes a o (StaysApplied xs)) (sym same) (changed_by a b Both (StaysApplied xs) whole both))

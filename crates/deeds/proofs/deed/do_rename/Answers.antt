@@ -4,8 +4,10 @@ use Rattle.outside.specs.Calls.{Changes}
 use Rattle.outside.specs.Images.{Log, now, HasDone, HasBroken}
 use Rattle.outside.proofs.Told.{changed_by, unchanged, told_same, told_then}
 use Rattle.deeds.specs.Deeds.{Renames, Does, StaysAmid, LogGoesOn, IsDoneAlready}
+use Rattle.deeds.specs.Applying.{KeepsStill}
 use Rattle.deeds.proofs.Doing.{did_amid, broke_amid, still_amid}
 use Rattle.deeds.proofs.Growing.{still_grown, did_grown, broke_grown}
+use Rattle.deeds.proofs.Applying.{did_keeps, broke_keeps, same_keeps}
 use Rattle.deeds.proofs.deed.do_rename.Goals as goal
 
 pub returns-in_err-is_moved-clause-amid : goal.returns-in_err-is_moved-clause-amid
@@ -60,3 +62,21 @@ pub returns-in_err-rename-clause-grown : goal.returns-in_err-rename-clause-grown
 returns-in_err-rename-clause-grown g c =
     subst (λ (o : Option Log). Changes o (g.F.Reads.log c.rename.new.self) LogGoesOn) c.in_ok-is_moved.ensures.log
     (broke_grown (Move c.args.from.now c.args.to.now) (g.F.Reads.log c.is_moved.new.folder) (g.F.Reads.log c.rename.new.self) c.in_err-rename.ensures.broken)
+
+pub returns-in_err-is_moved-clause-still : goal.returns-in_err-is_moved-clause-still
+returns-in_err-is_moved-clause-still g c = same_keeps (Renames c.args.from.now c.args.to.now) (g.F.Reads.log c.args.folder.now) (g.F.Reads.log c.is_moved.new.folder) c.in_err-is_moved.ensures.log
+
+pub returns-then-branch-clause-still : goal.returns-then-branch-clause-still
+returns-then-branch-clause-still g c = same_keeps (Renames c.args.from.now c.args.to.now) (g.F.Reads.log c.args.folder.now) (g.F.Reads.log c.is_moved.new.folder) c.in_ok-is_moved.ensures.log
+
+pub returns-clause-still : goal.returns-clause-still
+returns-clause-still g c =
+    let x = Renames c.args.from.now c.args.to.now in
+    subst (λ (o : Option Log). Changes o (g.F.Reads.log c.rename.new.self) (KeepsStill x)) c.in_ok-is_moved.ensures.log
+    (did_keeps x (Move c.args.from.now c.args.to.now) (λ d can. inr (can, refl)) (g.F.Reads.log c.is_moved.new.folder) (g.F.Reads.log c.rename.new.self) c.in_ok-rename.ensures.done)
+
+pub returns-in_err-rename-clause-still : goal.returns-in_err-rename-clause-still
+returns-in_err-rename-clause-still g c =
+    let x = Renames c.args.from.now c.args.to.now in
+    subst (λ (o : Option Log). Changes o (g.F.Reads.log c.rename.new.self) (KeepsStill x)) c.in_ok-is_moved.ensures.log
+    (broke_keeps x (Move c.args.from.now c.args.to.now) (λ d can. inr (can, refl)) (g.F.Reads.log c.is_moved.new.folder) (g.F.Reads.log c.rename.new.self) c.in_err-rename.ensures.broken)
