@@ -14,7 +14,7 @@ use Rattle.deeds.specs.Reading.{deed_at}
 use Rattle.deeds.proofs.Fields.{some_is}
 use Rattle.deeds.proofs.DeedBytes.{deed_again}
 use Rattle.deeds.proofs.Batches.{refused_cannot}
-use Rattle.chunk_journal.specs.Journal.{journal_file, new_file, HoldsBatch, IsClosed, RecoversTo}
+use Rattle.chunk_journal.specs.Journal.{journal_file, new_file, HoldsBatch, IsClosed, RecoversTo, IsUnheld}
 use Rattle.chunk_journal.specs.Opening.{said_len, batch_bytes, IsShort, HasFolder, Says, IsCutAt, IsUnreadAt, IsUnfitAt, IsBadBehindGate, IsDamagedAt}
 use Rattle.chunk_journal.proofs.Gate.{one_held}
 
@@ -213,6 +213,13 @@ says d head bytes n len said here long is fits full open_gate said_is room = rec
 }
 
 -- an open gate in a file that ends too early
+pub cut_is : (d : Disk) (head bytes : List ℕ) (n len said : ℕ) → length bytes ≡ len → IsHead head bytes n → said ≡ said_len head → (n < 9) ⊎ ((9 ≤ n) × (len - 9 < said)) → IsCutAt bytes len
+cut_is d head bytes n len said long is said_is few = record { short = short few; place = sym long }
+  where
+    short : (n < 9) ⊎ ((9 ≤ n) × (len - 9 < said)) → IsShort bytes
+    short (inl few) = inl (omega (arith, few, is.count))
+    short (inr few) = inr (omega (arith, few.1, said_is, same_len head bytes n is few.0, long))
+
 pub cut_short : (d : Disk) (head bytes : List ℕ) (n len said : ℕ) → (HasFolder d → ⊥) → node_at d journal_file ≡ Some (file bytes) → length bytes ≡ len → IsHead head bytes n
     → (n ≡ 0 → ⊥) → get_or head 0 0 ≡ 1 → said ≡ said_len head → (n < 9) ⊎ ((9 ≤ n) × (len - 9 < said)) → IsBadBehindGate d len
 cut_short d head bytes n len said none here long is some open_gate said_is few = record {
@@ -220,16 +227,17 @@ cut_short d head bytes n len said none here long is some open_gate said_is few =
   bytes = bytes;
   here = here;
   gate = sym (first_same n head bytes (some_left n some) is.same) ∙ open_gate;
-  damage = inl (record { short = short few; place = sym long });
+  damage = inl (cut_is d head bytes n len said long is said_is few);
 }
   where
     some_left : (n : ℕ) → (n ≡ 0 → ⊥) → 0 < n
     some_left zero some = absurd (some refl)
     some_left (suc n) some = omega arith
 
-    short : (n < 9) ⊎ ((9 ≤ n) × (len - 9 < said)) → IsShort bytes
-    short (inl few) = inl (omega (arith, few, is.count))
-    short (inr few) = inr (omega (arith, few.1, said_is, same_len head bytes n is few.0, long))
+-- it holds no batch
+pub cut_unheld : (d : Disk) (bytes : List ℕ) (at : ℕ) → node_at d journal_file ≡ Some (file bytes) → IsCutAt bytes at → IsUnheld d
+cut_unheld d bytes at here cut deeds held =
+    held_whole deeds held.1 held.0 (subst IsShort (one_file (node_at d journal_file) bytes (held_bytes deeds held.1) here held.2) cut.short)
 
 -- ---- what is read behind it
 
@@ -266,19 +274,29 @@ holds d len text ds s batch is read count =
     fits_behind (x ∷ l) fits i = fits (suc i)
 
 -- bytes that are no batch
+unread_is : (d : Disk) (len at : ℕ) (text : List ℕ) (s : Says len d) → text ≡ take len (drop 9 s.bytes) → IsBadAt text at → IsUnreadAt s.bytes (9 + at)
+unread_is d len at text s read bad = record {
+  whole = s.whole;
+  fault = at;
+  bad = subst (λ (l : List ℕ). IsBadAt l at) (read ∙ ap (λ (n : ℕ). take n (drop 9 s.bytes)) s.is) bad;
+  place = refl;
+}
+
 pub unread : (d : Disk) (len at : ℕ) (text : List ℕ) (s : Says len d) → (HasFolder d → ⊥) → text ≡ take len (drop 9 s.bytes) → IsBadAt text at → IsBadBehindGate d (9 + at)
 unread d len at text s none read bad = record {
   no_folder = none;
   bytes = s.bytes;
   here = s.here;
   gate = s.gate;
-  damage = inr (inl (record {
-    whole = s.whole;
-    fault = at;
-    bad = subst (λ (l : List ℕ). IsBadAt l at) (read ∙ ap (λ (n : ℕ). take n (drop 9 s.bytes)) s.is) bad;
-    place = refl;
-  }));
+  damage = inr (inl (unread_is d len at text s read bad));
 }
+
+-- nor do they hold one
+pub unread_unheld : (d : Disk) (len at : ℕ) (text : List ℕ) (s : Says len d) → text ≡ take len (drop 9 s.bytes) → IsBadAt text at → IsUnheld d
+unread_unheld d len at text s read bad deeds held =
+    let is = unread_is d len at text s read bad in
+    let same : s.bytes ≡ held_bytes deeds held.1 = one_file (node_at d journal_file) s.bytes (held_bytes deeds held.1) s.here held.2 in
+    whole_not_bad deeds is.fault held.0 (subst (λ (l : List ℕ). IsBadAt l is.fault) (ap batch_bytes same ∙ held_batch_is deeds held.1 held.0) is.bad)
 
 -- the place of a fault is within the bytes, or right behind the count
 pub fault_within : (bytes : List ℕ) (at : ℕ) → IsBadAt bytes at → at ≤ max 4 (length bytes)

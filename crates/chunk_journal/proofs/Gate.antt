@@ -19,6 +19,8 @@ use Rattle.outside.proofs.Told.{through}
 use Rattle.outside.proofs.Told.{both_changed, changed_from}
 use Rattle.outside.proofs.Moments.{weaker, joined}
 use Rattle.deeds.specs.Deeds.{PlainDeed, DoesAll, AreApart, Unnamed, IsAmid, StaysAmid, IsSameDisk}
+use Rattle.deeds.specs.Applying.{Applies, GoesAsFar, StaysApplied}
+use Rattle.deeds.proofs.Applying.{apart_part, applied_again, applies_one, applies_whole, unnamed_part, whole_stays}
 use Rattle.deeds.proofs.Again.{at_disk, again_amid}
 use Rattle.deeds.proofs.Amid.{amid_start, tree_run}
 use Rattle.deeds.proofs.Frame.{framed, lone}
@@ -27,15 +29,26 @@ use Rattle.deeds.specs.Deeds.{in_order}
 use Rattle.deeds.specs.Grammar.{behind_gate, IsBatch}
 use Rattle.deeds.proofs.Doing.{same_run}
 use Rattle.chunk_journal.specs.Stages.{IsShutBeside, KeepsShut, HasStaged}
-use Rattle.chunk_journal.specs.Journal.{journal_file, new_file, journal_name, new_name, names_apart, IsAlike, IsBeforeOrAfter, IsReady, IsRepeatable, AnyMoment, HasCommitted, RecoversLike, IsFound, StaysRecovered, HasRecovered, HoldsBatch}
+use Rattle.chunk_journal.specs.Journal.{journal_file, new_file, journal_name, new_name, names_apart, IsAlike, IsBeforeOrAfter, IsReady, IsRepeatable, AnyMoment, HasCommitted, RecoversTo, RecoversLike, Recovered, RecoveredLike, IsClosed, IsFound, StaysRecovered, HasRecovered, HoldsBatch}
 
 pub files_apart : new_file ≢ journal_file
 files_apart e = names_apart (cc)
 
--- ---- the journal's bytes
+-- ---- what a closed journal holds
 
 same_bytes : (o : Option Node) (a b : List ℕ) → o ≡ Some (file a) → o ≡ Some (file b) → a ≡ b
 same_bytes o a b ea eb = let e : Some (file a) ≡ Some (file b) = sym ea ∙ eb in cc
+
+pub closed_not_held : (disk : Disk) (deeds : List PlainDeed) → IsClosed disk → HoldsBatch disk deeds → ⊥
+closed_not_held disk deeds (inl none) held = let e : None ≡ Some (file (1 ∷ (behind_gate deeds ++ held.1))) = sym none ∙ held.2 in cc
+closed_not_held disk deeds (inr f) held = f.2 (ap (λ (l : List ℕ). get_or l 0 0) (same_bytes (node_at disk journal_file) f.0 (1 ∷ (behind_gate deeds ++ held.1)) f.1 held.2))
+
+-- what is done whole is applied
+pub recovers_applied : (image disk : Disk) → RecoversTo image disk → Recovered image disk
+recovers_applied image disk (inl shut) = inl ((λ deeds held. closed_not_held image deeds shut.0 held), shut.1)
+recovers_applied image disk (inr held) = inr (held.0, held.1, applies_whole (in_order held.0) image disk held.2)
+
+-- ---- the journal's bytes
 
 torn_none : (at n : ℕ) (old : List ℕ) → IsTorn at n old old
 torn_none at n old = record { before = refl; after = refl; no_shorter = omega arith; no_longer = omega arith }
@@ -299,11 +312,31 @@ module _ (bs : List PlainDeed) (batch : IsBatch bs) (repeatable : IsRepeatable b
       let r = again_amid ds (now old) after c run (tree_run ds (now old) after found.steady.tree run) apart amid in
       (r.0, inr (bs, (batch, found.open_gate.1, amid.rest journal_file uj ∙ found.open_gate.2), r.1), (λ q ne nm. r.2 q), λ is. found.no_folder (sym (amid.rest new_file un) ∙ is))
 
+  -- the same of what is done of deeds that may not fit
+  found_applied : (part : List PlainDeed) (old : Log) (after c : Disk) → IsFound bs old → GoesAsFar ds (now old) part → DoesAll part (now old) after → IsAmid part (now old) c → RecoveredLike after c
+  found_applied part old after c found far run amid =
+      let r = applied_again ds part (now old) after c far run (tree_run part (now old) after found.steady.tree run) apart amid in (
+        r.0,
+        inr (bs, (batch, found.open_gate.1, amid.rest journal_file (unnamed_part journal_file ds (now old) part far uj) ∙ found.open_gate.2), r.1),
+        (λ q ne nm. r.2 q),
+        λ is. found.no_folder (sym (amid.rest new_file (unnamed_part new_file ds (now old) part far un)) ∙ is),
+      )
+
+  applied_all : (old new : Log) → IsFound bs old → StaysApplied ds old new → (after : Disk) → Applies ds (now old) after → LeavesOnly old new (RecoveredLike after)
+  applied_all old new found stays after applies =
+      let start = amid_start applies.part (now old) in
+      weaker old new (IsAmid applies.part (now old)) (RecoveredLike after) (λ c amid. found_applied applies.part old after c found applies.far applies.does amid)
+      (stays applies.part applies.far applies.part (now old) (apart_part ds (now old) applies.part applies.far apart) (λ x one. one) start
+      (λ image is. subst (IsAmid applies.part (now old)) (sym (found.steady.durable image is)) start)).1
+
   amid_all : (old new : Log) → IsFound bs old → StaysAmid ds old new → IsAmid ds (now old) (now new) × LeavesOnly old new (IsAmid ds (now old))
   amid_all old new found stays = stays ds (now old) apart (λ x one. one) (amid_start ds (now old)) (λ image is. subst (IsAmid ds (now old)) (sym (found.steady.durable image is)) (amid_start ds (now old)))
 
-  pub found_leaves : (old new : Log) → IsFound bs old → StaysAmid ds old new → StaysRecovered bs old new
-  found_leaves old new found stays = λ after run. weaker old new (IsAmid ds (now old)) (RecoversLike after) (λ c amid. found_amid old after c found run amid) (amid_all old new found stays).1
+  pub found_leaves : (old new : Log) → IsFound bs old → StaysAmid ds old new → StaysApplied ds old new → StaysRecovered bs old new
+  found_leaves old new found stays applied = record {
+    whole = λ after run. weaker old new (IsAmid ds (now old)) (RecoversLike after) (λ c amid. found_amid old after c found run amid) (amid_all old new found stays).1;
+    applied = applied_all old new found applied;
+  }
 
   -- done again, with the gate still open
   pub record AreRedone (old new : Log) : Type 0 where
@@ -312,6 +345,7 @@ module _ (bs : List PlainDeed) (batch : IsBatch bs) (repeatable : IsRepeatable b
     pub rest : List ℕ
     pub here : node_at (now new) journal_file ≡ Some (file (1 ∷ (behind_gate bs ++ rest)))
     pub no_folder : IsFolder (now new) new_file → ⊥
+    pub did : DoesAll ds (now old) (now new)
     pub after : (after : Disk) → DoesAll ds (now old) after → now new ≡ after
     pub again : (more : Disk) × DoesAll ds (now new) more × IsSameDisk more (now new)
 
@@ -319,8 +353,9 @@ module _ (bs : List PlainDeed) (batch : IsBatch bs) (repeatable : IsRepeatable b
   redone old new found stays done =
       let all = amid_all old new found stays in
       record {
-        stays = found_leaves old new found stays;
+        stays = found_leaves old new found stays (whole_stays ds old new done.1 stays);
         steady = done.0;
+        did = done.1;
         rest = found.open_gate.1;
         here = all.0.rest journal_file uj ∙ found.open_gate.2;
         no_folder = λ is. found.no_folder (sym (all.0.rest new_file un) ∙ is);
@@ -342,8 +377,16 @@ module _ (bs : List PlainDeed) (batch : IsBatch bs) (repeatable : IsRepeatable b
       (cases_eq torn.0 1)
 
   pub shut_leaves : (old mid new : Log) → AreRedone old mid → LeavesOnly mid new (IsPartOf (Write journal_file 0 (0 ∷ [])) (now mid)) → StaysRecovered bs old new
-  shut_leaves old mid new all leaves = λ after run. joined old mid new (RecoversLike after) (all.stays after run)
-      (weaker mid new _ (RecoversLike after) (λ c part. part_shut old mid after c all run part) leaves)
+  shut_leaves old mid new all leaves = record {
+    whole = whole;
+    applied = λ after applies.
+        let same : after ≡ now mid = applies_one ds (now old) after (now mid) applies (applies_whole ds (now old) (now mid) all.did) in
+        weaker old new (RecoversLike after) (RecoveredLike after) (λ c like. (like.0, recovers_applied c like.0 like.1, like.2, like.3)) (whole after (subst (λ (d : Disk). DoesAll ds (now old) d) (sym same) all.did));
+  }
+    where
+      whole : (after : Disk) → DoesAll ds (now old) after → LeavesOnly old new (RecoversLike after)
+      whole after run = joined old mid new (RecoversLike after) (all.stays.whole after run)
+          (weaker mid new _ (RecoversLike after) (λ c part. part_shut old mid after c all run part) leaves)
 
   pub recovered : (old mid new : Log) → AreRedone old mid → HasKept (Write journal_file 0 (0 ∷ [])) mid new → HasRecovered bs old new
   recovered old mid new all kept = record {

@@ -6,12 +6,13 @@ use Rattle.outside.specs.Changes.{Write}
 use Rattle.outside.specs.Images.{Log, Synced, adds, now, IsImage, IsSteady, HasKept, LeavesOnly}
 use Rattle.outside.proofs.Moments.{started}
 use Rattle.deeds.specs.Deeds.{PlainDeed, DoesAll, LogGoesOn, in_order}
+use Rattle.deeds.specs.Applying.{Applies}
 use Rattle.deeds.proofs.Again.{at_disk}
 use Rattle.deeds.proofs.Growing.{goes_nowhere, goes_on_on, leaves_go_on}
 use Rattle.chunk_journal.specs.declared.fault.JournalErr.{JournalErr}
 use Rattle.chunk_journal.specs.declared.fault.JournalErr.TheVariants.{Device, JournalDamaged, Memory}
-use Rattle.chunk_journal.specs.Journal.{journal_file, new_file, HoldsBatch, IsClosed, RecoversLike, IsAlike, IsQuiet, IsFound, IsRepeatable, StaysRecovered}
-use Rattle.chunk_journal.specs.Opening.{HasFolder, HasLen, IsUnfitAt, IsDamagedAt, LeavesFolder, IsBadBehindGate, IfDamaged, IsOpening, HasOpened}
+use Rattle.chunk_journal.specs.Journal.{journal_file, new_file, HoldsBatch, IsClosed, RecoversLike, RecoveredLike, IsAlike, IsQuiet, IsFound, IsRepeatable, StaysRecovered, IsUnheld}
+use Rattle.chunk_journal.specs.Opening.{HasFolder, HasLen, IsUnfitAt, IsDamagedAt, LeavesFolder, IsBadBehindGate, IfDamaged, IsLeftApplied, IsOpening, HasOpened}
 use Rattle.chunk_journal.proofs.Gate.{files_apart, written_here, written_there, one_held}
 use Rattle.chunk_journal.proofs.Damage.{recovers_undamaged, held_bytes}
 
@@ -65,9 +66,12 @@ pub record HasSettled (old mid : Log) : Type 0 where
   pub begun : LeavesOnly old mid (IsImage old)
 
 found_stays : (bs : List PlainDeed) (log : Log) → IsFound bs log → StaysRecovered bs log log
-found_stays bs log found = λ after run. started log (RecoversLike after) (λ c image.
-    let same = found.steady.durable c image in
-    subst (RecoversLike after) (sym same) (after, inr (bs, found.open_gate, run), (λ q ne nm. refl), found.no_folder))
+found_stays bs log found = record {
+  whole = λ after run. started log (RecoversLike after) (λ c image.
+      subst (RecoversLike after) (sym (found.steady.durable c image)) (after, inr (bs, found.open_gate, run), (λ q ne nm. refl), found.no_folder));
+  applied = λ after applies. started log (RecoveredLike after) (λ c image.
+      subst (RecoveredLike after) (sym (found.steady.durable c image)) (after, inr (bs, found.open_gate, applies), (λ q ne nm. refl), found.no_folder));
+}
 
 opening : (old mid new : Log) → HasSettled old mid → LogGoesOn mid new → (((deeds : List PlainDeed) → IsFound deeds mid → ⊥) → new ≡ mid) → ((deeds : List PlainDeed) → IsRepeatable deeds → IsFound deeds mid → StaysRecovered deeds mid new) → IsOpening old new
 opening old mid new settled grown untouched stays =
@@ -153,3 +157,15 @@ reopened_by bs old mid new p q = reopened bs old mid new p.0 (found_mid bs mid p
 
 pub opened_by : (bs : List PlainDeed) (old mid new : Log) → HasSettled old mid × Finds bs mid → HasRedone bs mid new → HasOpened old new
 opened_by bs old mid new p redone = opened_redone bs old mid new p.0 (found_mid bs mid p.0.steady p.1.1 p.1.0) redone
+
+-- ---- a batch that was refused
+
+-- nothing is held by a file that is short or isn't in the grammar
+pub left_unread : (old mid : Log) → HasSettled old mid → HasFolder (now mid) ⊎ IsUnheld (now mid) → IsLeftApplied old mid
+left_unread old mid settled (inl folder) none = absurd (none (subst HasFolder (now_settled old mid settled) folder))
+left_unread old mid settled (inr unheld) none = inl (subst IsUnheld (now_settled old mid settled) unheld, now_settled old mid settled)
+
+pub left_redone : (bs : List PlainDeed) (old mid new : Log) → HasSettled old mid × Finds bs mid → Applies (in_order bs) (now mid) (now new) → IsLeftApplied old new
+left_redone bs old mid new p applies no_folder =
+    let d = now_settled old mid p.0 in
+    inr (bs, subst (λ (k : Disk). HoldsBatch k bs) d p.1.1, subst (λ (k : Disk). Applies (in_order bs) k (now new)) d applies)

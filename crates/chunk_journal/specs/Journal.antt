@@ -3,6 +3,7 @@ use Rattle.std.specs.Prelude.{◌≡◌, ◌≢◌, ◌⊎◌, ℕ, List, ◌∷
 use Rattle.outside.specs.Disk.{Disk, file, node_at, IsFolder}
 use Rattle.outside.specs.Images.{Log, now, LeavesOnly, IsSteady}
 use Rattle.deeds.specs.Deeds.{PlainDeed, DoesAll, IsAlikeBut, in_order}
+use Rattle.deeds.specs.Applying.{Applies}
 use Rattle.deeds.specs.Grammar.{IsBatch, behind_gate}
 pub use Rattle.deeds.specs.Repeatable.{journal_name, new_name, names_apart, journal_file, new_file, IsRepeatable}
 
@@ -16,8 +17,16 @@ IsClosed disk = (node_at disk journal_file ≡ None) ⊎ ((bytes : List ℕ) × 
 abbrev pub HoldsBatch : Disk → List PlainDeed → Type 0
 HoldsBatch disk deeds = IsBatch deeds × (rest : List ℕ) × (node_at disk journal_file ≡ Some (file (1 ∷ behind_gate deeds ++ rest)))
 
+-- there is no such batch: the gate isn't open, or the bytes behind it are none
+abbrev pub IsUnheld : Disk → Type 0
+IsUnheld disk = (deeds : List PlainDeed) → HoldsBatch disk deeds → ⊥
+
 abbrev pub RecoversTo : Disk → Disk → Type 0
 RecoversTo image disk = (IsClosed image × (disk ≡ image)) ⊎ ((deeds : List PlainDeed) × HoldsBatch image deeds × DoesAll (in_order deeds) image disk)
+
+-- the same where the batch may not fit the image: it is applied up to the first call whose condition fails
+abbrev pub Recovered : Disk → Disk → Type 0
+Recovered image disk = (IsUnheld image × (disk ≡ image)) ⊎ ((deeds : List PlainDeed) × HoldsBatch image deeds × Applies (in_order deeds) image disk)
 
 -- the same beside the journal's two files
 abbrev pub IsAlike : Disk → Disk → Type 0
@@ -63,9 +72,14 @@ pub record IsFound (deeds : List PlainDeed) (log : Log) : Type 0 where
   pub open_gate : HoldsBatch (now log) deeds
   pub no_folder : IsFolder (now log) new_file → ⊥
 
--- at each moment since an image recovers to what the disk that was found does
-abbrev pub StaysRecovered : List PlainDeed → Log → Log → Type 0
-StaysRecovered deeds old new = (after : Disk) → DoesAll (in_order deeds) (now old) after → LeavesOnly old new (RecoversLike after)
+-- the same where its batch may not fit
+abbrev pub RecoveredLike : Disk → Disk → Type 0
+RecoveredLike after image = (disk : Disk) × Recovered image disk × IsAlike after disk × (IsFolder image new_file → ⊥)
+
+-- at each moment since an image recovers to what the disk that was found does, whether all deeds can be done on it or not
+pub record StaysRecovered (deeds : List PlainDeed) (old new : Log) : Type 0 where
+  pub whole : (after : Disk) → DoesAll (in_order deeds) (now old) after → LeavesOnly old new (RecoversLike after)
+  pub applied : (after : Disk) → Applies (in_order deeds) (now old) after → LeavesOnly old new (RecoveredLike after)
 
 -- the deeds are done and on the disk, and the gate is closed
 pub record HasRecovered (deeds : List PlainDeed) (old new : Log) : Type 0 where

@@ -7,7 +7,7 @@ use Rattle.deeds.specs.Deeds.{PlainDeed, DoesAll, IsRefusedAt, LogGoesOn, in_ord
 use Rattle.deeds.specs.Grammar.{IsBadAt, spelled_deeds}
 use Rattle.chunk_journal.specs.declared.fault.JournalErr.{JournalErr}
 use Rattle.chunk_journal.specs.declared.fault.JournalErr.TheVariants.{Device, JournalDamaged, Memory}
-use Rattle.chunk_journal.specs.Journal.{journal_file, new_file, HoldsBatch, RecoversTo, IsAlike, IsQuiet, IsFound, IsRepeatable, StaysRecovered}
+use Rattle.chunk_journal.specs.Journal.{journal_file, new_file, HoldsBatch, RecoversTo, Recovered, IsAlike, IsQuiet, IsFound, IsRepeatable, StaysRecovered}
 
 -- ---- the bytes of a journal whose gate is open
 
@@ -99,6 +99,11 @@ pub record HasOpened (old new : Log) : Type 0 where
   pub recovers : RecoversTo (now old) disk
   pub alike : IsAlike disk (now new)
   pub undamaged : (at : ℕ) → IsDamagedAt (now old) at → ⊥
+
+-- What it was refused for is left: where no folder stands in the places of the journal's files, reads give what the disk before recovers to, its deeds
+-- applied up to the first call whose condition fails.
+abbrev pub IsLeftApplied : Log → Log → Type 0
+IsLeftApplied old new = (HasFolder (now old) → ⊥) → Recovered (now old) (now new)
 
 -- ---- what is read on the way
 

@@ -6,7 +6,7 @@ ghost use Rattle.deeds.specs.Deeds.{DoesAll, in_order};
 ghost use Rattle.deeds.specs.Grammar.{IsBatch};
 ghost use Rattle.deeds.specs.Plain.{plains};
 ghost use Rattle.chunk_journal.specs.Journal.{IsQuiet, IsRepeatable, AnyMoment, HasCommitted};
-ghost use Rattle.chunk_journal.specs.Opening.{IsDamagedAt, LeavesFolder, IfDamaged, IsOpening, StaysOpening, HasOpened};
+ghost use Rattle.chunk_journal.specs.Opening.{IsDamagedAt, LeavesFolder, IfDamaged, IsLeftApplied, IsOpening, StaysOpening, HasOpened};
 ghost use Rattle.chunk_journal.specs.declared.fault.JournalErr.TheVariants as journal_errs;
 
 use crate::fault::{Device, JournalErr};
@@ -53,13 +53,15 @@ impl<D: Reads> Reads for Journal<D> {
 
 impl<D: Folder> Journal<D> {
     /// Opens the journal of a folder: syncs, does the batch behind an open gate, if one is there, and closes the gate. A
-    /// refusal hands the folder back.
+    /// refusal hands the folder back. Where it is that a deed doesn't fit the folder, the deeds before it are done, and of a
+    /// `Reshape` the writes before the call that doesn't fit, and the gate is open still.
     pub fn open(alloc: Global, mut folder: D) -> Result<Journal<D>, Refused<D, JournalErr>>
         ensures opened { IfOk result (λ journal. Changes (D.log folder) (D.log journal) HasOpened) }
         ensures any_moment { IfOk result (λ journal. Changes (D.log folder) (D.log journal) IsOpening) }
         ensures refused { IfErr result (λ refused. Changes (D.log folder) (D.log refused.folder) StaysOpening) }
         ensures damaged { IfErr result (λ refused. IfDamaged refused.cause
             (λ at. Told (D.log folder) (λ log. IsDamagedAt (now log) at ⊎ LeavesFolder (now log) at))) }
+        ensures left { IfErr result (λ refused. IfDamaged refused.cause (λ at. Changes (D.log folder) (D.log refused.folder) IsLeftApplied)) }
         ensures later { IfOk result (λ journal. D.faults folder ≤ D.faults journal) }
         ensures cause { IfErr result (λ refused.
             HasCause (D.faults folder) (D.faults refused.folder) (refused.cause ≡ journal_errs.Device)) }

@@ -28,9 +28,9 @@ ghost use Rattle.std.specs.Prelude.{◌≡◌, ℕ, List};
 ghost use Rattle.outside.specs.Disk.{Disk, IsFolder};
 ghost use Rattle.outside.specs.Images.{Log, Synced, adds, now, LeavesOnly};
 ghost use Rattle.deeds.specs.Deeds.{PlainDeed};
-ghost use Rattle.chunk_journal.specs.Journal.{new_file, HoldsBatch, RecoversTo, RecoversLike, IsAlike};
+ghost use Rattle.chunk_journal.specs.Journal.{new_file, HoldsBatch, RecoversTo, RecoversLike, Recovered, IsAlike};
 ghost use Rattle.chunk_journal.specs.Opening.{IsDamagedAt, IsOpening, StaysOpening, HasOpened};
-ghost use Rattle.chunk_journal.specs.Commits.{IsReopenable, StaysFound};
+ghost use Rattle.chunk_journal.specs.Commits.{IsReopenable, StaysFound, StaysAsFound};
 
 pub use fault::{Device, JournalErr};
 pub use journal::Journal;
@@ -41,16 +41,19 @@ pub fn recovering_is_undamaged()
     ensures { (image disk : Disk) (at : ℕ) → RecoversTo image disk → (IsFolder image new_file → ⊥) → IsDamagedAt image at → ⊥ }
 {}
 
-/// An image holds one batch alone, and recovers to one disk alone. It does nothing.
+/// An image holds one batch alone, and recovers to one disk alone, also where its batch may not fit; where it fits, to the same. It does nothing.
 pub fn recovering_is_unique()
     ensures batch { (disk : Disk) (one other : List PlainDeed) → HoldsBatch disk one → HoldsBatch disk other → one ≡ other }
     ensures disk { (image one other : Disk) → RecoversTo image one → RecoversTo image other → one ≡ other }
+    ensures applied { (image one other : Disk) → Recovered image one → Recovered image other → one ≡ other }
+    ensures whole { (image disk : Disk) → RecoversTo image disk → Recovered image disk }
 {}
 
 /// Where the disk that an opening finds is reopenable, each image since its first sync recovers to what that disk recovers to,
 /// and the calls go on from there; where it ended well, what reads give is that. It does nothing.
 pub fn opening_stays_found()
     ensures stays { (old new : Log) → StaysOpening old new → IsReopenable (now old) → StaysFound old new }
+    ensures applied { (old new : Log) → StaysOpening old new → IsReopenable (now old) → StaysAsFound old new }
     ensures later { (old new : Log) (found : Disk) → IsOpening old new → IsReopenable (now old) → RecoversTo (now old) found
         → LeavesOnly (adds old Synced) new (RecoversLike found) }
     ensures opened { (old new : Log) (found : Disk) → HasOpened old new → RecoversTo (now old) found → IsAlike found (now new) }

@@ -1,9 +1,9 @@
-ghost use Rattle.std.specs.Prelude.{◌≡◌, ◌≤◌, ◌+◌, ◌<◌, ◌^◌, ◌-◌, ℕ, get_or, Some, MatchOption, ⊤, IfOk, IfErr, IsErrOf};
+ghost use Rattle.std.specs.Prelude.{◌≡◌, ◌⊎◌, ◌≤◌, ◌+◌, ◌<◌, ◌^◌, ◌-◌, ℕ, get_or, Some, MatchOption, ⊤, IfOk, IfErr, IsErrOf};
 ghost use Rattle.outside.specs.Calls.{HasCause, Told};
 ghost use Rattle.outside.specs.Images.{now};
 ghost use Rattle.deeds.specs.Grammar.{IsBatch};
 ghost use Rattle.deeds.specs.Plain.{plains};
-ghost use Rattle.chunk_journal.specs.Journal.{journal_file, new_file, HoldsBatch, IsClosed};
+ghost use Rattle.chunk_journal.specs.Journal.{journal_file, new_file, HoldsBatch, IsClosed, IsUnheld};
 ghost use Rattle.chunk_journal.specs.Opening.{said_len, HasFolder, HasLen, Says, OfLen, IsBadBehindGate, IsDamagedAt, IfDamaged};
 
 use crate::fault::JournalErr;
@@ -64,6 +64,7 @@ fn batch_len<D: Reads>(
     ensures found { IfOk result (λ said. Told (D.log folder.old) (λ log. OfLen said (IsClosed (now log)) (λ n. Says n (now log)))) }
     ensures short { IfOk result (λ said. OfLen said (len ≡ len) (λ n. n ≤ len - 9)) }
     ensures damaged { IfErr result (λ error. IfDamaged error (λ at. Told (D.log folder.old) (λ log. IsBadBehindGate (now log) at))) }
+    ensures unheld { IfErr result (λ error. IfDamaged error (λ at. Told (D.log folder.old) (λ log. IsUnheld (now log)))) }
     ensures log { D.log folder.new ≡ D.log folder.old }
     ensures cause { HasCause (D.faults folder.old) (D.faults folder.new) (IsErrOf result JournalErr.Device) }
 {
@@ -92,6 +93,7 @@ fn held_batch<D: Reads>(
     ensures held { IfOk result (λ deeds. Told (D.log folder.old) (λ log. HoldsBatch (now log) (plains deeds.items))) }
     ensures batch { IfOk result (λ deeds. IsBatch (plains deeds.items)) }
     ensures damaged { IfErr result (λ error. IfDamaged error (λ at. Told (D.log folder.old) (λ log. IsBadBehindGate (now log) at))) }
+    ensures unheld { IfErr result (λ error. IfDamaged error (λ at. Told (D.log folder.old) (λ log. IsUnheld (now log)))) }
     ensures log { D.log folder.new ≡ D.log folder.old }
     ensures cause { HasCause (D.faults folder.old) (D.faults folder.new) (IsErrOf result JournalErr.Device) }
 {
@@ -120,6 +122,7 @@ pub fn open_batch<D: Reads>(
         (λ log. (HasFolder (now log) → ⊥) × MatchOption found (IsClosed (now log)) (λ deeds. HoldsBatch (now log) (plains deeds.items)))) }
     ensures batch { IfOk result (λ found. MatchOption found ⊤ (λ deeds. IsBatch (plains deeds.items))) }
     ensures damaged { IfErr result (λ error. IfDamaged error (λ at. Told (D.log folder.old) (λ log. IsDamagedAt (now log) at))) }
+    ensures unheld { IfErr result (λ error. IfDamaged error (λ at. Told (D.log folder.old) (λ log. HasFolder (now log) ⊎ IsUnheld (now log)))) }
     ensures log { D.log folder.new ≡ D.log folder.old }
     ensures cause { HasCause (D.faults folder.old) (D.faults folder.new) (IsErrOf result JournalErr.Device) }
 {

@@ -4,10 +4,11 @@ ghost use Rattle.outside.specs.Disk.{Disk, Path, node_at};
 ghost use Rattle.outside.specs.Changes.{Write, IsPartOf};
 ghost use Rattle.outside.specs.Images.{now, adds, Synced, IsImage, IsSteady, LeavesOnly};
 ghost use Rattle.deeds.specs.Deeds.{DoesAll, StaysAmid, LogGoesOn, IsRefusedAt, in_order};
+ghost use Rattle.deeds.specs.Applying.{Applies, StaysApplied};
 ghost use Rattle.deeds.specs.Grammar.{IsBatch, spelled_deeds};
 ghost use Rattle.deeds.specs.Plain.{plains};
 ghost use Rattle.chunk_journal.specs.Journal.{journal_file, new_file, IsAlike, IsQuiet, IsRepeatable, IsFound, StaysRecovered};
-ghost use Rattle.chunk_journal.specs.Opening.{HasFolder, IsUnfitAt, IsDamagedAt, LeavesFolder, IfDamaged, IsOpening, StaysOpening, HasOpened};
+ghost use Rattle.chunk_journal.specs.Opening.{HasFolder, IsUnfitAt, IsDamagedAt, LeavesFolder, IfDamaged, IsLeftApplied, IsOpening, StaysOpening, HasOpened};
 
 use crate::fault::{Device, JournalErr};
 use crate::reading::{BATCH, journal_len, open_batch};
@@ -37,8 +38,11 @@ fn redo_deeds<D: Folder>(folder: &mut D, deeds: &[Deed]) -> Result<(), JournalEr
         (λ old new. IsSteady new × DoesAll (in_order (plains deeds.now)) (now old) (now new))) }
     ensures amid { Changes (D.log folder.old) (D.log folder.new) (StaysAmid (in_order (plains deeds.now))) }
     ensures grown { Changes (D.log folder.old) (D.log folder.new) LogGoesOn }
+    ensures applied { Changes (D.log folder.old) (D.log folder.new) (StaysApplied (in_order (plains deeds.now))) }
     ensures damaged { IfErr result (λ error. IfDamaged error (λ at. Told (D.log folder.old) (λ log. (index : ℕ)
         × IsRefusedAt (plains deeds.now) index (now log) × (at ≡ 13 + length (spelled_deeds (take index (plains deeds.now))))))) }
+    ensures left { IfErr result (λ error. IfDamaged error (λ at. Changes (D.log folder.old) (D.log folder.new)
+        (λ old new. Applies (in_order (plains deeds.now)) (now old) (now new)))) }
     ensures cause { HasCause (D.faults folder.old) (D.faults folder.new) (IsErrOf result JournalErr.Device) }
 {
     match do_batch(folder, deeds) {
@@ -65,6 +69,7 @@ fn close<D: Folder>(
     ensures any_moment { Changes (D.log folder.old) (D.log folder.new)
         (λ old new. LeavesOnly old new (IsPartOf (Write journal_file 0 (0 ∷ [])) (now old))) }
     ensures damaged { IfErr result (λ error. IfDamaged error (λ at. Told (D.log folder.old) (λ log. HasFolder (now log) × (at ≡ 0)))) }
+    ensures still { IfErr result (λ error. IfDamaged error (λ at. D.log folder.new ≡ D.log folder.old)) }
     ensures cause { HasCause (D.faults folder.old) (D.faults folder.new) (IsErrOf result JournalErr.Device) }
 {
     if journal_len(folder, journal, beside)?.is_some() {
@@ -89,6 +94,8 @@ fn redo<D: Folder>(
     ensures any_moment { Changes (D.log folder.old) (D.log folder.new) (λ old new. IsRepeatable (plains deeds.now) → StaysRecovered (plains deeds.now) old new) }
     ensures grown { Changes (D.log folder.old) (D.log folder.new) LogGoesOn }
     ensures damaged { IfErr result (λ error. IfDamaged error (λ at. Told (D.log folder.old) (λ log. IsUnfitAt (now log) at ⊎ LeavesFolder (now log) at))) }
+    ensures left { IfErr result (λ error. IfDamaged error (λ at. Changes (D.log folder.old) (D.log folder.new)
+        (λ old new. Applies (in_order (plains deeds.now)) (now old) (now new)))) }
     ensures cause { HasCause (D.faults folder.old) (D.faults folder.new) (IsErrOf result JournalErr.Device) }
 {
     redo_deeds(folder, deeds)?;
@@ -102,6 +109,7 @@ pub fn recover<D: Folder>(alloc: Global, folder: &mut D) -> Result<(), JournalEr
     ensures opening { OnOk result (Changes (D.log folder.old) (D.log folder.new) IsOpening) }
     ensures any_moment { Changes (D.log folder.old) (D.log folder.new) StaysOpening }
     ensures damaged { IfErr result (λ error. IfDamaged error (λ at. Told (D.log folder.old) (λ log. IsDamagedAt (now log) at ⊎ LeavesFolder (now log) at))) }
+    ensures left { IfErr result (λ error. IfDamaged error (λ at. Changes (D.log folder.old) (D.log folder.new) IsLeftApplied)) }
     ensures cause { HasCause (D.faults folder.old) (D.faults folder.new) (IsErrOf result JournalErr.Device) }
 {
     settle(folder)?;

@@ -3,9 +3,9 @@ use Rattle.outside.specs.Images.{now}
 use Rattle.deeds.specs.Plain.{plains}
 use Rattle.outside.proofs.Told.{told_both}
 use Rattle.deeds.proofs.Doing.{told_disk}
-use Rattle.chunk_journal.specs.Journal.{HoldsBatch}
+use Rattle.chunk_journal.specs.Journal.{HoldsBatch, IsUnheld}
 use Rattle.chunk_journal.specs.Opening.{HasFolder, Says, IsBadBehindGate}
-use Rattle.chunk_journal.proofs.Damage.{HasReadBehind, filled, holds, unread, fault_within}
+use Rattle.chunk_journal.proofs.Damage.{HasReadBehind, filled, holds, unread, unread_unheld, fault_within}
 use Rattle.chunk_journal.proofs.reading.held_batch.Goals as goal
 
 pub returns-in-Ok-clause-held : goal.returns-in-Ok-clause-held
@@ -47,3 +47,21 @@ returns-in-Err-Bad-clause-damaged g c =
     told_both log (λ l. Says len (now l) × (HasFolder (now l) → ⊥)) (λ l. HasReadBehind p out room n (now l)) (λ l. IsBadBehindGate (now l) (9 + c.in-Err-Bad.at)) c.requires.says
     (told_disk log (HasReadBehind p out room n) c.in_ok-n.ensures.bytes)
     (λ l s r. unread (now l) len c.in-Err-Bad.at text s.0 s.1 (filled (now l) p out rest text room n len s.0 c.requires.journal r (c.deref.ensures.value ∙ ap (λ (k : ℕ). take k (out ++ rest)) vec) long full) bad)
+
+pub returns-in-Err-Bad-clause-unheld : goal.returns-in-Err-Bad-clause-unheld
+returns-in-Err-Bad-clause-unheld g c =
+    let log = g.D.Reads.log c.args.folder.now in
+    let p = c.args.journal.now in
+    let out = c.read.new.out in
+    let rest = drop (length out) c.in_ok-bytes.bytes.items in
+    let text = c.deref.result.now in
+    let room = length c.deref_mut.result.now in
+    let n = c.in_ok-n.n in
+    let len = c.args.len in
+    let bad = rw c.in-Err-Bad.field-0-is at c.in-Err-Bad.ensures.bad in
+    let vec : c.in_ok-bytes.bytes.len ≡ len = c.in_ok-bytes.ensures.len in
+    let long : length out ≡ len = c.read.auto.out ∙ c.deref_mut.ensures.len ∙ vec in
+    let full : n ≡ len = omega (arith, c.len.ensures, c.if-n-len.false, c.in_ok-n.ensures.count, c.deref_mut.ensures.len, vec) in
+    told_both log (λ l. Says len (now l) × (HasFolder (now l) → ⊥)) (λ l. HasReadBehind p out room n (now l)) (λ l. IsUnheld (now l)) c.requires.says
+    (told_disk log (HasReadBehind p out room n) c.in_ok-n.ensures.bytes)
+    (λ l s r. unread_unheld (now l) len c.in-Err-Bad.at text s.0 (filled (now l) p out rest text room n len s.0 c.requires.journal r (c.deref.ensures.value ∙ ap (λ (k : ℕ). take k (out ++ rest)) vec) long full) bad)

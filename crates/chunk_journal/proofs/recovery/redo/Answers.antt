@@ -1,10 +1,12 @@
-use Rattle.std.proofs.Common.{◌≡◌, ◌⊎◌, List, ◌∷◌, [], Option, inr}
+use Rattle.std.proofs.Common.{◌≡◌, ◌⊎◌, List, ◌∷◌, [], Option, subst, sym, inr}
 use Rattle.std.proofs.lemmas.Result.{err_from_is_err_and}
 use Rattle.outside.specs.Calls.{Told, Changes}
 use Rattle.outside.specs.Changes.{Write, IsPartOf}
 use Rattle.outside.specs.Images.{Log, now, IsSteady}
 use Rattle.outside.proofs.Told.{both_changed, changed_by, changed_from, told_through, through}
 use Rattle.deeds.specs.Deeds.{PlainDeed, DoesAll, StaysAmid, LogGoesOn, in_order}
+use Rattle.deeds.specs.Applying.{Applies, StaysApplied}
+use Rattle.deeds.proofs.Applying.{applies_whole}
 use Rattle.deeds.specs.Plain.{plains}
 use Rattle.deeds.proofs.Growing.{leaves_go_on, grown_on}
 use Rattle.chunk_journal.specs.Journal.{journal_file, IsFound, IsRepeatable, StaysRecovered}
@@ -30,7 +32,8 @@ returns-in_err-redo_deeds-clause-any_moment g c =
     let k = c.requires.batch in
     let l0 = g.D.Reads.log c.args.folder.now in
     let l1 = g.D.Reads.log c.redo_deeds.new.folder in
-    changed_from l0 l1 (IsFound bs) (StaysAmid (in_order bs)) (Stays bs) (λ x y f s repeatable. found_leaves bs k repeatable x y f s) c.requires.found c.in_err-redo_deeds.ensures.amid
+    changed_from l0 l1 (IsFound bs) (λ x y. StaysAmid (in_order bs) x y × StaysApplied (in_order bs) x y) (Stays bs) (λ x y f s repeatable. found_leaves bs k repeatable x y f s.0 s.1) c.requires.found
+    (both_changed l0 l1 (StaysAmid (in_order bs)) (StaysApplied (in_order bs)) c.in_err-redo_deeds.ensures.amid c.in_err-redo_deeds.ensures.applied)
 
 pub returns-in_err-close-clause-any_moment : goal.returns-in_err-close-clause-any_moment
 returns-in_err-close-clause-any_moment g c =
@@ -79,3 +82,15 @@ returns-in_err-close-clause-grown g c =
 pub returns-clause-grown : goal.returns-clause-grown
 returns-clause-grown g c =
     closed_on (g.D.Reads.log c.args.folder.now) (g.D.Reads.log c.redo_deeds.new.folder) (g.D.Reads.log c.close.new.folder) c.in_ok-redo_deeds.ensures.grown c.in_ok-close.ensures.any_moment
+
+pub returns-in_err-close-clause-left : goal.returns-in_err-close-clause-left
+returns-in_err-close-clause-left g c =
+    let bs = plains c.args.deeds.now in
+    let l0 = g.D.Reads.log c.args.folder.now in
+    let l1 = g.D.Reads.log c.redo_deeds.new.folder in
+    let l2 = g.D.Reads.log c.close.new.folder in
+    let q = err_from_is_err_and c.from_residual-in_err-close.result c.from_residual-in_err-close.ensures.1 in
+    rw (q.1, q.2) (damaged_by c.in_err-close.field-0.0 (λ at. l2 ≡ l1) (λ at. Changes l0 l2 (λ old new. Applies (in_order bs) (now old) (now new)))
+    (λ at same. subst (λ (o : Option Log). Changes l0 o (λ old new. Applies (in_order bs) (now old) (now new))) (sym same)
+    (changed_by l0 l1 (Done bs) (λ old new. Applies (in_order bs) (now old) (now new)) (λ x y did. applies_whole (in_order bs) (now x) (now y) did.1) c.in_ok-redo_deeds.ensures.done))
+    c.in_err-close.ensures.still)
