@@ -6,8 +6,8 @@ use Rattle.chunk_journal.specs.Journal.{IsAlike, RecoversTo}
 use Rattle.tree_model.specs.Rows.{Rows}
 use Rattle.stop_history.specs.Crash.{DiskShows, IsBlind}
 use Rattle.stop_history.specs.Stands.{WasSafe, IsRunning}
-use Rattle.stop_history.specs.Opening.{StaysFound, HasFound, IsClearTree, IsSoundlyFound, IsFoundAs, OpeningRecovers}
-use Rattle.stop_history.proofs.Trees.{quiet_clear, alike_tree, clear_recovered}
+use Rattle.stop_history.specs.Opening.{StaysFound, StaysAsFound, HasFound, IsClearTree, IsSoundlyFound, IsFoundAs, OpeningRecovers}
+use Rattle.stop_history.proofs.Trees.{quiet_clear, alike_tree, clear_applied, clear_recovered}
 use Rattle.stop_history.proofs.Stops.{safe_stops}
 
 module _ (Shows : DiskShows) (blind : IsBlind Shows) where
@@ -48,6 +48,15 @@ module _ (Shows : DiskShows) (blind : IsBlind Shows) where
   begins_found rows old new stays opened is =
       begins_now rows is.found old new stays opened is.recovers (blind is.found (now new) rows is.shows opened.at_rest.steady.tree (opened.found is.found is.recovers))
 
-  pub opening_recovers : (old new : Log) → StaysFound old new → IsSoundlyFound (now old) → OpeningRecovers Shows old new
-  opening_recovers old new stays sound rows is = safe_stops Shows rows (suc (moment old)) [] new
-      (found_safe rows is.found is.found old new stays is.recovers (λ q not_journal not_new. refl) (clear_recovered (now old) is.found sound is.recovers) is.shows (suc (moment new)) (omega arith))
+  pub opening_recovers : (old new : Log) → StaysFound old new → StaysAsFound old new → IsSoundlyFound (now old) → OpeningRecovers Shows old new
+  opening_recovers old new stays applied sound = record {
+    whole = λ rows is. safe_stops Shows rows (suc (moment old)) [] new
+        (found_safe rows is.found is.found old new stays is.recovers (λ q not_journal not_new. refl) (clear_recovered (now old) is.found sound is.recovers) is.shows (suc (moment new)) (omega arith));
+    applied = λ rows is m since within image here.
+        let like = applied is.disk is.recovered m since within image here in
+        record {
+          disk = like.0;
+          recovered = like.1;
+          shows = blind is.disk like.0 rows is.shows (alike_tree is.disk like.0 (clear_applied (now old) is.disk sound is.recovered) like.2) like.2;
+        };
+  }

@@ -6,9 +6,10 @@ use Rattle.outside.proofs.Paths.{by_path}
 use Rattle.deeds.specs.Deeds.{PlainDeed, DoesAll, Unnamed, in_order}
 use Rattle.deeds.specs.Repeatable.{IsRepeatable}
 use Rattle.deeds.proofs.Again.{elsewhere}
+use Rattle.deeds.proofs.Applying.{unnamed_part}
 use Rattle.deeds.proofs.Amid.{tree_run}
 use Rattle.deeds.proofs.Phases.{unnamed_ordered}
-use Rattle.chunk_journal.specs.Journal.{journal_file, new_file, IsClosed, IsAlike, IsQuiet, RecoversTo}
+use Rattle.chunk_journal.specs.Journal.{journal_file, new_file, IsClosed, IsAlike, IsQuiet, RecoversTo, Recovered}
 use Rattle.stop_history.specs.Opening.{IsClearTree, IsSoundlyFound}
 
 -- a file or nothing is no folder
@@ -67,3 +68,17 @@ clear_after deeds old new repeatable clear run = record {
 pub clear_recovered : (disk found : Disk) → IsSoundlyFound disk → RecoversTo disk found → IsClearTree found
 clear_recovered disk found sound (inl shut) = subst IsClearTree (sym shut.1) sound.clear
 clear_recovered disk found sound (inr (deeds, held, run)) = clear_after deeds disk found (sound.repeatable deeds held) sound.clear run
+
+-- also where not all of its batch can be done
+pub clear_applied : (disk found : Disk) → IsSoundlyFound disk → Recovered disk found → IsClearTree found
+clear_applied disk found sound (inl none) = subst IsClearTree (sym none.1) sound.clear
+clear_applied disk found sound (inr (deeds, held, applies)) = record {
+  tree = tree_run applies.part disk found sound.clear.tree applies.does;
+  no_folder = λ has. elim has [
+    | inl journal ↦ sound.clear.no_folder (inl (sym (left journal_file (sound.repeatable deeds held).beside_journal) ∙ journal))
+    | inr beside ↦ sound.clear.no_folder (inr (sym (left new_file (sound.repeatable deeds held).beside_new) ∙ beside))
+  ];
+}
+  where
+    left : (q : Path) → Unnamed q deeds → node_at found q ≡ node_at disk q
+    left q un = stays_unnamed q applies.part disk found applies.does (unnamed_part q (in_order deeds) disk applies.part applies.far (unnamed_ordered q deeds un))

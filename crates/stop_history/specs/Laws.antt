@@ -11,7 +11,7 @@ use Rattle.tree_history.specs.History.{Entry, Origin, rows_at, rows_then, tally_
 use Rattle.stop_history.specs.Crash.{DiskShows, HoldsEnded, HaveEnded, IsCrash, rows_stepped}
 use Rattle.stop_history.specs.Stands.{WasSafe, IsRunning, IsBroken, IsInState}
 use Rattle.stop_history.specs.Prefix.{StopsRecover, IsWhole}
-use Rattle.stop_history.specs.Opening.{StaysFound, HasFound, IsClearTree, IsSoundlyFound, IsFoundAs, OpeningRecovers}
+use Rattle.stop_history.specs.Opening.{StaysFound, StaysAsFound, HasFound, IsClearTree, IsSoundlyFound, IsFoundAs, OpeningRecovers}
 use Rattle.stop_history.specs.Stable.{stable_then, IsStableNext}
 
 -- the rows after all entries
@@ -132,7 +132,7 @@ BeginsNow Shows = (rows : Rows) (found : Disk) (old new : Log) → StaysFound ol
 
 -- it failed
 abbrev pub OpeningFails : DiskShows → Type 0
-OpeningFails Shows = (old new : Log) → StaysFound old new → IsSoundlyFound (now old) → OpeningRecovers Shows old new
+OpeningFails Shows = (old new : Log) → StaysFound old new → StaysAsFound old new → IsSoundlyFound (now old) → OpeningRecovers Shows old new
 
 -- ---- closing: what is pending is committed, without an entry
 

@@ -4,7 +4,7 @@ use Rattle.outside.specs.Disk.{Disk, IsTree}
 use Rattle.outside.specs.Images.{Log, now, moment, log_at, IsImage}
 use Rattle.deeds.specs.Deeds.{PlainDeed}
 use Rattle.deeds.specs.Repeatable.{IsRepeatable}
-use Rattle.chunk_journal.specs.Journal.{HoldsBatch, IsQuiet, IsAlike, RecoversTo, RecoversLike}
+use Rattle.chunk_journal.specs.Journal.{HoldsBatch, IsQuiet, IsAlike, RecoversTo, RecoversLike, Recovered, RecoveredLike}
 use Rattle.chunk_journal.specs.Opening.{HasFolder}
 use Rattle.tree_model.specs.Rows.{Rows}
 use Rattle.stop_history.specs.Crash.{DiskShows}
@@ -14,6 +14,11 @@ use Rattle.stop_history.specs.Prefix.{StopsRecover}
 abbrev pub StaysFound : Log → Log → Type 0
 StaysFound old new = (found : Disk) → RecoversTo (now old) found →
     (m : ℕ) → suc (moment old) ≤ m → m ≤ moment new → (image : Disk) → IsImage (log_at new m) image → RecoversLike found image
+
+-- the same where its batch may not fit it
+abbrev pub StaysAsFound : Log → Log → Type 0
+StaysAsFound old new = (found : Disk) → Recovered (now old) found →
+    (m : ℕ) → suc (moment old) ≤ m → m ≤ moment new → (image : Disk) → IsImage (log_at new m) image → RecoveredLike found image
 
 -- the journal is quiet, and what the found disk recovers to is on the disk
 pub record HasFound (old new : Log) : Type 0 where
@@ -37,6 +42,14 @@ pub record IsFoundAs (Shows : DiskShows) (rows : Rows) (disk : Disk) : Type 0 wh
   pub recovers : RecoversTo disk found
   pub shows : Shows found rows
 
--- a stop since the first sync of an opening recovers to what was found
-abbrev pub OpeningRecovers : DiskShows → Log → Log → Type 0
-OpeningRecovers Shows old new = (rows : Rows) → IsFoundAs Shows rows (now old) → StopsRecover Shows (suc (moment old)) rows [] new
+-- the image, whose batch may not fit it, is recovered to a disk that shows these rows
+pub record IsAppliedAs (Shows : DiskShows) (rows : Rows) (image : Disk) : Type 0 where
+  pub disk : Disk
+  pub recovered : Recovered image disk
+  pub shows : Shows disk rows
+
+-- A stop since the first sync of an opening recovers to what was found; also where the batch that was found can't be done whole.
+pub record OpeningRecovers (Shows : DiskShows) (old new : Log) : Type 0 where
+  pub whole : (rows : Rows) → IsFoundAs Shows rows (now old) → StopsRecover Shows (suc (moment old)) rows [] new
+  pub applied : (rows : Rows) → IsAppliedAs Shows rows (now old)
+      → (m : ℕ) → suc (moment old) ≤ m → m ≤ moment new → (image : Disk) → IsImage (log_at new m) image → IsAppliedAs Shows rows image

@@ -1,5 +1,5 @@
 -- What the end of a store leaves, whenever it comes.
-use Rattle.std.proofs.Common.{◌≤◌, ℕ, List, [], length, Option, Some, None, IsNone, refl, subst, sym, inl, arith}
+use Rattle.std.proofs.Common.{◌≤◌, ℕ, List, [], length, Option, Some, None, IsNone, IsSome, refl, subst, sym, inl, arith}
 use Rattle.outside.specs.Calls.{Changes, Told}
 use Rattle.outside.specs.Disk.{Disk}
 use Rattle.outside.specs.Images.{Log, now}
@@ -20,15 +20,15 @@ use Rattle.stop_history.proofs.Moves.{shows_all}
 use Rattle.stop_history.proofs.Openings.{opening_recovers}
 use Rattle.stop_history.proofs.States.{state_runs}
 use Rattle.stop_history.proofs.Stops.{closes_broken, state_stops}
-use Rattle.store_history.specs.Store.{StoreView, ArePlaced, IsSaidFrom, IsStoredIn, IsStoreOf, moment_of, shows_under}
+use Rattle.store_history.specs.Store.{StoreView, ArePlaced, ArePlacedSince, IsPlacedOn, IsSaidFrom, IsStoredIn, IsStoreOf, IsTakenBy, moment_of, shows_under}
 use Rattle.store_history.specs.Ends.{ClosingsRecover, FailedOpeningsRecover, IsCutShort, StoresRecover, StoresAreWhole}
 use Rattle.store_history.proofs.Shows.{shows_blind}
-use Rattle.store_history.proofs.Openings.{stays_soundly}
+use Rattle.store_history.proofs.Openings.{stays_applied, stays_soundly}
 use Rattle.store_history.proofs.Placed.{HasBegun, begins_low, begun_goes_on, goes_later, opened_goes_on, places_go_on}
 use Rattle.store_history.proofs.Turns.{moments_rise, none_back}
 
 pub failed_openings_recover : FailedOpeningsRecover
-failed_openings_recover keys old new stays sound = opening_recovers (shows_under keys) (shows_blind keys) old new (stays_soundly old new stays sound) sound
+failed_openings_recover keys old new stays sound = opening_recovers (shows_under keys) (shows_blind keys) old new (stays_soundly old new stays sound) (stays_applied old new stays sound) sound
 
 pub stores_recover : StoresRecover
 stores_recover found store folder rows origin history is = record {
@@ -77,11 +77,15 @@ module _ (found : Option Log) (store : StoreView) (before after : FolderView) (r
   recovers_told (Some a) None stored moments = absurd moments
   recovers_told (Some a) (Some b) stored moments = recovers_on a b stored moments
 
-  placed_told : (a b : Option Log) → (tally_of origin history).moment ≤ moment_of a → Told a (IsStoredIn found store rows origin history) → Changes a b LogGoesOn → Told b (ArePlaced store.keys rows origin history)
-  placed_told None None late stored goes = tt
+  placed_told : (a b : Option Log) → (tally_of origin history).moment ≤ moment_of a → Told a (IsStoredIn found store rows origin history) → Changes a b LogGoesOn
+      → Told b (ArePlaced store.keys rows origin history) × Told b (ArePlacedSince store.keys store.live origin history)
+  placed_told None None late stored goes = (tt, tt)
   placed_told None (Some b) late stored goes = absurd goes
   placed_told (Some a) None late stored goes = absurd goes
-  placed_told (Some a) (Some b) late stored goes = places_go_on store.keys rows origin history a b goes is.caused late stored.placed
+  placed_told (Some a) (Some b) late stored goes = (
+    places_go_on (λ (o : Option ℕ). IsNone o) (IsPlacedOn store.keys) rows origin history a b goes is.caused late stored.placed,
+    places_go_on (λ (o : Option ℕ). IsSome o) (λ d r made. IsTakenBy store.keys store.live d made) rows origin history a b goes is.caused late stored.placed_since,
+  )
 
   begun_told : (a b : Option Log) → (tally_of origin history).moment ≤ moment_of a → Told a (IsStoredIn found store rows origin history) → Changes a b LogGoesOn → Told b (HasBegun found store.keys rows origin)
   begun_told None None late stored goes = tt
@@ -93,7 +97,8 @@ module _ (found : Option Log) (store : StoreView) (before after : FolderView) (r
   cut_short = record {
     grown = grown_on found before.log after.log is.grown grown;
     opened = opened_goes_on origin.moment found before.log after.log (begins_low origin history (moment_of before.log) is.caused is.moment) is.opened grown;
-    placed = placed_told before.log after.log is.moment is.stored grown;
+    placed = (placed_told before.log after.log is.moment is.stored grown).0;
+    placed_since = (placed_told before.log after.log is.moment is.stored grown).1;
     recover = record { stops = recovers_told before.log after.log is.stored any; begun = begun_told before.log after.log is.moment is.stored grown };
     moment = omega (arith, is.moment, moments_rise before.log after.log LogGoesOn goes_later grown);
   }

@@ -1,5 +1,5 @@
 -- A store once what waits is committed.
-use Rattle.std.proofs.Common.{◌≡◌, ℕ, ◌≤◌, List, [], Option, Some, None, IsNone, sym, subst, ◌∙◌, arith}
+use Rattle.std.proofs.Common.{◌≡◌, ℕ, ◌≤◌, List, [], Option, Some, None, IsNone, IsSome, sym, subst, ◌∙◌, arith}
 use Rattle.outside.specs.Calls.{Changes, Told}
 use Rattle.outside.specs.Disk.{Disk, Path as HostPath}
 use Rattle.outside.specs.Images.{Log, disk_in, log_at, moment, now}
@@ -20,10 +20,10 @@ use Rattle.stop_history.specs.Crash.{DiskShows}
 use Rattle.stop_history.specs.Stands.{IsRunning, IsInState}
 use Rattle.stop_history.proofs.Moves.{settles}
 use Rattle.stop_history.proofs.States.{state_runs}
-use Rattle.store_history.specs.Store.{StoreView, HasRows, IsStoredIn, IsStoreOf, moment_of, shows_under}
+use Rattle.store_history.specs.Store.{StoreView, HasRows, IsPlacedOn, IsStoredIn, IsStoreOf, IsTakenBy, moment_of, shows_under}
 use Rattle.store_history.specs.Turns.{AddsEntry, FlushedTurnsAdd, FlushesStand, IsFlushed}
 use Rattle.store_history.proofs.Alike.{for_alike, looks_beside, looks_through}
-use Rattle.store_history.proofs.Placed.{begins_low, begun_goes_on, goes_later, opened_goes_on, places_go_on, read_then}
+use Rattle.store_history.proofs.Placed.{begins_low, begun_goes_on, goes_later, not_both, opened_goes_on, places_go_on, read_then}
 use Rattle.node_changes.proofs.Beside.{stands_beside}
 use Rattle.store_history.proofs.Shows.{shows_blind}
 use Rattle.store_history.proofs.Turns.{moments_rise, none_back}
@@ -77,7 +77,10 @@ module _ (old : StoreView) (before after : FolderView) (found : Option Log) (row
         since = λ _. subst (λ (d : Disk). LookAlike d (now b)) (read_then a b tally.moment (goes a b stored any) late)
             (looks_through (now (log_at a tally.moment)) (now a) (now b) (stored.since none) (looks a b stored committed));
         answered = stored.answered;
-        placed = places_go_on old.keys rows origin history a b (goes a b stored any) store.caused late stored.placed;
+        placed = places_go_on (λ (o : Option ℕ). IsNone o) (IsPlacedOn old.keys) rows origin history a b (goes a b stored any) store.caused late stored.placed;
+        placed_since = places_go_on (λ (o : Option ℕ). IsSome o) (λ d r made. IsTakenBy old.keys old.live d made) rows origin history a b (goes a b stored any) store.caused late stored.placed_since;
+        left = λ some. absurd (not_both tally.stopped none some);
+        rests = λ some. absurd (not_both tally.stopped none some);
       }
 
   -- ---- where the folder tells its log

@@ -11,7 +11,7 @@ use Rattle.deeds.proofs.Amid.{tree_run}
 use Rattle.chunk_journal.specs.Journal.{IsAlike, IsQuiet, RecoversTo, RecoversLike}
 use Rattle.chunk_journal.specs.Opening.{HasOpened, IsOpening, StaysOpening}
 use Rattle.chunk_journal.specs.Commits.{IsReopenable}
-use Rattle.chunk_journal.proofs.Found.{opening_keeps, stays_found, opened_alike}
+use Rattle.chunk_journal.proofs.Found.{opening_keeps, stays_as_found, stays_found, opened_alike}
 use Rattle.pending_files.specs.Laid.{CanWait, LookAlike, laid}
 use Rattle.pending_files.proofs.Laying.{none_waits}
 use Rattle.tree_model.specs.Rows.{Content, bad_size, Rows}
@@ -35,7 +35,7 @@ use Rattle.name_places.specs.Claims.{AreClaimsOf}
 use Rattle.node_changes.specs.Changed.{StandsOn}
 use Rattle.stop_history.specs.Crash.{DiskShows}
 use Rattle.stop_history.specs.Stands.{IsRunning}
-use Rattle.stop_history.specs.Opening.{StaysFound, IsSoundlyFound}
+use Rattle.stop_history.specs.Opening.{StaysFound, StaysAsFound, IsSoundlyFound}
 use Rattle.stop_history.specs.Prefix.{BeginningRecovers}
 use Rattle.stop_history.proofs.Openings.{begins_now}
 use Rattle.stop_history.proofs.Stops.{running_begins}
@@ -94,6 +94,9 @@ count_rows contents unlocked number (node ∷ nodes) = ap suc (count_rows conten
 
 reopenable : (disk : Disk) → IsSoundlyFound disk → IsReopenable disk
 reopenable disk sound = record { repeatable = sound.repeatable; no_folder = λ is. sound.clear.no_folder (inr is) }
+
+pub stays_applied : (old new : Log) → StaysOpening old new → IsSoundlyFound (now old) → StaysAsFound old new
+stays_applied old new stays sound = stays_as_found old new stays (reopenable (now old) sound)
 
 pub stays_soundly : (old new : Log) → StaysOpening old new → IsSoundlyFound (now old) → StaysFound old new
 stays_soundly old new stays sound = stays_found old new stays (reopenable (now old) sound)
@@ -185,6 +188,9 @@ module _ (unlocked : ℕ) (kept : KeptTree) (store : StoreView) (live_is : store
           tree = λ none. subst (λ (d : Disk). HasRows store d (rows_of tells.contents) []) (sym (ap (λ (w : List PlainDeed). laid w (now new)) idle)) has;
           answered = tt;
           placed = λ i x there. absurd cc;
+          placed_since = λ i x there. absurd cc;
+          left = λ some. absurd (true≢false (sym some));
+          rests = λ some. absurd (true≢false (sym some));
         };
         grown = opening.grown;
       }

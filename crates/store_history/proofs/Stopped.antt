@@ -1,8 +1,9 @@
 -- The turns of a store that stopped: nothing is done, and each answer is that it stopped.
-use Rattle.std.proofs.Common.{◌≡◌, ℕ, suc, ◌≤◌, List, [], ◌∷◌, ◌++◌, length, Bool, false, cond, Option, Some, None, is_some, IsNone, IsSome, refl, sym, ap, subst, ◌∙◌, inr, arith, true≢false, append-nil}
+use Rattle.std.proofs.Common.{◌≡◌, ℕ, suc, ◌≤◌, List, [], ◌∷◌, ◌++◌, length, Bool, false, cond, Option, Some, None, is_some, IsNone, IsSome, refl, sym, ap, subst, ◌∙◌, inl, inr, arith, true≢false, append-nil}
 use Rattle.std.specs.Option.{option_map}
 use Rattle.outside.specs.Calls.{Changes, Told}
-use Rattle.outside.specs.Images.{Log, moment}
+use Rattle.outside.specs.Disk.{Disk}
+use Rattle.outside.specs.Images.{Log, disk_in, log_at, now, moment}
 use Rattle.outside.specs.Views.{FolderView, EntropyView}
 use Rattle.outside.proofs.Told.{unchanged}
 use Rattle.deeds.specs.Deeds.{LogGoesOn}
@@ -10,15 +11,20 @@ use Rattle.deeds.proofs.Growing.{goes_nowhere}
 use Rattle.tree_model.specs.declared.refusal.Refusal.TheVariants as refusals
 use Rattle.tree_model.specs.Rows.{Rows}
 use Rattle.tree_model.specs.Asked.{PlainReply, refused}
-use Rattle.tree_history.specs.History.{Made, Entry, Origin, Tally, entry_of, tally_at, tally_of, is_stable, next, IsCaused}
-use Rattle.tree_history.proofs.Histories.{after_more, answered_more}
+use Rattle.tree_model.specs.Step.{step}
+use Rattle.tree_history.specs.History.{Made, Entry, Origin, Tally, entry_of, tally_at, tally_of, is_refusal, is_stable, next, rows_after, IsCaused}
+use Rattle.tree_history.proofs.Histories.{after_more, answered_more, rows_after_more}
+use Rattle.directory_scan.specs.Format.{sealing_of}
+use Rattle.row_versions.specs.Versions.{wrapped}
+use Rattle.stop_history.specs.Crash.{rows_stepped}
 use Rattle.stop_history.specs.Stable.{is_kept, stable_then}
+use Rattle.stop_history.proofs.Histories.{at_kept}
 use Rattle.stop_history.proofs.Moves.{stays_broken}
 use Rattle.stop_history.proofs.States.{state_broke, broken_state}
-use Rattle.node_changes.specs.Placed.{IfDrawn, IsIdentifierOf}
-use Rattle.store_history.specs.Store.{StoreView, bounded, moment_of, shows_under, IsStoredIn, IsStoreOf}
+use Rattle.node_changes.specs.Placed.{IfDrawn, IsIdentifierOf, taken_for}
+use Rattle.store_history.specs.Store.{StoreView, bounded, moment_of, shows_under, HasRowsLeft, IsPlacedOn, IsStoredIn, IsStoreOf, IsTakenBy}
 use Rattle.store_history.specs.Turns.{Draws, IsMadeOf, AddsEntry, Turn, made_in, IsTakenFor, StoppedTurnsAdd}
-use Rattle.store_history.proofs.Placed.{placed_more}
+use Rattle.store_history.proofs.Placed.{at_its_end, placed_more}
 use Rattle.store_history.proofs.Turns.{and_false, none_not_some, counted, stable, adds_to}
 
 some_back : (o : Option ℕ) (number : ℕ) → Some number ≡ option_map bounded o → (f : ℕ) × (o ≡ Some f) × (number ≡ bounded f)
@@ -85,14 +91,47 @@ module _ (old : StoreView) (before : FolderView) (source : EntropyView) (turn : 
     still_stopped : (next tally entry).stopped ≡ tally.stopped
     still_stopped = ap (λ (b : Bool). cond b (Some tally.count) tally.stopped) unflagged
 
-    stays_on : (log : Log) → Before → moment_of before.log ≡ moment log → made.moment ≡ moment log → Stored log → StoredNext log
-    stays_on log store was now stored =
+    abbrev TakenOn : Disk → Type 0
+    TakenOn d = turn.taken ≡ taken_for (sealing_of old.keys) d old.live turn.asked.request turn.drawn
+
+    -- since the end of the entry before no moment has gone by
+    taken_then : (log : Log) → tally.moment ≡ moment log → TakenOn (now log) → TakenOn (now (log_at log tally.moment))
+    taken_then log rests taken_now = subst TakenOn (sym (ap (λ (m : ℕ). now (log_at log m)) rests ∙ ap now (at_its_end log))) taken_now
+
+    rows_stay : rows_after rows (history ++ entry ∷ []) ≡ rows_after rows history
+    rows_stay =
+        let so_far = rows_after rows history in
+        rows_after_more rows history entry ∙ ap (λ (r : PlainReply). cond (is_refusal r) so_far (step so_far turn.asked.request turn.asked.second).rows) reply
+
+    left_still : HasRowsLeft old rows history → HasRowsLeft new rows (history ++ entry ∷ [])
+    left_still left = record {
+      contents = left.contents;
+      current = elim left.current [
+        | inl same ↦ inl (ap wrapped rows_stay ∙ same)
+        | inr change ↦
+            inr (record {
+              number = change.number;
+              entry = change.entry;
+              there = at_kept history entry change.number change.entry change.there;
+              failed = change.failed;
+              stepped = ap (λ (r : Rows). wrapped (rows_stepped r change.entry.made)) rows_stay ∙ change.stepped;
+            })
+      ];
+    }
+
+    stays_on : (log : Log) → Before → moment_of before.log ≡ moment log → made.moment ≡ moment log → Stored log → TakenOn (now log) → StoredNext log
+    stays_on log store was here stored taken_now =
         let some : IsSome tally.stopped = ap is_some (at store).1 in
         let more : (tally_of origin (history ++ entry ∷ [])).stopped ≡ tally.stopped = ap (λ (t : Tally). t.stopped) (after_more (tally_at origin) history entry) ∙ still_stopped in
         record {
-          placed = placed_more old.keys rows origin history entry log log (goes_nowhere log) store.caused (omega (arith, store.moment, was)) stored.placed (λ none. absurd (running_not store none));
+          placed = placed_more (λ (o : Option ℕ). IsNone o) (IsPlacedOn old.keys) rows origin history entry log log (goes_nowhere log) store.caused (omega (arith, store.moment, was)) stored.placed
+              (λ none. absurd (running_not store none));
+          placed_since = placed_more (λ (o : Option ℕ). IsSome o) (λ d r made. IsTakenBy old.keys old.live d made) rows origin history entry log log (goes_nowhere log) store.caused (omega (arith, store.moment, was))
+              stored.placed_since (λ stopped. taken_then log (stored.rests stopped) taken_now);
+          left = λ stopped. left_still (stored.left some);
+          rests = λ stopped. ap (λ (t : Tally). t.moment) (after_more (tally_at origin) history entry) ∙ here;
           state = λ opened from. broken_state (shows_under old.keys) opened rows origin history entry old.waiting log (inr some)
-              (stays_broken (shows_under old.keys) opened rows origin history log entry (state_broke (shows_under old.keys) opened rows history old.waiting log tally.stopped some (stored.state opened from)) now same_stable);
+              (stays_broken (shows_under old.keys) opened rows origin history log entry (state_broke (shows_under old.keys) opened rows history old.waiting log tally.stopped some (stored.state opened from)) here same_stable);
           begun = stored.begun;
           waits = λ none. absurd (running_not store (subst (λ (o : Option ℕ). IsNone o) more none));
           since = λ none. absurd (running_not store (subst (λ (o : Option ℕ). IsNone o) more none));
@@ -100,9 +139,9 @@ module _ (old : StoreView) (before : FolderView) (source : EntropyView) (turn : 
           answered = answered_more rows (tally_at origin) history entry stored.answered (λ none. absurd (running_not store none));
         }
 
-    stays_told : (log : Option Log) → Before → moment_of before.log ≡ moment_of log → made.moment ≡ moment_of log → Told log Stored → Told log StoredNext
-    stays_told None store was now stored = tt
-    stays_told (Some log) store was now stored = stays_on log store was now stored
+    stays_told : (log : Option Log) → Before → moment_of before.log ≡ moment_of log → made.moment ≡ moment_of log → Told log Stored → Told (disk_in log) TakenOn → Told log StoredNext
+    stays_told None store was here stored taken_now = tt
+    stays_told (Some log) store was here stored taken_now = stays_on log store was here stored taken_now
 
     drawn_none : (o : Option (List ℕ)) → Changes o o (Draws made)
     drawn_none None = tt
@@ -128,7 +167,7 @@ module _ (old : StoreView) (before : FolderView) (source : EntropyView) (turn : 
     made found rows origin history caller,
     made_so found rows origin history caller,
     adds_to old new before before source source turn found rows origin history caller store (caused found rows origin history caller store drew) (unchanged before.log before.log LogGoesOn refl goes_nowhere)
-        (stays_told found rows origin history caller before.log store refl refl store.stored)
+        (stays_told found rows origin history caller before.log store refl refl store.stored taken)
         (store.stopped ∙ sym (ap (λ (o : Option ℕ). option_map bounded o) (still_stopped found rows origin history caller))) refl,
   )
 

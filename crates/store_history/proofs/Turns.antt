@@ -1,5 +1,5 @@
 -- The turns of a store that runs: what each adds to the history that it stood for.
-use Rattle.std.proofs.Common.{◌≡◌, ℕ, suc, ◌≤◌, List, [], ◌∷◌, ◌++◌, length, Bool, true, false, cond, ◌&&◌, Option, Some, None, IsNone, refl, sym, ap, subst, ◌∙◌, inl, arith, true≢false}
+use Rattle.std.proofs.Common.{◌≡◌, ℕ, suc, ◌≤◌, List, [], ◌∷◌, ◌++◌, length, Bool, true, false, cond, ◌&&◌, Option, Some, None, IsNone, IsSome, refl, sym, ap, subst, ◌∙◌, inl, inr, arith, true≢false}
 use Rattle.std.specs.Option.{option_map}
 use Rattle.outside.specs.Calls.{Changes, Told}
 use Rattle.outside.specs.Disk.{Disk}
@@ -26,22 +26,22 @@ use Rattle.tree_changes.specs.Shapes.{HasTree}
 use Rattle.row_versions.specs.Versions.{wrapped}
 use Rattle.row_versions.proofs.Steps.{steps_are_same}
 use Rattle.row_versions.proofs.Histories.{answered_in_both, rows_then_are_same}
-use Rattle.live_tree.specs.Held.{live_rows}
+use Rattle.live_tree.specs.Held.{HeldTree, live_rows}
 use Rattle.node_changes.specs.Changed.{StandsOn, ShowsRows, HasChanged, MayHaveChanged}
 use Rattle.node_changes.specs.Placed.{taken_for}
 use Rattle.stop_history.specs.Crash.{DiskShows, rows_stepped}
 use Rattle.stop_history.specs.Stands.{IsRunning, IsBroken, IsInState}
 use Rattle.stop_history.specs.Stable.{is_kept, stable_then, IsStableNext}
-use Rattle.stop_history.proofs.Histories.{at_within, longer, rows_all, tally_stable}
+use Rattle.stop_history.proofs.Histories.{at_last, at_within, longer, rows_all, tally_stable}
 use Rattle.stop_history.proofs.Moves.{idles, idles_kept, commits, breaks, settles_broken, stays_broken}
 use Rattle.stop_history.proofs.Stable.{stable_next}
 use Rattle.stop_history.proofs.States.{state_runs, running_state, broken_state}
-use Rattle.store_history.specs.Store.{StoreView, bounded, moment_of, shows_under, ArePlaced, HasRows, IsPlacedOn, IsSaidFrom, IsStoredIn, IsStoreOf}
+use Rattle.store_history.specs.Store.{StoreView, bounded, moment_of, shows_under, ArePlaced, ArePlacedSince, HasRows, HasRowsLeft, IsPlacedOn, IsSaidFrom, IsStoredIn, IsStoreOf, IsTakenBy}
 use Rattle.store_history.specs.Turns.{Draws, IsMadeOf, Turn, made_in, made_of, IsTurn, IsQuietTurn, IsChangedTurn, IsBrokenTurn, IsUnflushedTurn, QuietTurnsAdd, ChangedTurnsAdd, BrokenTurnsAdd, UnflushedTurnsAdd}
 use Rattle.node_changes.proofs.Beside.{stands_beside}
 use Rattle.store_history.proofs.Shows.{shows_blind, stands_shows}
 use Rattle.store_history.proofs.Alike.{for_alike, looks_itself, looks_through}
-use Rattle.store_history.proofs.Placed.{HasBegun, at_its_end, begins_low, begun_goes_on, goes_later, opened_goes_on, placed_more}
+use Rattle.store_history.proofs.Placed.{HasBegun, at_its_end, begins_low, begun_goes_on, goes_later, none_past, not_both, opened_goes_on, placed_more}
 
 pub bounded_suc : (n : ℕ) → bounded (suc (bounded n)) ≡ bounded (suc n)
 bounded_suc n = omega arith
@@ -245,7 +245,14 @@ module _ (old new : StoreView) (before after : FolderView) (source source' : Ent
     pub placed_next : (a b : Log) → Before → moment_of before.log ≡ moment a → LogGoesOn a b → Stored a → TakenOn (now a) → ArePlaced new.keys rows origin (history ++ entry ∷ []) b
     placed_next a b store at grown stored taken =
         subst (λ (k : KeyPair). ArePlaced k rows origin (history ++ entry ∷ []) b) (sym is.keys)
-        (placed_more old.keys rows origin history entry a b grown store.caused (omega (arith, store.moment, at)) stored.placed (λ none. placed_so a store stored taken))
+        (placed_more (λ (o : Option ℕ). IsNone o) (IsPlacedOn old.keys) rows origin history entry a b grown store.caused (omega (arith, store.moment, at)) stored.placed (λ none. placed_so a store stored taken))
+
+    -- no commit failed before it
+    placed_since_next : (a b : Log) → Before → moment_of before.log ≡ moment a → LogGoesOn a b → ArePlacedSince new.keys new.live origin (history ++ entry ∷ []) b
+    placed_since_next a b store at grown =
+        let none = not_stopped is.running store in
+        placed_more (λ (o : Option ℕ). IsSome o) (λ d r made. IsTakenBy new.keys new.live d made) rows origin history entry a b grown store.caused (omega (arith, store.moment, at))
+        (none_past new.keys new.live origin history a none) (λ some. absurd (not_both tally.stopped none some))
 
     -- what a stop recovered to before the history began
     pub begun_next : (a b : Log) → Before → moment_of before.log ≡ moment a → LogGoesOn a b → Stored a → HasBegun found new.keys rows origin b
@@ -254,11 +261,19 @@ module _ (old new : StoreView) (before after : FolderView) (source source' : Ent
         (begun_goes_on found old.keys rows origin history a b grown store.caused (omega (arith, store.moment, at)) stored.begun)
 
     -- no time has gone by since
+    rests_next : (log : Log) → made.moment ≡ moment log → (tally_of origin (history ++ entry ∷ [])).moment ≡ moment log
+    rests_next log at = ap (λ (t : Tally). t.moment) (after_more (tally_at origin) history entry) ∙ at
+
     since_next : (log : Log) → made.moment ≡ moment log → LookAlike (now (log_at log (tally_of origin (history ++ entry ∷ [])).moment)) (now log)
     since_next log at =
         let here : now (log_at log (tally_of origin (history ++ entry ∷ [])).moment) ≡ now log =
-        ap (λ (m : ℕ). now (log_at log m)) (ap (λ (t : Tally). t.moment) (after_more (tally_at origin) history entry) ∙ at) ∙ ap now (at_its_end log) in
+        ap (λ (m : ℕ). now (log_at log m)) (rests_next log at) ∙ ap now (at_its_end log) in
         subst (λ (d : Disk). LookAlike d (now log)) (sym here) (looks_itself (now log))
+
+    -- it runs on
+    none_next : Before → turn.commit_failed ≡ false → IsNone (tally_of origin (history ++ entry ∷ [])).stopped
+    none_next store whole =
+        subst (λ (o : Option ℕ). IsNone o) (sym (ap (λ (t : Tally). t.stopped) (after_more (tally_at origin) history entry) ∙ ap (λ (b : Bool). cond b (Some tally.count) tally.stopped) whole)) (not_stopped is.running store)
 
     -- whose commits all came through
     runs_next : (log : Log) → Before → turn.commit_failed ≡ false → made.moment ≡ moment log → AreAnswered rows (tally_at origin) history → IsAnswered (rows_after rows history) made → WaitsOn log → (contents : ℕ → Content)
@@ -267,6 +282,9 @@ module _ (old new : StoreView) (before after : FolderView) (source source' : Ent
         → ArePlaced new.keys rows origin (history ++ entry ∷ []) log → StoredNext log
     runs_next log store whole at answered so waits contents stands same running begun placed = record {
       placed = placed;
+      placed_since = none_past new.keys new.live origin (history ++ entry ∷ []) log (none_next store whole);
+      left = λ some. absurd (not_both (tally_of origin (history ++ entry ∷ [])).stopped (none_next store whole) some);
+      rests = λ some. rests_next log at;
       begun = begun;
       state = λ opened from. state_next opened log (running_state Shows opened rows origin history entry new.waiting log (not_stopped is.running store) whole (running opened from));
       waits = λ none. waits;
@@ -333,21 +351,54 @@ module _ (old new : StoreView) (before after : FolderView) (source source' : Ent
     pub flagged : turn.commit_failed ≡ true → (next tally entry).stopped ≡ Some tally.count
     flagged failed = ap (λ (b : Bool). cond b (Some tally.count) tally.stopped) failed
 
+    same_stepped : (contents contents' : ℕ → Content) → wrapped (rows_after rows history) ≡ wrapped (live_rows contents old.live)
+        → wrapped (live_rows contents' new.live) ≡ wrapped (step (live_rows contents old.live) turn.asked.request turn.asked.second).rows → wrapped (rows_stepped (rows_after rows history) made) ≡ wrapped (live_rows contents' new.live)
+    same_stepped contents contents' current shows = (steps_are_same (rows_after rows history) (live_rows contents old.live) turn.asked.request turn.asked.second current).rows ∙ sym shows
+
     shows_stepped : (d : Disk) (contents contents' : ℕ → Content) → wrapped (rows_after rows history) ≡ wrapped (live_rows contents old.live) → StandsOn s d new.live new.claims contents'
         → wrapped (live_rows contents' new.live) ≡ wrapped (step (live_rows contents old.live) turn.asked.request turn.asked.second).rows → Shows d (rows_stepped (rows_at rows history (length history)) made)
     shows_stepped d contents contents' current stands shows =
         subst (λ (r : Rows). HasTree s d (rows_stepped r made)) (rows_all rows history)
-        (stands_shows s d new.live new.claims contents' (rows_stepped (rows_after rows history) made) stands
-        ((steps_are_same (rows_after rows history) (live_rows contents old.live) turn.asked.request turn.asked.second current).rows ∙ sym shows))
+        (stands_shows s d new.live new.claims contents' (rows_stepped (rows_after rows history) made) stands (same_stepped contents contents' current shows))
+
+    -- the entry counts for nothing in the rows
+    rows_stay : turn.asked.reply ≡ refused refusals.DeviceFault → rows_after rows (history ++ entry ∷ []) ≡ rows_after rows history
+    rows_stay reply =
+        let so_far = rows_after rows history in
+        rows_after_more rows history entry ∙ ap (λ (r : PlainReply). cond (is_refusal r) so_far (step so_far turn.asked.request turn.asked.second).rows) reply
+
+    -- its change is in the tree in memory
+    left_changed : (contents contents' : ℕ → Content) → turn.commit_failed ≡ true → turn.asked.reply ≡ refused refusals.DeviceFault → wrapped (rows_after rows history) ≡ wrapped (live_rows contents old.live)
+        → wrapped (live_rows contents' new.live) ≡ wrapped (step (live_rows contents old.live) turn.asked.request turn.asked.second).rows → HasRowsLeft new rows (history ++ entry ∷ [])
+    left_changed contents contents' failed reply current shows = record {
+      contents = contents';
+      current = inr (record {
+        number = length history;
+        entry = entry;
+        there = at_last history entry;
+        failed = failed;
+        stepped = ap (λ (r : Rows). wrapped (rows_stepped r made)) (rows_stay reply) ∙ same_stepped contents contents' current shows;
+      });
+    }
+
+    -- or the tree is the one that it was
+    pub left_same : turn.asked.reply ≡ refused refusals.DeviceFault → new.live ≡ old.live → (d : Disk) → HasRows old d rows history → HasRowsLeft new rows (history ++ entry ∷ [])
+    left_same reply live d has = record {
+      contents = has.contents;
+      current = inl (ap wrapped (rows_stay reply) ∙ has.current ∙ ap (λ (t : HeldTree). wrapped (live_rows has.contents t)) (sym live));
+    }
 
     -- nothing more is said of the tree in memory
     stops_tree : {P : Type 0} → turn.commit_failed ≡ true → IsNone (tally_of origin (history ++ entry ∷ [])).stopped → P
     stops_tree failed none = absurd (none_not_some (tally_of origin (history ++ entry ∷ [])).stopped tally.count none (ap (λ (t : Tally). t.stopped) (after_more (tally_at origin) history entry) ∙ flagged failed))
 
-    pub broken_next : (a b : Log) → Before → turn.commit_failed ≡ true → moment_of before.log ≡ moment a → LogGoesOn a b → Stored a → AllowedOn (laid old.waiting (now a)) → TakenOn (now a)
-        → ((opened : ℕ) → IsSaidFrom found origin opened → IsBroken Shows opened rows (history ++ entry ∷ []) b) → StoredNext b
-    broken_next a b store failed was grown stored allowed taken broken = record {
+    pub broken_next : (a b : Log) → Before → turn.commit_failed ≡ true → moment_of before.log ≡ moment a → made.moment ≡ moment b → LogGoesOn a b → Stored a → AllowedOn (laid old.waiting (now a)) → TakenOn (now a)
+        → HasRowsLeft new rows (history ++ entry ∷ []) → ((opened : ℕ) → IsSaidFrom found origin opened → IsBroken Shows opened rows (history ++ entry ∷ []) b) → StoredNext b
+    broken_next a b store failed was at grown stored allowed taken left broken = record {
       placed = placed_next a b store was grown stored taken;
+      placed_since = placed_since_next a b store was grown;
+      left = λ some. left;
+      rests = λ some. rests_next b at;
       begun = begun_next a b store was grown stored;
       state = λ opened from. state_next opened b (broken_state Shows opened rows origin history entry new.waiting b (inl failed) (broken opened from));
       waits = λ none. stops_tree failed none;
@@ -362,7 +413,8 @@ module _ (old new : StoreView) (before after : FolderView) (source source' : Ent
         let has : HasRows old (now a) rows history = has_idle none a store stored in
         let to = change.makes.stepped has.contents has.stands in
         let shows = shows_stepped change.makes.after has.contents to.contents has.current to.stands to.shows in
-        broken_next a b store failed was (leaves_go_on a b (IsBeforeOrAfter (now a) change.makes.after) (change.any_moment change.makes.after change.makes.does)) stored allowed taken
+        broken_next a b store failed was at (leaves_go_on a b (IsBeforeOrAfter (now a) change.makes.after) (change.any_moment change.makes.after change.makes.does)) stored allowed taken
+        (left_changed has.contents to.contents failed reply has.current to.shows)
         (λ opened from. breaks Shows opened rows (shows_blind old.keys) history change.deeds a b entry change.makes.after change.makes.repeatable (runs_idle none a store stored opened from) change.makes.does shows at failed
         ((stable store).held (unkept reply)) change.any_moment)
 
@@ -446,7 +498,8 @@ module _ (old new : StoreView) (before after : FolderView) (source source' : Ent
     unflushed_on : (a b : Log) → Before → moment_of before.log ≡ moment a → made.moment ≡ moment b → Stored a → AllowedOn (laid old.waiting (now a)) → TakenOn (now a) → AnyMoment old.waiting a b → StoredNext b
     unflushed_on a b store was at stored allowed taken any =
         let waits : CanWait old.waiting (now a) = stored.waits (not_stopped is.is_turn.running store) in
-        broken_next is.is_turn a b store is.stops.failed was (leaves_go_on a b (IsBeforeOrAfter (now a) (laid old.waiting (now a))) (any (laid old.waiting (now a)) waits.does)) stored allowed taken
+        broken_next is.is_turn a b store is.stops.failed was at (leaves_go_on a b (IsBeforeOrAfter (now a) (laid old.waiting (now a))) (any (laid old.waiting (now a)) waits.does)) stored allowed taken
+        (left_same is.is_turn is.stops.reply is.live (laid old.waiting (now a)) (stored.tree (not_stopped is.is_turn.running store)))
         (λ opened from. stays_broken Shows opened rows origin history b entry
         (settles_broken Shows opened rows (shows_blind old.keys) history old.waiting a b (is_repeatable old.waiting waits.pending) (runs is.is_turn a store stored opened from) any) at (same_stable is.stops.reply))
 

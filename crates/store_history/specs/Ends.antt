@@ -18,7 +18,7 @@ use Rattle.name_places.specs.Claims.{AreClaimsOf}
 use Rattle.stop_history.specs.Prefix.{StopsRecover, BeginningRecovers, IsWhole}
 use Rattle.stop_history.specs.Opening.{IsSoundlyFound, OpeningRecovers}
 use Rattle.deeds.specs.Deeds.{LogGoesOn}
-use Rattle.store_history.specs.Store.{StoreView, ArePlaced, IsSaidFrom, IsStoreOf, moment_of, shows_under}
+use Rattle.store_history.specs.Store.{StoreView, ArePlaced, ArePlacedSince, IsSaidFrom, IsStoreOf, moment_of, shows_under}
 
 -- the rows of what a found disk recovers to, of a vault that is unlocked at this second; there are no more of them than a tree may have nodes
 pub record IsFoundClear (keys : KeyPair) (disk : Disk) (unlocked : ℕ) (rows : Rows) : Type 0 where
@@ -81,6 +81,7 @@ pub record IsCutShort (found : Option Log) (store : StoreView) (after : FolderVi
   pub grown : Changes found after.log LogGoesOn
   pub opened : Changes found after.log (λ old new. HasOpened old (log_at new origin.moment))
   pub placed : Told after.log (ArePlaced store.keys rows origin history)
+  pub placed_since : Told after.log (ArePlacedSince store.keys store.live origin history)
   pub recover : Recovers found store.keys after rows origin history
   pub moment : (tally_of origin history).moment ≤ moment_of after.log
 

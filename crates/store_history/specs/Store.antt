@@ -1,5 +1,5 @@
 -- What an open vault stands for: a legal history of the plain file tree, and what a stop at each moment of it recovers to.
-use Rattle.std.specs.Prelude.{◌≡◌, ◌⊎◌, ℕ, suc, ◌≤◌, ◌^◌, ◌-◌, min, List, length, take, Option, Some, IsNone, IsSomeAnd}
+use Rattle.std.specs.Prelude.{◌≡◌, ◌⊎◌, ℕ, suc, ◌≤◌, ◌^◌, ◌-◌, min, List, length, take, true, Option, Some, IsNone, IsSome, IsSomeAnd}
 use Rattle.std.specs.Option.{option_map, option_map_or}
 use Rattle.outside.specs.Calls.{Changes, Told}
 use Rattle.outside.specs.Disk.{Disk}
@@ -17,7 +17,7 @@ use Rattle.tree_changes.specs.Shapes.{HasTree}
 use Rattle.live_tree.specs.Held.{HeldTree, live_rows}
 use Rattle.node_changes.specs.Changed.{StandsOn}
 use Rattle.node_changes.specs.Placed.{taken_for}
-use Rattle.stop_history.specs.Crash.{DiskShows}
+use Rattle.stop_history.specs.Crash.{DiskShows, rows_stepped}
 use Rattle.stop_history.specs.Stands.{IsInState}
 use Rattle.stop_history.specs.Opening.{IsSoundlyFound}
 use Rattle.stop_history.specs.Prefix.{BeginningRecovers}
@@ -66,6 +66,10 @@ pub record HasRows (store : StoreView) (disk : Disk) (rows : Rows) (history : Li
   pub stands : StandsOn (sealing_of store.keys) disk store.live store.claims contents
   pub current : wrapped (rows_after rows history) ≡ wrapped (live_rows contents store.live)
 
+-- the place that an entry names as taken is the one that is taken for its request on this disk, by this tree in memory
+abbrev pub IsTakenBy : KeyPair → HeldTree → Disk → Made → Type 0
+IsTakenBy keys live disk made = made.taken ≡ taken_for (sealing_of keys) disk live made.asked.request made.drawn
+
 -- The place that an entry names as taken is the one that is taken for its request on a disk, by a tree which has these rows: that of the
 -- disk, but for bytes of files that wait to be written.
 pub record IsPlacedOn (keys : KeyPair) (disk : Disk) (rows : Rows) (made : Made) : Type 0 where
@@ -76,16 +80,36 @@ pub record IsPlacedOn (keys : KeyPair) (disk : Disk) (rows : Rows) (made : Made)
   pub alike : LookAlike disk later
   pub stands : StandsOn (sealing_of keys) later live claims contents
   pub current : wrapped rows ≡ wrapped (live_rows contents live)
-  pub taken : made.taken ≡ taken_for (sealing_of keys) disk live made.asked.request made.drawn
+  pub taken : IsTakenBy keys live disk made
 
 -- It is so of each entry until a commit fails, on the disk as it read at the end of the entry before.
 abbrev pub ArePlaced : KeyPair → Rows → Origin → List Entry → Log → Type 0
 ArePlaced keys rows origin history log = (i : ℕ) (entry : Entry) → entry_at history i ≡ Some entry → IsNone (tally_of origin (take i history)).stopped
     → IsPlacedOn keys (now (log_at log (tally_of origin (take i history)).moment)) (rows_at rows history i) entry.made
 
+-- From a failed commit on nothing changes, on the disk or in memory: each entry names the place that is taken by the tree which stays there.
+abbrev pub ArePlacedSince : KeyPair → HeldTree → Origin → List Entry → Log → Type 0
+ArePlacedSince keys live origin history log = (i : ℕ) (entry : Entry) → entry_at history i ≡ Some entry → IsSome (tally_of origin (take i history)).stopped
+    → IsTakenBy keys live (now (log_at log (tally_of origin (take i history)).moment)) entry.made
+
+-- The tree in memory has the rows after the entries with the change of one of them, whose commit failed.
+pub record HasFailedChange (contents : ℕ → Content) (live : HeldTree) (rows : Rows) (history : List Entry) : Type 0 where
+  pub number : ℕ
+  pub entry : Entry
+  pub there : entry_at history number ≡ Some entry
+  pub failed : entry.made.commit_failed ≡ true
+  pub stepped : wrapped (rows_stepped (rows_after rows history) entry.made) ≡ wrapped (live_rows contents live)
+
+-- The rows of the tree that stays in memory once a commit has failed, with some contents of its files, but for versions past 2^32: those after
+-- the entries, or those with the change whose commit it was.
+pub record HasRowsLeft (store : StoreView) (rows : Rows) (history : List Entry) : Type 0 where
+  pub contents : ℕ → Content
+  pub current : (wrapped (rows_after rows history) ≡ wrapped (live_rows contents store.live)) ⊎ HasFailedChange contents store.live rows history
+
 -- A folder's log on which a store stands for a history: a stop at any moment recovers to a prefix of it, which is empty up to the moment at which
 -- it begins; until a commit fails the tree in memory is that of the disk once what waits is done, which can be done; each entry is answered
--- in the rows before it, and names the place that is taken. What was committed since the last entry has changed no more than bytes of files.
+-- in the rows before it, and names the place that is taken. What was committed since the last entry has changed no more than bytes of files; and once
+-- a commit has failed, no moment goes by.
 pub record IsStoredIn (found : Option Log) (store : StoreView) (rows : Rows) (origin : Origin) (history : List Entry) (log : Log) : Type 0 where
   pub state : (opened : ℕ) → IsSaidFrom found origin opened → IsInState (shows_under store.keys) opened rows history store.waiting log (tally_of origin history).stopped
   pub begun : (opened : ℕ) → IsSaidFrom found origin opened → BeginningRecovers (shows_under store.keys) opened origin.moment rows log
@@ -94,6 +118,9 @@ pub record IsStoredIn (found : Option Log) (store : StoreView) (rows : Rows) (or
   pub since : IsNone (tally_of origin history).stopped → LookAlike (now (log_at log (tally_of origin history).moment)) (now log)
   pub answered : AreAnswered rows (tally_at origin) history
   pub placed : ArePlaced store.keys rows origin history log
+  pub placed_since : ArePlacedSince store.keys store.live origin history log
+  pub left : IsSome (tally_of origin history).stopped → HasRowsLeft store rows history
+  pub rests : IsSome (tally_of origin history).stopped → (tally_of origin history).moment ≡ moment log
 
 -- A store stands for a history from given rows and counts on, over a folder that was found with this log: its entries have their causes, and
 -- where the folder tells its log, it stands for them on that, and the history begins at a moment at which the journal had been opened.

@@ -155,10 +155,11 @@ pub record IsFlushed (old new : StoreView) (before after : FolderView) : Type 0 
   pub committed : Changes before.log after.log (HasCommitted old.waiting)
   pub any_moment : Changes before.log after.log (AnyMoment old.waiting)
 
--- that commit failed, before a request's own work: the store stops
+-- that commit failed, before a request's own work: the store stops, with the tree that it had in memory
 pub record IsUnflushedTurn (old new : StoreView) (before after : FolderView) (source source' : EntropyView) (turn : Turn) : Type 0 where
   pub is_turn : IsTurn old new before after source source' turn
   pub stops : StopsStore old new turn
+  pub live : new.live ≡ old.live
   pub allowed : IsAllowed old before (made_of turn before after source source')
   pub any_moment : Changes before.log after.log (AnyMoment old.waiting)
 
