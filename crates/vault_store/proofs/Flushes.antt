@@ -95,16 +95,17 @@ module _ (keys keys' : KeyPair) (live live' : HeldTree) (claims claims' : List (
   fault_asked : (buffer : List ℕ) → ◌≡◌ {A = Asked} (record { request = request; second = second; reply = refused refusals.DeviceFault; bytes = [] }) (asked_of request second (refused refusals.DeviceFault) buffer)
   fault_asked buffer = ap (λ (bytes : List ℕ). record { request = request; second = second; reply = refused refusals.DeviceFault; bytes = bytes }) (sym (no_bytes request refusals.DeviceFault buffer))
 
-  pub not_flushed : (buffer : List ℕ) → IsCome keys keys' before after source source' request None → Rose before.faults after.faults → MayCommit request
+  pub not_flushed : (buffer : List ℕ) → IsCome keys keys' before after source source' request None → live' ≡ live → Rose before.faults after.faults → MayCommit request
       → Told before.log (λ log. IsLate s request (laid waiting (now log)) live claims) → Changes before.log after.log (AnyMoment waiting)
       → HasNotFlushed old new before after source source' request second buffer buffer
-  not_flushed buffer come rose can late any = record {
+  not_flushed buffer come same rose can late any = record {
     turn = record {
       turn = turn waiting before come (refused refusals.DeviceFault) true;
       same = fault_asked buffer;
       is = record {
         is_turn = turn_from waiting before come (Some entries) (refused refusals.DeviceFault) true rose refl;
         stops = record { named = refl; failed = refl; reply = refl; may_commit = can };
+        live = same;
         allowed = told_shown waiting before.log
             (λ d. (contents : ℕ → Content) → StandsOn s d live claims contents → IsAnswered (live_rows contents live) (made waiting before come (refused refusals.DeviceFault) true))
             (told_late before.log late);
@@ -241,14 +242,14 @@ module _ (keys keys' : KeyPair) (live live' : HeldTree) (claims claims' : List (
       → IfRefused error (λ refusal. IsUnchanged live live' claims claims' before.log after.log) → IfRefused error (λ refusal. Told before.log (λ log. waiting' ≡ waiting))
       → ErrCause request (Rose before.faults after.faults) (Rose source.faults source'.faults) error → IfRefused error (ContentCause (Rose before.faults after.faults) (Rose source.faults source'.faults))
       → IfRefused error (λ refusal. Told (disk_in (option_map (laid_log waiting) before.log)) (λ d. MayRefuse (sealing_of keys) request second None refusal d live claims))
-      → MayCommit request → IfBroken error (Changes before.log after.log Fails) → Comes result buffer
-  put_err (change_errs.Refused refusal) result buffer is broken same waits cause own may commits failed =
+      → MayCommit request → live' ≡ live → IfBroken error (Changes before.log after.log Fails) → Comes result buffer
+  put_err (change_errs.Refused refusal) result buffer is broken same waits cause own may commits kept failed =
       subst (λ (r : Result Reply Broken). Comes r buffer) (sym is)
       (refused_outcome (waits_in keys live claims waiting entries) (waits_in keys' live' claims' waiting' entries) before after source source' request second can refusal buffer
       (content_refused keys keys' live live' claims claims' entries (over waiting before) (over waiting' after) source source' request second come_over refusal buffer (unchanged_over same waits) cause own may))
-  put_err change_errs.Broken (Ok reply) buffer is broken same waits cause own may commits failed = let no : false ≡ true = broken in absurd cc
-  put_err change_errs.Broken (Err b) buffer is broken same waits cause own may commits failed =
-      inl (not_flushed keys keys' live live' claims claims' waiting waiting' entries before after source source' request second buffer come cause commits
+  put_err change_errs.Broken (Ok reply) buffer is broken same waits cause own may commits kept failed = let no : false ≡ true = broken in absurd cc
+  put_err change_errs.Broken (Err b) buffer is broken same waits cause own may commits kept failed =
+      inl (not_flushed keys keys' live live' claims claims' waiting waiting' entries before after source source' request second buffer come kept cause commits
       (told_first before.log after.log Fails (λ log. IsLate (sealing_of keys) request (laid waiting (now log)) live claims) (λ x y is. is.late) failed)
       (changed_by before.log after.log Fails (AnyMoment waiting) (λ x y is. is.any_moment) failed))
 
@@ -258,7 +259,7 @@ pub flush_failed : (tree tree' : VaultTree) (waiting waiting' : List PlainDeed) 
     → IsOutcome (view_of tree waiting entries None) (view_of tree' waiting' entries None) before after source source request second (Err broken) buffer buffer
 flush_failed tree tree' waiting waiting' entries before after source request second broken buffer same later rose can late any =
     inl (not_flushed tree.keys tree'.keys tree.live tree'.live tree.claims tree'.claims waiting waiting' entries before after source source request second buffer
-    (come_undrawn tree.keys tree'.keys before after source request (ap (λ (t : VaultTree). t.keys) same) later) rose can
+    (come_undrawn tree.keys tree'.keys before after source request (ap (λ (t : VaultTree). t.keys) same) later) (ap (λ (t : VaultTree). t.live) same) rose can
     (told_always before.log (λ log. IsLate (sealing_of tree.keys) request (laid waiting (now log)) tree.live tree.claims) (λ log. late (laid waiting (now log)))) any)
 
 -- ---- removals that are refused early

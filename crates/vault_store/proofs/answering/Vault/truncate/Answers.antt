@@ -65,7 +65,7 @@ returns-in-Err-clause-outcome g c = λ entries buffer.
     (come_drawing tree.keys new.keys before after source source' request c.in-Err.ensures.keys c.in-Err.ensures.later c.in-Err.ensures.entropy c.in-Err.ensures.drawn (λ no. no))
     (rest_waits (sealing_of tree.keys) tree.live tree.claims back.waiting before.log c.requires.rest)
     c.in-Err.error c.refused.result buffer c.refused.ensures.refused c.refused.ensures.broken c.in-Err.ensures.unchanged c.in-Err.ensures.waiting (c.in-Err.ensures.cause request) c.in-Err.ensures.own
-    (c.in-Err.ensures.refused request answer resizing) c.requires.cuts (c.in-Err.ensures.broken request answer resizing)
+    (c.in-Err.ensures.refused request answer resizing) c.requires.cuts c.in-Err.ensures.same_live (c.in-Err.ensures.broken request answer resizing)
 
 pub changed_qid-qid-requires : goal.changed_qid-qid-requires
 changed_qid-qid-requires g c = (0, subst (λ (l : HeldTree). IsResizable l c.args.number 0) (c.live.ensures ∙ sym c.live-2.ensures) c.in_default.ensures.allowed)

@@ -71,4 +71,4 @@ returns-in-Err-clause-outcome g c = λ entries buffer.
     put_err tree.keys new.keys tree.live new.live tree.claims new.claims back.waiting c.write.new.back.waiting entries before after source source' request c.args.now
     (come_drawing tree.keys new.keys before after source source' request c.in-Err.ensures.keys c.in-Err.ensures.later c.in-Err.ensures.entropy c.in-Err.ensures.drawn (λ no. no))
     (rest_waits (sealing_of tree.keys) tree.live tree.claims back.waiting before.log c.requires.rest)
-    c.in-Err.error c.refused.result buffer c.refused.ensures.refused c.refused.ensures.broken c.in-Err.ensures.unchanged c.in-Err.ensures.waiting c.in-Err.ensures.cause c.in-Err.ensures.own c.in-Err.ensures.refused tt c.in-Err.ensures.broken
+    c.in-Err.error c.refused.result buffer c.refused.ensures.refused c.refused.ensures.broken c.in-Err.ensures.unchanged c.in-Err.ensures.waiting c.in-Err.ensures.cause c.in-Err.ensures.own c.in-Err.ensures.refused tt c.in-Err.ensures.same_live c.in-Err.ensures.broken
