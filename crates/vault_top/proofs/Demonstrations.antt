@@ -135,17 +135,17 @@ unlocked_keys secret bytes disk vault keys same is h =
     let one : with_raw_threshold keys ≡ vault = cc in
     sym (ap (λ (v : UnlockedVault). v.keys) one)
 
--- the text of a demonstration that was held
-pub record IsHeldAs (d : Demonstration) (written : List ℕ) : Type 0 where
+-- the text of a demonstration that was held, whose vault's store was closed so
+pub record IsHeldAs (d : Demonstration) (written : List ℕ) (closed : ClosedVault) : Type 0 where
   pub text : List ℕ
   pub is : written ≡ line text
-  pub held : HasHeld d text
+  pub held : HasHeld d text closed
 
 module _ (d : Demonstration) (secret : Course SourceView) (folder : Holding) (kept : Kept Holding) (workers' : List (Worker Links Drawing)) (keys : KeyPair) (written : List ℕ)
     (secret_is : secret.before ≡ record { left = Some (key_line d.seed); faults = 0 }) (keys_are : raw_keys (line_of (key_line d.seed)) ≡ Some keys) (empty : IsEmptyVault keys folder) where
   held_by : (whole : IsServedWhole own_views (own_span d secret folder kept.folder workers' kept.store) RawKeys d.clients d.clients kept.store.store.entries)
       → ((shown : Rows) → HasTree (sealing_of keys) (now kept.folder.log) shown → SumsUp (record { seed = d.seed; clients = d.clients; requests = d.requests }) kept.store.store.entries shown written)
-      → IsHeldAs d written
+      → IsHeldAs d written kept.store
   held_by whole sums =
       let history = whole.served.history in
       let same : whole.served.vault.keys ≡ keys =
@@ -164,7 +164,6 @@ module _ (d : Demonstration) (secret : Course SourceView) (folder : Holding) (ke
           folder = folder;
           kept = kept.folder;
           workers_left = workers';
-          closed = kept.store;
           sessions = whole;
           empty = subst (λ (k : KeyPair). IsEmptyVault k folder) (sym same) empty;
           rows = summed.rows;
@@ -180,15 +179,14 @@ module _ (d : Demonstration) (secret : Course SourceView) (folder : Holding) (ke
 
   held_where : IsServedWhole own_views (own_span d secret folder kept.folder workers' kept.store) RawKeys d.clients (min d.clients (length (workers_of d.seed d.clients d.requests))) kept.store.store.entries
       → ((shown : Rows) → HasTree (sealing_of keys) (now kept.folder.log) shown → SumsUp (record { seed = d.seed; clients = d.clients; requests = d.requests }) kept.store.store.entries shown written)
-      → IsHeldAs d written
+      → IsHeldAs d written kept.store
   held_where whole sums =
       held_by (subst (λ (m : ℕ). IsServedWhole own_views (own_span d secret folder kept.folder workers' kept.store) RawKeys d.clients m kept.store.store.entries) workers_many whole) sums
 
--- what was done with these scripts
-pub record HasDone (scripts : Scripts) (written : List ℕ) : Type 0 where
+-- what was done with these scripts, and kept
+pub record HasDone (scripts : Scripts) (kept : Kept Holding) (written : List ℕ) : Type 0 where
   pub secret : Course SourceView
   pub folder : Holding
-  pub kept : Kept Holding
   pub workers : List (Worker Links Drawing)
   pub workers' : List (Worker Links Drawing)
   pub keys : KeyPair
@@ -199,13 +197,13 @@ pub record HasDone (scripts : Scripts) (written : List ℕ) : Type 0 where
   pub whole : IsServedWhole own_views (span_of own_views [] secret (Some 0) folder kept.folder workers workers' (Some kept.store)) RawKeys scripts.clients (min scripts.clients (length workers)) kept.store.store.entries
   pub sums : (shown : Rows) → HasTree (sealing_of keys) (now kept.folder.log) shown → SumsUp scripts kept.store.store.entries shown written
 
-done_with : (d : Demonstration) (written : List ℕ) → HasDone (record { seed = d.seed; clients = d.clients; requests = d.requests }) written → IsHeldAs d written
-done_with d written h =
-    held_where d h.secret h.folder h.kept h.workers' h.keys written h.secret_is h.keys_are h.empty
-    (subst (λ (w : List (Worker Links Drawing)). IsServedWhole own_views (span_of own_views [] h.secret (Some 0) h.folder h.kept.folder w h.workers' (Some h.kept.store)) RawKeys d.clients (min d.clients (length w)) h.kept.store.store.entries)
+done_with : (d : Demonstration) (kept : Kept Holding) (written : List ℕ) → HasDone (record { seed = d.seed; clients = d.clients; requests = d.requests }) kept written → IsHeldAs d written kept.store
+done_with d kept written h =
+    held_where d h.secret h.folder kept h.workers' h.keys written h.secret_is h.keys_are h.empty
+    (subst (λ (w : List (Worker Links Drawing)). IsServedWhole own_views (span_of own_views [] h.secret (Some 0) h.folder kept.folder w h.workers' (Some kept.store)) RawKeys d.clients (min d.clients (length w)) kept.store.store.entries)
     h.workers_are h.whole) h.sums
 
-pub done_as : (d : Demonstration) (scripts : Scripts) (written : List ℕ) → AreScriptsOf d scripts → HasDone scripts written → IsHeldAs d written
-done_as d scripts written are h =
+pub done_as : (d : Demonstration) (scripts : Scripts) (kept : Kept Holding) (written : List ℕ) → AreScriptsOf d scripts → HasDone scripts kept written → IsHeldAs d written kept.store
+done_as d scripts kept written are h =
     let same : scripts ≡ record { seed = d.seed; clients = d.clients; requests = d.requests } = λ i. record { seed = are.seed i; clients = are.clients i; requests = are.requests i } in
-    done_with d written (subst (λ (s : Scripts). HasDone s written) same h)
+    done_with d kept written (subst (λ (s : Scripts). HasDone s kept written) same h)

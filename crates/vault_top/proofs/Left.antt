@@ -5,7 +5,7 @@ use Rattle.outside.specs.Calls.{Changes, Rose, Told}
 use Rattle.outside.specs.declared.stream.Failed.{Failed}
 use Rattle.outside.specs.Images.{Log, log_at, moment}
 use Rattle.outside.specs.Views.{FolderView}
-use Rattle.outside.proofs.Told.{told_then}
+use Rattle.outside.proofs.Told.{told_always, told_then}
 use Rattle.deeds.proofs.Growing.{goes_nowhere}
 use Rattle.siv_mode.specs.Keys.{KeyPair}
 use Rattle.chunk_journal.specs.Opening.{HasOpened}
@@ -13,7 +13,7 @@ use Rattle.tree_model.specs.Rows.{Rows}
 use Rattle.tree_history.specs.History.{Entry, Origin, tally_at, tally_of, AreCaused, IsLegal}
 use Rattle.stop_history.specs.Stands.{IsInState}
 use Rattle.stop_history.specs.Prefix.{BeginningRecovers, IsWhole, StopsRecover}
-use Rattle.store_history.specs.Store.{StoreView, ArePlaced, IsSaidFrom, IsStoredIn, IsStoreOf, bounded, moment_of, shows_under}
+use Rattle.store_history.specs.Store.{StoreView, ArePlaced, ArePlacedSince, HasRowsLeft, IsSaidFrom, IsStoredIn, IsStoreOf, bounded, moment_of, shows_under}
 use Rattle.store_history.specs.Turns.{IsFlushed}
 use Rattle.store_history.proofs.Ends.{closings_recover, stores_recover, stores_are_whole}
 use Rattle.store_history.proofs.Flushed.{flushes_stand}
@@ -81,6 +81,9 @@ module _ (found : Option Log) (store : StoreView) (folder : FolderView) (rows : 
     since = is.since;
     answered = is.answered;
     placed = is.placed;
+    placed_since = is.placed_since;
+    left = λ some. record { contents = (is.left some).contents; current = (is.left some).current };
+    rests = is.rests;
   }
 
   idle_stands : IsSome store.stopped → IsStoreOf found store folder rows origin entries → IsStoreOf found (idle_of store) folder rows origin entries
@@ -144,6 +147,42 @@ module _ (before : FolderView) (store : StoreView) (back folder : FolderView) (r
 
   pub closed_stands : IsLeftWhole closed → IsStoreOf before.log closed.store folder rows origin entries
   closed_stands = stands_when closed.committed how.well how.badly
+
+  -- the places that entries from a failed commit on name, and the rows of the tree in memory then
+  abbrev Since : StoreView → FolderView → Type 0
+  Since kept v = Told v.log (ArePlacedSince kept.keys kept.live origin entries) × Told v.log (λ _. IsSome (tally_of origin entries).stopped → HasRowsLeft kept rows entries)
+
+  since_by : (kept : StoreView) (v : FolderView) → IsStoreOf before.log kept v rows origin entries → Since kept v
+  since_by kept v stands = (
+    told_then v.log (IsStoredIn before.log kept rows origin entries) (ArePlacedSince kept.keys kept.live origin entries) stands.stored (λ log stored. stored.placed_since),
+    told_then v.log (IsStoredIn before.log kept rows origin entries) (λ _. IsSome (tally_of origin entries).stopped → HasRowsLeft kept rows entries) stands.stored (λ log stored. stored.left),
+  )
+
+  -- of a store whose last commit failed, none is past one
+  since_cut : IsCutOff store back folder → Since store folder
+  since_cut cut = (
+    (closings_recover before.log store back folder rows origin entries is cut.running cut.moments).placed_since,
+    told_always folder.log (λ _. IsSome (tally_of origin entries).stopped → HasRowsLeft store rows entries)
+        (λ log some. absurd (never before.log store back rows origin entries (tally_of origin entries).stopped some (none_stopped (tally_of origin entries).stopped store.stopped is.stopped cut.running))),
+  )
+
+  -- what waits has no part in it
+  since_idle : Since store folder → Since (idle_of store) folder
+  since_idle since = (
+    since.0,
+    told_then folder.log (λ _. IsSome (tally_of origin entries).stopped → HasRowsLeft store rows entries) (λ _. IsSome (tally_of origin entries).stopped → HasRowsLeft (idle_of store) rows entries) since.1
+        (λ log left some. record { contents = (left some).contents; current = (left some).current }),
+  )
+
+  since_when : (committed : Result (Unit {0}) Failed) → OnOk committed (IsFlushed store closed.store back folder)
+      → OnErr committed ((IsSome store.stopped × (folder ≡ back)) ⊎ IsCutOff store back folder) → Since closed.store folder
+  since_when (Ok done) well badly = since_by closed.store folder (flushed well)
+  since_when (Err failed) well (inl same) =
+      subst (λ (s : StoreView). Since s folder) (sym how.idle) (subst (λ (v : FolderView). Since (idle_of store) v) (sym same.1) (since_by (idle_of store) back (idle_stands before.log store back rows origin entries same.0 is)))
+  since_when (Err failed) well (inr cut) = subst (λ (s : StoreView). Since s folder) (sym how.idle) (since_idle (since_cut cut))
+
+  pub closed_since : Since closed.store folder
+  closed_since = since_when closed.committed how.well how.badly
 
   -- closed well, no commit had failed, and all entries are on the disk
   flushed_when : (committed : Result (Unit {0}) Failed) → OnOk committed (IsFlushed store closed.store back folder) → IsOk committed → IsFlushed store closed.store back folder

@@ -13,7 +13,7 @@ use Rattle.session_workers.specs.declared.counts.SessionCounts.{SessionCounts}
 use Rattle.session_workers.specs.Workers.{MayStop, ListenerFailed, SomeFailed}
 use Rattle.shared_sessions.specs.declared.workers.Worker.{Worker}
 use Rattle.stop_history.specs.Prefix.{IsWhole}
-use Rattle.store_history.specs.Store.{StoreView, IsStoreOf, moment_of, shows_under}
+use Rattle.store_history.specs.Store.{StoreView, ArePlacedSince, IsStoreOf, moment_of, shows_under}
 use Rattle.store_history.specs.Ends.{IsFoundClear}
 use Rattle.vault_unlock.specs.Secret.{IsAfterLine}
 use Rattle.vault_unlock.specs.Unlock.{IsUnlocking}
@@ -36,7 +36,7 @@ use Rattle.vault_top.specs.declared.serving.Outcome.{Outcome}
 use Rattle.vault_top.specs.declared.serving.Outcome.TheVariants.{Served, ListenerFault, FolderFault, NoMemory}
 use Rattle.vault_top.specs.declared.task.Service.{Service}
 use Rattle.vault_top.proofs.Handed.{seen_closing}
-use Rattle.vault_top.proofs.Left.{Leaves, closed_stands, failed_closed, left_by, left_closed, none_failed, stops_nowhere, whole_closed}
+use Rattle.vault_top.proofs.Left.{Leaves, closed_since, closed_stands, failed_closed, left_by, left_closed, none_failed, stops_nowhere, whole_closed}
 use Rattle.vault_top.proofs.Callers.{faults_stay, all_drawn, callers_at, faults_at, spans_count, before_same, none_past}
 use Rattle.vault_top.proofs.Shares.{shares_as, may_stop, on_error}
 
@@ -85,12 +85,15 @@ module _ {D : Type 0} (since : FolderView → KeyPair → Rows → Type 0) (view
     failed_under : IsErr closed.committed → IsSome (tally_of origin entries).stopped ⊎ Rose (tally_of origin entries).folder_faults (view kept).faults
     failed_under bad = failed_closed right.start store.store (view store.folder) (view kept) rows origin entries right.stands closed seen bad
 
+    keys_closed : closed.store.keys ≡ begun.vault.keys
+    keys_closed = ap (λ (s : StoreView). s.keys) how.idle ∙ sym begun.keys_are
+
     -- the closed store, which is handed back
     handed : (back : Option ClosedVault) → back ≡ Some closed → IsHandedBack begun.vault.keys rows origin entries (view folder) (view kept) back
     handed back is = record {
       closed = closed;
       is = is;
-      keys_are = ap (λ (s : StoreView). s.keys) how.idle ∙ sym begun.keys_are;
+      keys_are = keys_closed;
       store = store.store;
       folder = view store.folder;
       later = later;
@@ -98,6 +101,9 @@ module _ {D : Type 0} (since : FolderView → KeyPair → Rows → Type 0) (view
       closing = seen;
       stands = λ whole. subst (λ (v : FolderView). IsStoreOf v.log closed.store (view kept) rows origin entries) begun.folder_is
           (closed_stands right.start store.store (view store.folder) (view kept) rows origin entries right.stands closed seen whole);
+      placed_since = subst (λ (keys : KeyPair). Told (view kept).log (ArePlacedSince keys closed.store.live origin entries)) keys_closed
+          (closed_since right.start store.store (view store.folder) (view kept) rows origin entries right.stands closed seen).0;
+      left = (closed_since right.start store.store (view store.folder) (view kept) rows origin entries right.stands closed seen).1;
     }
 
 unlocked_by : {D : Type 0} (view : D → FolderView) (secret : Course SourceView) (second : Option ℕ) (folder kept : D) (serving : Serving) (service : Service) (keys : KeyPair) (was : FolderView) (rows : Rows) → IsServiceOf serving service

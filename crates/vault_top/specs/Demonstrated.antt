@@ -30,15 +30,14 @@ workers_of seed clients requests = map (worker_of seed requests) (range_with_len
 abbrev pub own_span : Demonstration → Course SourceView → Holding → Holding → List (Worker Links Drawing) → ClosedVault → Span Ends
 own_span d secret folder kept workers' closed = span_of own_views [] secret (Some 0) folder kept (workers_of d.seed d.clients d.requests) workers' (Some closed)
 
--- It was held: an empty vault, whose keys are the first bytes of stream 0, was served to the clients, each of whom was one session that sent its script. The line
--- sums up the rows after the last entry of the one history of all sessions, with the number of its entries.
-pub record HasHeld (d : Demonstration) (text : List ℕ) : Type 0 where
+-- It was held: an empty vault, whose keys are the first bytes of stream 0, was served to the clients, each of whom was one session that sent its script, and
+-- this is its store, closed. The line sums up the rows after the last entry of the one history of all sessions, with the number of its entries.
+pub record HasHeld (d : Demonstration) (text : List ℕ) (closed : ClosedVault) : Type 0 where
   pub secret : Course SourceView
   pub secret_is : secret.before ≡ record { left = Some (key_line d.seed); faults = 0 }
   pub folder : Holding
   pub kept : Holding
   pub workers_left : List (Worker Links Drawing)
-  pub closed : ClosedVault
   pub sessions : IsServedWhole own_views (own_span d secret folder kept workers_left closed) RawKeys d.clients d.clients closed.store.entries
   pub empty : IsEmptyVault sessions.served.vault.keys folder
   pub rows : List PlainRow

@@ -101,12 +101,15 @@ pub record IsServed {D N C E : Type 0} (views : Views D N C E) (span : Span C) (
   pub words : Ask span.words (serve serving)
   pub sessions : IsServedTo views span (kind_of serving) serving.sessions (sharers serving (length span.workers)) MayStop ends
 
--- the words ask for a demonstration, which was held over objects of its own, and this line sums it up
+-- the words ask for a demonstration, which was held over objects of its own; this line sums it up, and the closed store of its vault is what is
+-- handed back
 pub record IsDemonstration {C : Type 0} (span : Span C) (text : List ℕ) : Type 0 where
   pub demonstration : Demonstration
   pub words : Ask span.words (demo demonstration)
   pub untouched : IsUntouched span
-  pub held : HasHeld demonstration text
+  pub closed : ClosedVault
+  pub is : span.closed ≡ Some closed
+  pub held : HasHeld demonstration text closed
 
 -- why a job isn't done
 abbrev pub IsRefused : {C : Type 0} → Span C → Cause → Type 0
@@ -182,7 +185,7 @@ IsReported sink ending status =
 abbrev pub IsGivenBack : {D : Type 0} → Ending → D → Option D → Type 0
 IsGivenBack ending kept folder = (folder ≡ Some kept) ⊎ ((folder ≡ None) × (ending ≡ no_memory_to_serve))
 
--- a closed store is handed back after each ending of a vault that was served, and after no other
+-- a closed store is handed back after each ending of a vault that was served, that of a demonstration among them, and after no other
 abbrev pub IsStoreLeft : Ending → Option ClosedVault → Type 0
 IsStoreLeft (refused cause) store = IsNone store
 IsStoreLeft usage_said store = IsNone store
@@ -193,7 +196,7 @@ IsStoreLeft (served ends) store = IsSome store
 IsStoreLeft (listener_fault ends) store = IsSome store
 IsStoreLeft (closing_fault ends) store = IsSome store
 IsStoreLeft (no_memory_to_report ends) store = IsSome store
-IsStoreLeft (demonstrated text) store = IsNone store
+IsStoreLeft (demonstrated text) store = IsSome store
 
 -- the workers are those that they were, in their order: each is the one of its place
 pub record HasRun {D N C E : Type 0} (views : Views D N C E) (words : List (List ℕ)) (secret : Course SourceView) (second : Option ℕ) (folder : D) (workers workers' : List (Worker N E)) (sink : Course SinkView) (ended : Ended D) : Type 0 where

@@ -17,7 +17,7 @@ use Rattle.deeds.specs.Deeds.{LogGoesOn}
 use Rattle.chunk_journal.specs.Journal.{AnyMoment}
 use Rattle.chunk_journal.specs.Opening.{HasOpened}
 use Rattle.stop_history.specs.Prefix.{StopsRecover, BeginningRecovers, IsWhole}
-use Rattle.store_history.specs.Store.{StoreView, ArePlaced, IsSaidFrom, IsStoreOf, moment_of, shows_under}
+use Rattle.store_history.specs.Store.{StoreView, ArePlaced, ArePlacedSince, HasRowsLeft, IsSaidFrom, IsStoreOf, moment_of, shows_under}
 use Rattle.store_history.specs.Turns.{IsFlushed, draws_for}
 use Rattle.store_history.specs.Ends.{IsFoundClear}
 use Rattle.vault_store.specs.Open.{ClosedVault, idle_of}
@@ -87,7 +87,8 @@ abbrev pub IsLeftWhole : ClosedVault → Type 0
 IsLeftWhole closed = IsOk closed.committed ⊎ IsSome closed.store.stopped
 
 -- The store that all callers asked is handed back, closed. As the lock gave it back, once all callers had left, it stood for these entries of all their turns over the
--- folder as it was then; closing it left the folder as the run did; and it stands for them on that, unless just the last commit failed.
+-- folder as it was then; closing it left the folder as the run did; and it stands for them on that, unless just the last commit failed. Each entry from a failed commit on
+-- names the place that is taken by its tree in memory, which has the rows after the entries, or those with the change whose commit failed.
 pub record IsHandedBack (keys : KeyPair) (rows : Rows) (origin : Origin) (entries : List Entry) (before after : FolderView) (handed : Option ClosedVault) : Type 0 where
   pub closed : ClosedVault
   pub is : handed ≡ Some closed
@@ -98,6 +99,8 @@ pub record IsHandedBack (keys : KeyPair) (rows : Rows) (origin : Origin) (entrie
   pub stood : IsStoreOf before.log store folder rows origin entries
   pub closing : IsClosing (λ view. view) store folder closed after
   pub stands : IsLeftWhole closed → IsStoreOf before.log closed.store after rows origin entries
+  pub placed_since : Told after.log (ArePlacedSince keys closed.store.live origin entries)
+  pub left : Told after.log (λ _. IsSome (tally_of origin entries).stopped → HasRowsLeft closed.store rows entries)
 
 -- ---- the history
 

@@ -1,8 +1,12 @@
 -- What serving a vault does, step by step.
-use Rattle.std.specs.Prelude.{◌≡◌, ◌⊎◌, ℕ, ◌<◌, ◌-◌, ◌^◌, min, List, [], ◌++◌, length, Option, Some, None, Result, Ok, IsErr, IsOk, IfSome, ⊤}
+use Rattle.std.specs.Prelude.{◌≡◌, ◌⊎◌, ℕ, ◌<◌, ◌-◌, ◌^◌, min, List, [], ◌++◌, length, Option, Some, None, Result, Ok, IsErr, IsOk, IfSome, IsNone, ⊤}
 use Rattle.outside.specs.declared.stream.Failed.{Failed}
 use Rattle.outside.specs.Calls.{Rose}
+use Rattle.outside.specs.Images.{now}
 use Rattle.outside.specs.Views.{FolderView}
+use Rattle.outside_mem.specs.Held.{Holding}
+use Rattle.directory_scan.specs.Format.{sealing_of}
+use Rattle.tree_changes.specs.Shapes.{HasTree}
 use Rattle.tree_model.specs.Rows.{Rows}
 use Rattle.tree_history.specs.History.{Origin}
 use Rattle.session_server.specs.declared.ending.SessionEnd.{SessionEnd}
@@ -30,6 +34,7 @@ use Rattle.vault_top.specs.declared.program.Ended.{Ended}
 use Rattle.vault_top.specs.declared.serving.HandedBack.{HandedBack}
 use Rattle.vault_top.specs.declared.serving.Outcome.{Outcome}
 use Rattle.vault_top.specs.declared.serving.Outcome.TheVariants as outcomes
+use Rattle.vault_top.specs.declared.demonstrating.Demonstrated.{Demonstrated}
 use Rattle.vault_top.specs.declared.demonstrating.Kept.{Kept}
 use Rattle.vault_top.specs.declared.task.Service.{Service}
 use Rattle.vault_top.specs.declared.task.Scripts.{Scripts}
@@ -136,7 +141,20 @@ pub record SumsUp (scripts : Scripts) (entries : ℕ) (shown : Rows) (written : 
   pub left : AreLeft shown rows
   pub is : written ≡ line (summary_line scripts.clients scripts.requests entries rows)
 
--- a demonstration was held and reported; or there was no memory for it, which was reported
-abbrev pub HasDemonstrated : Demonstration → Course SinkView → ℕ → Type 0
-HasDemonstrated d sink status =
-    ((text : List ℕ) × HasHeld d text × IsReported sink (demonstrated text) status) ⊎ IsReported sink (refused Memory) status
+-- what a demonstration leaves: the line of what the kept folder shows, and the kept store
+pub record SumsUpKept (scripts : Scripts) (keys : KeyPair) (kept : Kept Holding) (left : Demonstrated) : Type 0 where
+  pub line_is : (shown : Rows) → HasTree (sealing_of keys) (now kept.folder.log) shown → SumsUp scripts kept.store.store.entries shown left.line.items
+  pub store_is : left.store ≡ kept.store
+
+-- a demonstration was held and reported, and the closed store of its vault is handed back
+pub record IsHeldAndReported {D : Type 0} (d : Demonstration) (sink : Course SinkView) (ended : Ended D) : Type 0 where
+  pub text : List ℕ
+  pub closed : ClosedVault
+  pub store_is : ended.store ≡ Some closed
+  pub held : HasHeld d text closed
+  pub reported : IsReported sink (demonstrated text) ended.status
+
+-- it was held and reported; or there was no memory for it, which was reported, and no store is handed back
+abbrev pub HasDemonstrated : {D : Type 0} → Demonstration → Course SinkView → Ended D → Type 0
+HasDemonstrated d sink ended =
+    IsHeldAndReported d sink ended ⊎ (IsNone ended.store × IsReported sink (refused Memory) ended.status)

@@ -48,7 +48,8 @@ pub record Given : Type 0 where
   pub folder : Course FolderView
   pub second : Option ℕ
 
--- the words after the program's name, what a vault is unlocked by, the workers, and the closed store that is handed back, if a vault was served
+-- the words after the program's name, what a vault is unlocked by, the workers, and the closed store that is handed back, if a vault was served, that
+-- of a demonstration among them
 pub record Span (C : Type 0) : Type 0 where
   pub words : List (List ℕ)
   pub given : Given

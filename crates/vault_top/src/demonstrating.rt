@@ -1,11 +1,7 @@
 //! A demonstration: a vault in memory is served to clients that send their scripts.
 
 ghost use Rattle.std.specs.Prelude.{◌≡◌, ◌≤◌, ℕ, List, min, length, Some, IfOk, IfSome, vec_len};
-ghost use Rattle.outside.specs.Images.{now};
 ghost use Rattle.outside.specs.Views.{folder_view};
-ghost use Rattle.tree_model.specs.Rows.{Rows};
-ghost use Rattle.directory_scan.specs.Format.{sealing_of};
-ghost use Rattle.tree_changes.specs.Shapes.{HasTree};
 ghost use Rattle.masterkey_file.specs.Password.{line_of};
 ghost use Rattle.vault_unlock.specs.Secret.{raw_keys};
 ghost use Rattle.vault_words.specs.Jobs.{Demonstration};
@@ -15,7 +11,7 @@ ghost use Rattle.vault_top.specs.Sharing.{AreBeginnings, IsAlone};
 ghost use Rattle.vault_top.specs.Sessions.{IsServedWhole};
 ghost use Rattle.vault_top.specs.Demonstrated.{HasHeld, workers_of};
 ghost use Rattle.vault_top.specs.Tasks.{AreScriptsOf};
-ghost use Rattle.vault_top.specs.Serving.{IsKeptOf, SumsUp};
+ghost use Rattle.vault_top.specs.Serving.{IsKeptOf, SumsUpKept};
 
 use crate::opening::open_vault;
 use crate::serving::{HandedBack, Outcome, serve_workers};
@@ -47,7 +43,14 @@ pub(crate) struct Kept<D> {
     pub store: ClosedStore,
 }
 
-/// The line that sums up a demonstration, with its LF.
+/// What a demonstration leaves: the line that sums it up, with its LF, and the store of its vault, which was closed.
+#[derive(Drop)]
+pub(crate) struct Demonstrated {
+    pub line: Vec<u8>,
+    pub store: ClosedStore,
+}
+
+/// Holds a demonstration.
 ///
 /// # Errors
 ///
@@ -56,9 +59,9 @@ pub(crate) fn demonstrate<R: Threads + Wait + Sync>(
     rt: &R,
     alloc: Global,
     scripts: Scripts,
-) -> Result<Vec<u8>, AllocError>
+) -> Result<Demonstrated, AllocError>
     requires { (1 ≤ scripts.clients) × (scripts.clients ≤ 64) }
-    ensures { IfOk result (λ written. (d : Demonstration) → AreScriptsOf d scripts → (text : List ℕ) × (written.items ≡ line text) × HasHeld d text) }
+    ensures { IfOk result (λ held. (d : Demonstration) → AreScriptsOf d scripts → (text : List ℕ) × (held.line.items ≡ line text) × HasHeld d text held.store) }
 {
     let line = key_line(alloc, scripts.seed)?;
     let keys = keys_in(alloc, &line)?;
@@ -181,29 +184,29 @@ fn kept_of<D: Drop>(back: HandedBack<D>, sessions: u32) -> Option<Kept<D>>
     })
 }
 
-// Sums up what is left in the folder.
+// Sums up what is left in the folder, and gives the store on.
 fn sum_up(
     alloc: Global,
     scripts: Scripts,
     keys: &VaultKeys,
-    mut kept: Kept<MemFolder>,
-) -> Result<Vec<u8>, AllocError>
-    ensures { IfOk result (λ written. (shown : Rows) → HasTree (sealing_of keys.now) (now kept.folder.log) shown
-        → SumsUp scripts kept.store.store.entries shown written.items) }
+    kept: Kept<MemFolder>,
+) -> Result<Demonstrated, AllocError>
+    ensures { IfOk result (SumsUpKept scripts keys.now kept) }
 {
-    let Ok(tree) = load(alloc, &mut kept.folder, keys, THRESHOLD) else {
+    let Kept { mut folder, store } = kept;
+    let Ok(tree) = load(alloc, &mut folder, keys, THRESHOLD) else {
         return Err(AllocError);
     };
-    let Ok(rows) = rows_left(alloc, &mut kept.folder, keys, &tree) else {
+    let Ok(rows) = rows_left(alloc, &mut folder, keys, &tree) else {
         return Err(AllocError);
     };
     let mut line = summary(
         alloc,
         scripts.clients,
         scripts.requests,
-        kept.store.entries(),
+        store.entries(),
         &rows,
     )?;
     line.push(b'\n')?;
-    Ok(line)
+    Ok(Demonstrated { line, store })
 }

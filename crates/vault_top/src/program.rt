@@ -1,4 +1,4 @@
-ghost use Rattle.std.specs.Prelude.{◌≡◌, ℕ, ◌<◌, ◌≤◌, ◌∷◌, ◌++◌, [], List, Option, OnOk, OnErr, IsErr, vec_len, vec_capacity};
+ghost use Rattle.std.specs.Prelude.{◌≡◌, ℕ, ◌<◌, ◌≤◌, ◌∷◌, ◌++◌, [], List, Option, Some, OnOk, OnErr, IsErr, vec_len, vec_capacity};
 ghost use Rattle.outside.specs.Calls.{HasCause, Changes};
 ghost use Rattle.session_server.specs.declared.ending.SessionEnd.{SessionEnd};
 ghost use Rattle.vault_words.specs.Jobs.{Serving, Demonstration, serve, make};
@@ -15,7 +15,7 @@ ghost use Rattle.tree_history.specs.History.{Origin};
 ghost use Rattle.shared_vault.specs.Turns.{StandsFor};
 ghost use Rattle.shared_sessions.specs.Joined.{AreSince};
 
-use crate::demonstrating::demonstrate;
+use crate::demonstrating::{Demonstrated, demonstrate};
 use crate::making::make_vault;
 use crate::opening::open_vault;
 use crate::report::{counts_line, refuse, report, write_all};
@@ -36,8 +36,8 @@ use vault_words::{USAGE, VERSION, WordsErr};
 /// The status where the report's last line wasn't taken whole.
 const CUT_STATUS: u8 = 4;
 
-/// How the program ended: its exit status; the vault's folder, of which none comes with status 5 alone; and, if the vault was served, the store
-/// that all sessions asked, closed.
+/// How the program ended: its exit status; the vault's folder, of which none comes with status 5 alone; and, if a vault was served, that of a
+/// demonstration among them, the store that all sessions asked, closed.
 #[derive(Drop)]
 pub struct Ended<D> {
     pub status: u8,
@@ -54,7 +54,8 @@ pub struct Ended<D> {
 /// share the sessions, each in a thread of its own where one can be made; a worker whose listener has no more links, or fails, ends before.
 ///
 /// `demo` serves an empty vault in memory, whose keys are drawn from the seed, to so many clients, each of whom sends its script, and sums up the rows
-/// after the last entry of the history of all their sessions. It touches neither `folder` nor the secret nor the workers.
+/// after the last entry of the history of all their sessions. It touches neither `folder` nor the secret nor the workers; the store that is
+/// handed back is that of the vault in memory.
 ///
 /// `make` reads the secret and makes a vault in `folder`, of what it draws from the first worker; from its first sync on a stop leaves no
 /// vault, or the whole of it, even where it fails later. `--help` and `--version` touch nothing. If the secret is accepted, exactly its first line was read.
@@ -63,7 +64,7 @@ pub struct Ended<D> {
 /// |---|---|---|
 /// | 0 | `serving`, then `sessions N done a cut b bad c read d write e memory f limit g` | the vault was served, and no commit failed |
 /// | 0 | `made` | the folder was empty and holds a new vault |
-/// | 0 | `clients M requests R entries E bytes B rows H` | each session of the demonstration ended between two messages |
+/// | 0 | `clients M requests R entries E bytes B rows H` | each session of the demonstration ended between two messages; its vault's store is handed back |
 /// | 0 | `USAGE`; `VERSION` | the words are `--help`; `--version` |
 /// | 1 | `bad words` | the words ask for no job, or for serving at an empty address |
 /// | 2 | `bad secret` | the secret's line is no password, or isn't two keys where keys are wanted |
@@ -116,11 +117,7 @@ where
             rt, alloc, service, folder, workers, secret, out, clock,
         ),
         Ok(Task::Make) => make(alloc, folder, workers, secret, out),
-        Ok(Task::Demo(scripts)) => Ended {
-            status: report_demonstration(rt, alloc, scripts, out),
-            folder: Some(folder),
-            store: None,
-        },
+        Ok(Task::Demo(scripts)) => report_demonstration(rt, alloc, scripts, folder, out),
         Ok(Task::Usage) => Ended {
             status: report(out, USAGE.as_bytes(), 0, CUT_STATUS),
             folder: Some(folder),
@@ -275,19 +272,30 @@ fn announce<O: Sink>(out: &mut O) -> Result<(), Failed>
     write_all(out, b"serving\n")
 }
 
-// Holds a demonstration, and reports it.
-fn report_demonstration<R: Threads + Wait + Sync, O: Sink>(
+// Holds a demonstration, and reports it. The folder is given on as it is.
+fn report_demonstration<R: Threads + Wait + Sync, D, O: Sink>(
     rt: &R,
     alloc: Global,
     scripts: Scripts,
+    folder: D,
     out: &mut O,
-) -> u8
+) -> Ended<D>
     requires { (1 ≤ scripts.clients) × (scripts.clients ≤ 64) }
-    ensures { (d : Demonstration) → AreScriptsOf d scripts → HasDemonstrated d (course (sink_view O.taken O.faults) out.old out.new) result }
+    ensures folder { result.folder ≡ Some folder }
+    ensures demonstrated { (d : Demonstration) → AreScriptsOf d scripts
+        → HasDemonstrated d (course (sink_view O.taken O.faults) out.old out.new) result }
 {
     match demonstrate(rt, alloc, scripts) {
-        Ok(line) => report(out, &line, 0, CUT_STATUS),
-        Err(_) => refuse(out, &Cause::Memory),
+        Ok(Demonstrated { line, store }) => Ended {
+            status: report(out, &line, 0, CUT_STATUS),
+            folder: Some(folder),
+            store: Some(store),
+        },
+        Err(_) => Ended {
+            status: refuse(out, &Cause::Memory),
+            folder: Some(folder),
+            store: None,
+        },
     }
 }
 

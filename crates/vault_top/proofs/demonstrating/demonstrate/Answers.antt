@@ -1,22 +1,19 @@
-use Rattle.std.proofs.Common.{◌≡◌, ◌∙◌, ℕ, List, [], length, min, Some, ap, subst, arith}
+use Rattle.std.proofs.Common.{◌≡◌, ◌∙◌, ℕ, List, [], length, min, Some, sym, ap, subst, arith}
 use Rattle.std.proofs.lemmas.List.FromFn.{length-map-range_with_len}
 use Rattle.std.proofs.lemmas.Result.{IfOk-weaker}
 use Rattle.outside_mem.specs.Links.{Links}
 use Rattle.outside_mem.specs.Streams.{Left}
 use Rattle.outside_mem.specs.Words.{Drawing}
 use Rattle.demo_objects.specs.Objects.{key_line}
-use Rattle.outside.specs.Images.{now}
-use Rattle.tree_model.specs.Rows.{Rows}
-use Rattle.directory_scan.specs.Format.{sealing_of}
-use Rattle.tree_changes.specs.Shapes.{HasTree}
 use Rattle.masterkey_file.specs.Password.{line_of}
+use Rattle.vault_store.specs.Open.{ClosedVault}
 use Rattle.vault_unlock.specs.Secret.{raw_keys}
 use Rattle.vault_unlock.specs.declared.unlocking.SecretKind.TheVariants.{RawKeys}
 use Rattle.shared_sessions.specs.declared.workers.Worker.{Worker}
 use Rattle.vault_top.specs.Span.{course, source_view, span_of}
 use Rattle.vault_top.specs.Sessions.{IsServedWhole}
-use Rattle.vault_top.specs.Demonstrated.{own_views, worker_of}
-use Rattle.vault_top.specs.Serving.{SumsUp}
+use Rattle.vault_top.specs.Demonstrated.{HasHeld, own_views, worker_of}
+use Rattle.vault_top.specs.Serving.{SumsUpKept}
 use Rattle.vault_top.proofs.Demonstrations.{done_as}
 use Rattle.vault_top.proofs.demonstrating.demonstrate.Goals as goal
 
@@ -36,9 +33,8 @@ pub hold_sessions-kept-requires-clause-since : goal.hold_sessions-kept-requires-
 hold_sessions-kept-requires-clause-since g c κs within = record { all = λ start keys rows h. h; only = λ start keys rows h. h }
 
 pub returns-in-Some : goal.returns-in-Some
-returns-in-Some g c = IfOk-weaker c.sum_up.result
-    (λ written. (shown : Rows) → HasTree (sealing_of c.in_ok-keys.keys) (now c.in-Some.kept.folder.log) shown → SumsUp c.args.scripts c.in-Some.kept.store.store.entries shown written.items) _
-    (λ written sums d are.
+returns-in-Some g c = IfOk-weaker c.sum_up.result (SumsUpKept c.args.scripts c.in_ok-keys.keys c.in-Some.kept) _
+    (λ left summed d are.
     let secret = course (source_view (λ (s : Left). Some s.left) (λ (s : Left). s.plan.faults)) c.new-secret.result c.hold_sessions-kept.new.secret in
     let folder = c.in_ok-folder.folder in
     let kept = c.in-Some.kept in
@@ -47,10 +43,9 @@ returns-in-Some g c = IfOk-weaker c.sum_up.result
     let scripts = c.args.scripts in
     let line : c.new-secret.result.left ≡ key_line scripts.seed = ap (λ (s : Left). s.left) c.new-secret.ensures ∙ c.in_ok-line.ensures in
     let faults : c.new-secret.result.plan.faults ≡ 0 = ap (λ (s : Left). s.plan.faults) c.new-secret.ensures in
-    let held = done_as d scripts written.items are (record {
+    let held = done_as d scripts kept left.line.items are (record {
       secret = secret;
       folder = folder;
-      kept = kept;
       workers = workers;
       workers' = workers';
       keys = c.in_ok-keys.keys;
@@ -60,6 +55,6 @@ returns-in-Some g c = IfOk-weaker c.sum_up.result
       workers_are = c.in_ok-workers.ensures;
       whole = subst (λ (second : ℕ). IsServedWhole own_views (span_of own_views [] secret (Some second) folder kept.folder workers workers' (Some kept.store)) RawKeys scripts.clients (min scripts.clients (length workers)) kept.store.store.entries)
           c.new.ensures (c.in-Some.ensures.whole []);
-      sums = sums;
+      sums = summed.line_is;
     }) in
-    (held.text, held.is, held.held)) c.sum_up.ensures
+    (held.text, held.is, subst (λ (closed : ClosedVault). HasHeld d held.text closed) (sym summed.store_is) held.held)) c.sum_up.ensures

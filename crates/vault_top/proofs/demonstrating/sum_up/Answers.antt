@@ -1,4 +1,4 @@
-use Rattle.std.proofs.Common.{◌≡◌, ◌∙◌, ◌++◌, ℕ, [], ◌∷◌, List, map, ap}
+use Rattle.std.proofs.Common.{◌≡◌, ◌∙◌, ◌++◌, ℕ, [], ◌∷◌, List, map, refl, ap}
 use Rattle.demo_work.specs.Summary.{plain_row, summary_line}
 use Rattle.demo_work.specs.declared.rows.DemoRow.{DemoRow}
 use Rattle.vault_top.proofs.demonstrating.sum_up.Goals as goal
@@ -10,10 +10,13 @@ returns c =
     let log = c.in-Ok.ensures.log in
     let same : c.load.new.from.log ≡ c.args.kept.folder.log = cc in
     let left = rw same at c.in-Ok-rows_left.ensures.left in
-    λ shown has. record {
-      rows = lines;
-      left = left c.in-Ok.ensures.loaded shown has;
-      is = c.in_ok-push.ensures.items ∙ ap (λ (text : List ℕ). text ++ 10 ∷ []) (c.in_ok-line.ensures
-          ∙ ap (λ (nodes : List DemoRow). summary_line scripts.clients scripts.requests c.entries.result (map plain_row nodes)) c.deref.ensures.value
-          ∙ ap (λ (n : ℕ). summary_line scripts.clients scripts.requests n lines) c.entries.ensures);
+    record {
+      line_is = λ shown has. record {
+        rows = lines;
+        left = left c.in-Ok.ensures.loaded shown has;
+        is = c.in_ok-push.ensures.items ∙ ap (λ (text : List ℕ). text ++ 10 ∷ []) (c.in_ok-line.ensures
+            ∙ ap (λ (nodes : List DemoRow). summary_line scripts.clients scripts.requests c.entries.result (map plain_row nodes)) c.deref.ensures.value
+            ∙ ap (λ (n : ℕ). summary_line scripts.clients scripts.requests n lines) c.entries.ensures);
+      };
+      store_is = refl;
     }

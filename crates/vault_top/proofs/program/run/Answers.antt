@@ -1,4 +1,6 @@
-use Rattle.std.proofs.Common.{refl, inl, inr}
+use Rattle.std.proofs.Common.{Option, refl, sym, subst, inl, inr}
+use Rattle.std.specs.Prelude.{IsSome}
+use Rattle.vault_store.specs.Open.{ClosedVault}
 use Rattle.vault_causes.specs.declared.cause.Cause.TheVariants.{Words, Memory}
 use Rattle.vault_top.specs.Words.{words_of}
 use Rattle.vault_top.specs.Span.{course, source_view, sink_view, views_of}
@@ -77,9 +79,11 @@ returns-in-Ok-Demo g c =
     let secret = source_view g.S.Source.left g.S.Source.faults c.args.secret.now in
     let sink = course (sink_view g.O.Sink.taken g.O.Sink.faults) c.args.out.now c.report_demonstration.new.out in
     record {
-      run = elim (c.report_demonstration.ensures asked.0 asked.2.are) [
-        | inl h ↦ run_untouched views words secret (g.K.Clock.second c.args.clock.now) c.args.folder c.args.workers.now.items sink _ (demonstrated h.0) refl refl
-            (λ untouched. record { demonstration = asked.0; words = asked.1; untouched = untouched; held = h.1 }) h.2
-        | inr reported ↦ run_badly_asked views words secret (g.K.Clock.second c.args.clock.now) c.args.folder c.args.workers.now.items sink _ Memory refl refl (inr refl) reported
+      run = elim (c.report_demonstration.ensures.demonstrated asked.0 asked.2.are) [
+        | inl h ↦ run_untouched views words secret (g.K.Clock.second c.args.clock.now) c.args.folder c.args.workers.now.items sink c.report_demonstration.result (demonstrated h.text)
+            c.report_demonstration.ensures.folder (subst (λ (store : Option ClosedVault). IsSome store) (sym h.store_is) refl)
+            (λ untouched. record { demonstration = asked.0; words = asked.1; untouched = untouched; closed = h.closed; is = h.store_is; held = h.held }) h.reported
+        | inr h ↦ run_badly_asked views words secret (g.K.Clock.second c.args.clock.now) c.args.folder c.args.workers.now.items sink c.report_demonstration.result Memory
+            c.report_demonstration.ensures.folder h.0 (inr refl) h.1
       ];
     }
