@@ -1,4 +1,5 @@
 pub mod Doubling
+pub mod Padding
 pub mod Chains
 pub mod Counters
 pub mod Sealing

@@ -1,4 +1,4 @@
-use Rattle.std.proofs.Common.{refl, sym, ◌∙◌, true≢false}
+use Rattle.std.proofs.Common.{ℕ, refl, sym, ap, ◌∙◌, true≢false, replicate}
 use Rattle.siv_mode.proofs.Sealing.{accepts, refuses, opens_alone, never_sealed, sealed_is}
 use Rattle.siv_mode.proofs.siv.open.Goals as goal
 
@@ -9,6 +9,9 @@ returns-then-blocks_equal-clause-opened g c =
 pub returns-else-blocks_equal-clause-closed : goal.returns-else-blocks_equal-clause-closed
 returns-else-blocks_equal-clause-closed g c =
     refuses _ _ _ _ _ _ _ c.decrypt-tag.ensures.text c.decrypt-tag.ensures.tag c.s2v.ensures (λ same. true≢false (sym (c.blocks_equal.ensures.1 same) ∙ c.if-blocks_equal.false))
+
+pub returns-else-blocks_equal-clause-refused : goal.returns-else-blocks_equal-clause-refused
+returns-else-blocks_equal-clause-refused g c = c.fill.ensures.after (λ y same. same) ∙ ap (λ (n : ℕ). replicate n 0) c.decrypt-tag.auto.out
 
 pub returns-then-blocks_equal-clause-exact : goal.returns-then-blocks_equal-clause-exact
 returns-then-blocks_equal-clause-exact g c =
