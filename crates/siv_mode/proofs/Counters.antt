@@ -1,8 +1,10 @@
 -- A text xored with the encrypted counters, block by block.
-use Rattle.std.proofs.Common.{◌≡◌, ℕ, zero, suc, ◌+◌, ◌-◌, ◌*◌, ◌/◌, ◌%◌, ◌^◌, ◌<◌, ◌≤◌, min, List, [], ◌∷◌, ◌++◌, length, take, drop, flat_map, sym, ap, ◌∙◌, arith}
+use Rattle.std.proofs.Common.{◌≡◌, ℕ, zero, suc, ◌+◌, ◌-◌, ◌*◌, ◌/◌, ◌%◌, ◌^◌, ◌<◌, ◌≤◌, min, List, [], ◌∷◌, ◌++◌, length, take, drop, flat_map, get_or, inl, inr, sym, ap, ◌∙◌, arith}
+use Rattle.std.specs.Prelude.{slice_set as set}
 use Rattle.std.specs.List.{range_with_len}
+use Rattle.std.proofs.lemmas.Bool.{cases_lt}
 use Rattle.std.proofs.lemmas.Grind.{flat_map-append}
-use Rattle.std.proofs.lemmas.List.{append-nil, append_assoc, length-append, length-take-le, length-drop, take-append-drop, take_all, drop_all, take_at, drop_at, drop-drop, take-take, drop-take, take_min, drop_min}
+use Rattle.std.proofs.lemmas.List.{append-nil, append_assoc, length-append, length-take-le, length-drop, take-append-drop, take_all, drop_all, take_at, drop_at, drop-drop, take-take, drop-take, take_min, drop_min, get_or-set_same, get_or-set_other}
 use Rattle.aes_block.specs.Bytes.{xor_bytes, bytes_of}
 use Rattle.siv_mode.specs.Siv.{first_counter, keystream, counted}
 use Rattle.siv_mode.specs.Counted.{IsCountedTo, encrypted_counter}
@@ -28,6 +30,16 @@ counter_from ctr first start i =
 
 take-add : (m n : ℕ) (xs : List ℕ) → take (m + n) xs ≡ take m xs ++ take n (drop m xs)
 take-add m n xs = sym (take-append-drop m (take (m + n) xs)) ∙ (λ i. take-take m (m + n) xs (omega arith) i ++ drop-take m n xs i)
+
+-- one counter more is set
+pub set_next : (masks : List (List ℕ)) (j : ℕ) (block : List ℕ) (counter : ℕ → List ℕ) → j < length masks → block ≡ counter j
+    → ((k : ℕ) → k < j → get_or masks k [] ≡ counter k) → (k : ℕ) → k < j + 1 → get_or (set masks j block) k [] ≡ counter k
+set_next masks j block counter within is before k below =
+    elim (cases_lt k j) [
+      | inl less ↦ get_or-set_other masks j k block [] (λ same. absurd (omega arith)) ∙ before k less
+      | inr least ↦ (let same : k ≡ j = omega arith in
+          ap (λ (n : ℕ). get_or (set masks j block) n []) same ∙ get_or-set_same masks j block [] within ∙ is ∙ ap counter (sym same))
+    ]
 
 pub counted_more : (ctr : List ℕ → List ℕ) (first : ℕ) (old now part new block : List ℕ) (i k : ℕ)
     → IsCountedTo ctr first old now i → 16 * i < length old → k ≡ min (length old - 16 * i) 16

@@ -6,6 +6,12 @@ pub returns-then-blocks_equal-clause-opened : goal.returns-then-blocks_equal-cla
 returns-then-blocks_equal-clause-opened g c =
     accepts _ _ _ _ _ _ _ c.decrypt-tag.ensures.text c.decrypt-tag.ensures.tag c.s2v.ensures (c.blocks_equal.ensures.0 c.if-blocks_equal.true)
 
+pub returns-then-blocks_equal-clause-closed : goal.returns-then-blocks_equal-clause-closed
+returns-then-blocks_equal-clause-closed g c = tt
+
+pub returns-then-blocks_equal-clause-refused : goal.returns-then-blocks_equal-clause-refused
+returns-then-blocks_equal-clause-refused g c = tt
+
 pub returns-else-blocks_equal-clause-closed : goal.returns-else-blocks_equal-clause-closed
 returns-else-blocks_equal-clause-closed g c =
     refuses _ _ _ _ _ _ _ c.decrypt-tag.ensures.text c.decrypt-tag.ensures.tag c.s2v.ensures (λ same. true≢false (sym (c.blocks_equal.ensures.1 same) ∙ c.if-blocks_equal.false))
