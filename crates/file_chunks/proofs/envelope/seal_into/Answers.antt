@@ -2,7 +2,8 @@ use Rattle.std.proofs.Common.{◌≡◌, ℕ, ◌+◌, ◌-◌, List, ◌++◌, 
 use Rattle.std.proofs.lemmas.List.{take_at, append_assoc}
 use borrow.Rule.Slice.PartMut.{put_mid}
 use Rattle.aes_block.specs.Aes.{aes}
-use Rattle.gcm_mode.specs.Gcm.{gcm_opened, gcm_sealed}
+use Rattle.gcm_mode.specs.Gcm.{gcm_sealed}
+use Rattle.file_chunks.specs.Envelope.{envelope_opens}
 use Rattle.file_chunks.proofs.Envelopes.{written, copied, opens_written}
 use Rattle.file_chunks.proofs.envelope.seal_into.Goals as goal
 
@@ -20,13 +21,18 @@ returns g c =
     let fourth : c.copy_from_slice-3.new.self ≡ tag = c.copy_from_slice-3.ensures.after in
     let long : length nonce ≡ 12 = c.told-nonce in
     let size : length tag ≡ 16 = omega arith in
-    let was : take (12 + length plaintext - 12) (drop 12 (put_mid 12 (12 + length plaintext - 12) (c.copy_from_slice.new.self ++ drop 12 out) c.copy_from_slice-2.new.self)) ≡ plaintext =
-    rw (first, second) (copied nonce plaintext out (12 + length plaintext - 12) (12 + length plaintext - 12) long (omega arith)) in
-    let same : length buf ≡ length plaintext = omega (arith, ap length was) in
-    let sealed : buf ++ tag ≡ gcm_sealed (aes key) nonce ad plaintext = rw was at c.seal_in_place-tag.ensures.sealed in
-    let opened : gcm_opened (aes key) nonce ad buf tag ≡ Some plaintext = rw was at c.seal_in_place-tag.ensures.opens in
-    rw (first, second, fourth, written nonce plaintext buf tag out long same) record {
-      sealed = ap (λ (r : List ℕ). nonce ++ r ++ drop (length plaintext + 28) out) sealed;
-      nonce = ap (take 12) (append_assoc nonce (buf ++ tag) (drop (length plaintext + 28) out)) ∙ take_at nonce (buf ++ tag ++ drop (length plaintext + 28) out) 12 long;
-      opens = opens_written key nonce ad plaintext buf tag out long same size opened;
+    let end = 12 + length plaintext - 12 in
+    let was : take end (drop 12 (put_mid 12 end (c.copy_from_slice.new.self ++ drop 12 out) c.copy_from_slice-2.new.self)) ≡ plaintext =
+    (λ i. take end (drop 12 (put_mid 12 end (first i ++ drop 12 out) (second i)))) ∙ copied nonce plaintext out end end long (omega arith) in
+    let same : length buf ≡ length plaintext = c.seal_in_place-tag.auto.buf ∙ ap length was in
+    let rest = drop (length plaintext + 28) out in
+    let whole : put_mid (12 + length plaintext) (12 + length plaintext + 16 - (12 + length plaintext)) (put_mid 12 end (put_mid 12 end (c.copy_from_slice.new.self ++ drop 12 out) c.copy_from_slice-2.new.self) buf) c.copy_from_slice-3.new.self
+    ≡ nonce ++ (buf ++ tag) ++ rest =
+    (λ i. put_mid (12 + length plaintext) (12 + length plaintext + 16 - (12 + length plaintext)) (put_mid 12 end (put_mid 12 end (first i ++ drop 12 out) (second i)) buf) (fourth i))
+    ∙ written nonce plaintext buf tag out long same in
+    record {
+      sealed = whole ∙ ap (λ (r : List ℕ). nonce ++ r ++ rest) (c.seal_in_place-tag.ensures.sealed ∙ ap (gcm_sealed (aes key) nonce ad) was);
+      nonce = ap (take 12) (whole ∙ append_assoc nonce (buf ++ tag) rest) ∙ take_at nonce (buf ++ tag ++ rest) 12 long;
+      opens = ap (λ (o : List ℕ). envelope_opens key ad (take (length plaintext + 28) o)) whole
+          ∙ opens_written key nonce ad plaintext buf tag out long same size (c.seal_in_place-tag.ensures.opens ∙ ap Some was);
     }
