@@ -3,7 +3,7 @@ ghost use Rattle.outside.specs.Calls.{Changes, HasCause, Told};
 ghost use Rattle.outside.specs.Disk.{IsFolder};
 ghost use Rattle.outside.specs.Images.{disk_in, now as disk_now};
 ghost use Rattle.outside.specs.Views.{folder_view, entropy_view};
-ghost use Rattle.chunk_journal.specs.Opening.{HasOpened, IsDamagedAt, LeavesFolder, StaysOpening};
+ghost use Rattle.chunk_journal.specs.Opening.{HasOpened, IsDamagedAt, IsLeftApplied, LeavesFolder, StaysOpening};
 ghost use Rattle.clear_tree.specs.Kept.{KeptTree};
 ghost use Rattle.directory_scan.specs.Format.{sealing_of};
 ghost use Rattle.tree_model.specs.Asked.{CanAsk, plain_request};
@@ -61,6 +61,8 @@ impl<D: Folder> Vault<D> {
         ensures later { IfOk result (λ vault. D.faults folder ≤ D.faults vault.back.folder) }
         ensures damaged { IfErr result (λ refused. (at : ℕ) → refused.cause ≡ open_errs.JournalDamaged at
             → Told (D.log folder) (λ log. IsDamagedAt (disk_now log) at ⊎ LeavesFolder (disk_now log) at)) }
+        ensures left { IfErr result (λ refused. (at : ℕ) → refused.cause ≡ open_errs.JournalDamaged at
+            → Changes (D.log folder) (D.log refused.folder) IsLeftApplied) }
         ensures too_many { IfErr result (λ refused. (n : ℕ) → refused.cause ≡ open_errs.TooMany n
             → Changes (D.log folder) (D.log refused.folder) HasOpened × HasTooMany keys.now (disk_in (D.log refused.folder)) n) }
         ensures no_root { IfErr result (λ refused. refused.cause ≡ open_errs.NoRoot

@@ -5,7 +5,7 @@ ghost use Rattle.outside.specs.Disk.{IsFolder};
 ghost use Rattle.outside.specs.Images.{disk_in, now as disk_now};
 ghost use Rattle.outside.specs.Views.{folder_view, entropy_view};
 ghost use Rattle.tree_model.specs.Asked.{CanAsk, IsReplyTo, HasCount, KeepsRest, is_exhausted, plain_request, plain_reply, asked_of, bytes_put};
-ghost use Rattle.chunk_journal.specs.Opening.{HasOpened, IsDamagedAt, LeavesFolder, StaysOpening};
+ghost use Rattle.chunk_journal.specs.Opening.{HasOpened, IsDamagedAt, IsLeftApplied, LeavesFolder, StaysOpening};
 ghost use Rattle.tree_loading.specs.Clear.{root_folder, HasTooMany};
 ghost use Rattle.store_history.specs.Ends.{IsOpened};
 ghost use Rattle.store_history.specs.Turns.{AddsEntry, IsFlushed};
@@ -44,7 +44,7 @@ impl<D: Folder> Model for Store<D> {
 impl<D: Folder> Store<D> {
     /// Opens the vault in a folder: does what a stop left in its journal, and loads its tree. `threshold` is the vault's shortening
     /// threshold, 1 to 250 characters, and `now` the second of unlocking, since 1970-01-01. All memory that reads need is taken
-    /// here. A refusal hands the folder back.
+    /// here. A refusal hands the folder back; where it is that a deed of the journal doesn't fit it, the deeds before are done.
     pub fn open(
         alloc: Global,
         folder: D,
@@ -59,6 +59,8 @@ impl<D: Folder> Store<D> {
         ensures later { IfOk result (λ store. D.faults folder ≤ D.faults store.folder) }
         ensures damaged { IfErr result (λ refused. (at : ℕ) → refused.cause ≡ open_errs.JournalDamaged at
             → Told (D.log folder) (λ log. IsDamagedAt (disk_now log) at ⊎ LeavesFolder (disk_now log) at)) }
+        ensures left { IfErr result (λ refused. (at : ℕ) → refused.cause ≡ open_errs.JournalDamaged at
+            → Changes (D.log folder) (D.log refused.folder) IsLeftApplied) }
         ensures too_many { IfErr result (λ refused. (n : ℕ) → refused.cause ≡ open_errs.TooMany n
             → Changes (D.log folder) (D.log refused.folder) HasOpened × HasTooMany keys.now (disk_in (D.log refused.folder)) n) }
         ensures no_root { IfErr result (λ refused. refused.cause ≡ open_errs.NoRoot

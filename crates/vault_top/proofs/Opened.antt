@@ -7,7 +7,7 @@ use Rattle.outside.specs.Views.{FolderView}
 use Rattle.outside.proofs.Told.{changed_by}
 use Rattle.siv_mode.specs.Keys.{KeyPair}
 use Rattle.session_server.proofs.Links.{rose_later}
-use Rattle.chunk_journal.specs.Opening.{HasOpened, IsDamagedAt, LeavesFolder, StaysOpening}
+use Rattle.chunk_journal.specs.Opening.{HasOpened, IsDamagedAt, IsLeftApplied, LeavesFolder, StaysOpening}
 use Rattle.stop_history.specs.Opening.{IsSoundlyFound, OpeningRecovers}
 use Rattle.store_history.specs.Store.{shows_under}
 use Rattle.store_history.proofs.Ends.{failed_openings_recover}
@@ -37,6 +37,7 @@ with_disk P (Some old) (Some new) opened is = (opened, is)
 -- what Store::open says of an error
 pub record IsErrorOf (keys : KeyPair) (before after : FolderView) (error : OpenErr) : Type 0 where
   pub damaged : (at : ℕ) → error ≡ JournalDamaged at → Told before.log (λ log. IsDamagedAt (now log) at ⊎ LeavesFolder (now log) at)
+  pub left : (at : ℕ) → error ≡ JournalDamaged at → Changes before.log after.log IsLeftApplied
   pub too_many : (n : ℕ) → error ≡ TooMany n → HasTooMany keys (disk_in after.log) n
   pub no_root : error ≡ NoRoot → Told (disk_in after.log) (λ d. ¬ (IsFolder d (root_folder keys)))
   pub many_opened : (n : ℕ) → error ≡ TooMany n → Changes before.log after.log HasOpened
@@ -47,8 +48,10 @@ pub closed_by : {D : Type 0} (view : D → FolderView) (secret : Course SourceVi
     → IsOnlyRead (view folder) (view looked) → IsErrorOf vault.keys (view looked) (view kept) error
     → IsClosedBy (given_of view secret second folder kept) vault error
 closed_by view secret second folder looked kept vault Device read is = rose_later _ _ _ read.faults (is.rose refl)
-closed_by view secret second folder looked kept vault (JournalDamaged at) read is =
-    subst (λ (l : Option Log). Told l (λ log. IsDamagedAt (now log) at ⊎ LeavesFolder (now log) at)) read.log (is.damaged at refl)
+closed_by view secret second folder looked kept vault (JournalDamaged at) read is = record {
+  damaged = subst (λ (l : Option Log). Told l (λ log. IsDamagedAt (now log) at ⊎ LeavesFolder (now log) at)) read.log (is.damaged at refl);
+  left = subst (λ (l : Option Log). Changes l (view kept).log IsLeftApplied) read.log (is.left at refl);
+}
 closed_by view secret second folder looked kept vault (TooMany n) read is =
     with_many vault.keys n (view folder).log (view kept).log (subst (λ (l : Option Log). Changes l (view kept).log HasOpened) read.log (is.many_opened n refl)) (is.too_many n refl)
 closed_by view secret second folder looked kept vault NoRoot read is =

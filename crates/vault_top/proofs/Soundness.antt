@@ -100,7 +100,7 @@ same_vault P v w found e f h = let same : v ≡ w = cc in subst P same h
 closed_sound : (given : Given) (vault : UnlockedVault) (error : OpenErr) → IsSomeAnd (disk_in given.folder.before.log) (IsOpenable vault)
     → (Rose given.folder.before.faults given.folder.after.faults → ⊥) → IsClosedBy given vault error → of_opening error ≡ Memory
 closed_sound given vault open_errs.Device openable folder h = absurd (folder h)
-closed_sound given vault (open_errs.JournalDamaged at) openable folder h = absurd (undamaged vault given.folder.before.log at openable h)
+closed_sound given vault (open_errs.JournalDamaged at) openable folder h = absurd (undamaged vault given.folder.before.log at openable h.damaged)
 closed_sound given vault (open_errs.TooMany n) openable folder h =
     absurd (not_left vault (λ disk. HasTooMany vault.keys (Some disk) n) given.folder.before.log given.folder.after.log
     (λ disk found after is recovers alike many. is.few found after n recovers alike many) openable h)

@@ -13,7 +13,7 @@ use Rattle.vault_unlock.specs.declared.unlocking.SecretKind.TheVariants.{RawKeys
 use Rattle.vault_unlock.specs.declared.refusal.Refusal.{Refusal}
 use Rattle.vault_unlock.specs.declared.refusal.Refusal.TheVariants as refusals
 use Rattle.tree_loading.specs.Clear.{HasTooMany, root_folder}
-use Rattle.chunk_journal.specs.Opening.{HasOpened, IsDamagedAt, LeavesFolder, StaysOpening}
+use Rattle.chunk_journal.specs.Opening.{HasOpened, IsDamagedAt, IsLeftApplied, LeavesFolder, StaysOpening}
 use Rattle.stop_history.specs.Opening.{IsSoundlyFound, OpeningRecovers}
 use Rattle.store_history.specs.Store.{shows_under}
 use Rattle.store_history.specs.Ends.{IsOpened}
@@ -43,11 +43,17 @@ pub record IsLocked (given : Given) (kind : SecretKind) (refusal : Refusal) : Ty
 abbrev pub IsOpenedWith : Given → (Disk → Type 0) → Type 0
 IsOpenedWith given P = Changes given.folder.before.log given.folder.after.log (λ old new. HasOpened old new × P (now new))
 
+-- the journal that was found is damaged at this place, and where no folder stood in the place of its files, reads give what the disk that was found
+-- recovers to, its deeds applied up to the first call whose condition fails
+pub record HasDamagedJournal (given : Given) (at : ℕ) : Type 0 where
+  pub damaged : Told given.folder.before.log (λ log. IsDamagedAt (now log) at ⊎ LeavesFolder (now log) at)
+  pub left : Changes given.folder.before.log given.folder.after.log IsLeftApplied
+
 -- an unlocked vault isn't opened for this: the folder's count rose; the journal that was found is damaged there; the disk that it recovers to has too
 -- many nodes, or no folder for the root; or there was no memory
 abbrev pub IsClosedBy : Given → UnlockedVault → OpenErr → Type 0
 IsClosedBy given vault open_errs.Device = Rose given.folder.before.faults given.folder.after.faults
-IsClosedBy given vault (open_errs.JournalDamaged at) = Told given.folder.before.log (λ log. IsDamagedAt (now log) at ⊎ LeavesFolder (now log) at)
+IsClosedBy given vault (open_errs.JournalDamaged at) = HasDamagedJournal given at
 IsClosedBy given vault (open_errs.TooMany n) = IsOpenedWith given (λ disk. HasTooMany vault.keys (Some disk) n)
 IsClosedBy given vault open_errs.NoRoot = IsOpenedWith given (λ disk. ¬ (IsFolder disk (root_folder vault.keys)))
 IsClosedBy given vault open_errs.Memory = ⊤

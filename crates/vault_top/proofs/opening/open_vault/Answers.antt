@@ -43,6 +43,7 @@ returns-in-Err-open-clause-unopened g c =
         closed = closed_by view (course (source_view g.S.Source.left g.S.Source.faults) c.args.secret.now c.unlock.new.secret) (g.K.Clock.second c.args.clock.now)
             c.args.folder looked kept vault c.in-Err-open.field-0.cause read (record {
               damaged = o.damaged;
+              left = o.left;
               too_many = λ n is. (o.too_many n is).1;
               no_root = λ is. (o.no_root is).1;
               many_opened = λ n is. (o.too_many n is).0;
