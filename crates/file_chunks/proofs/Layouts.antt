@@ -2,10 +2,18 @@
 use Rattle.std.proofs.Common.{◌≡◌, ℕ, ◌+◌, List, [], ◌++◌, length, take, drop, replicate, Some, None, Option, refl, ap, ◌∙◌, arith, length-drop}
 use Rattle.std.specs.Option.{option_map}
 use Rattle.std.proofs.lemmas.List.{append-nil, take_all, drop_all}
+use borrow.Rule.Slice.PartMut.{put_mid}
+use Rattle.aes_block.specs.Bytes.{bytes_of}
 use Rattle.siv_mode.specs.Keys.{KeyPair}
 use Rattle.file_chunks.specs.Envelope.{envelope_opens, sealed_envelope}
 use Rattle.file_chunks.specs.Header.{Head, head_of, header_opens, sealed_header}
 use Rattle.file_chunks.specs.Chunk.{associated_data, chunk_opens, sealed_chunk}
+use Rattle.file_chunks.proofs.Envelopes.{put_mid-append}
+
+-- an index and a nonce, each copied to its place
+pub associated_data_is : (head : Head) (index : ℕ) (front back : List ℕ) → front ≡ bytes_of 8 index → back ≡ head.nonce
+    → put_mid 8 12 (front ++ replicate 12 0) back ≡ associated_data head index
+associated_data_is head index front back f b = rw (f, b, put_mid-append (bytes_of 8 index) (replicate 12 0) head.nonce 8 12 refl, append-nil head.nonce) refl
 
 -- a chunk opens as its envelope does
 pub chunk_opens_is : (head : Head) (index : ℕ) (key ad sealed : List ℕ) (answer : Option (List ℕ)) → key ≡ head.key → ad ≡ associated_data head index

@@ -11,3 +11,6 @@ pub returns-clause-opens : goal.returns-clause-opens
 returns-clause-opens g c =
     chunk_opens_is c.args.header.now c.args.index _ _ (take (length c.args.plaintext.now + 28) c.seal_into.new.out) (Some c.args.plaintext.now)
     c.key.ensures c.associated_data-ad.ensures c.seal_into.ensures.opens
+
+pub returns-clause-drawn : goal.returns-clause-drawn
+returns-clause-drawn g c = rw c.seal_into.ensures.nonce c.in_ok-fill.ensures.drawn
