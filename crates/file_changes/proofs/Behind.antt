@@ -29,13 +29,15 @@ use Rattle.content_deeds.specs.Deeds.{rewriting_in}
 use Rattle.content_writer.specs.Sealed.{nonces_of}
 use Rattle.write_back.specs.Shown.{HasFile}
 use Rattle.node_changes.specs.Changed.{StandsOn, IsStepAnswer, IsLate}
+use Rattle.node_changes.specs.Within.{AreWithin}
 use Rattle.node_changes.proofs.Beside.{stands_beside}
 use Rattle.change_plans.specs.Files.{IsFileOf}
 use Rattle.file_changes.specs.Held.{rewritten_tree, RowsAreRewritten}
 use Rattle.file_changes.specs.Steps.{ChangesContent}
 use Rattle.file_changes.specs.Files.{IsSealedFor, IsSealedIn}
 use Rattle.file_changes.specs.Waiting.{HasPut, HasWritten, IsAtRestOver, IsFlush, IsNotFlushed, MayBeFlushed}
-use Rattle.file_changes.proofs.Standing.{there, host, old, old_long, answered, shows, still_stands}
+use Rattle.file_changes.proofs.Within.{path_within, rewriting_within}
+use Rattle.file_changes.proofs.Standing.{there, old, old_long, answered, shows, still_stands}
 use Rattle.file_changes.proofs.Telling.{Stands}
 
 -- ---- a change that waits
@@ -268,6 +270,7 @@ module _ (keys : KeyPair) (live : HeldTree) (claims : List (List ℕ × ℕ)) (n
           len = size;
           rewriting = r;
           are = put.are;
+          within = λ all. subst AreWithin (sym put.are) (rewriting_within path (path_within live number path path_is) size r put.middle all);
           waits = put.waits;
           answer_is = step_answers;
           stepped = λ contents stands.

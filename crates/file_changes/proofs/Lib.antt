@@ -1,5 +1,6 @@
 pub mod Rows
 pub mod Places
+pub mod Within
 pub mod Standing
 pub mod Telling
 pub mod Putting

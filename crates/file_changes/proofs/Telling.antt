@@ -33,6 +33,7 @@ use Rattle.file_changes.specs.Files.{HasFileFor, IsSealedFor, IsSealedIn}
 use Rattle.file_changes.specs.Held.{rewritten_tree, RowsAreRewritten}
 use Rattle.file_changes.specs.Rewritten.{DrawsNonces, HasRewritten, MayHaveRewritten}
 use Rattle.file_changes.specs.Steps.{ChangesContent}
+use Rattle.file_changes.proofs.Within.{path_within}
 use Rattle.file_changes.proofs.Standing.{there, host, old, content_of_row, has_file, made, answered, shows}
 
 -- what is told of the disk is told of the log
@@ -108,6 +109,7 @@ module _ (keys read : KeyPair) (same : read ≡ keys) (live : HeldTree) (claims 
               after = here.after;
               does = here.does;
               repeatable = here.repeatable;
+              within = ((path_within live number path path_is, tt), tt);
               stepped = λ others more.
                   let more_here = (done others more).1 in
                   let same_disk : more_here.after ≡ here.after = same_run (in_order deeds) d more_here.after here.after more_here.does here.does in

@@ -38,6 +38,7 @@ use Rattle.name_places.specs.Claims.{claimed_in, AreClaimsOf, claims_in}
 use Rattle.name_places.specs.Laws.{ClaimsAreWhole, KeptClaims}
 use Rattle.node_changes.proofs.Refusing.{find_in, find_true}
 use Rattle.node_changes.specs.Changed.{StandsOn, MakesStep, ShowsRows}
+use Rattle.node_changes.specs.Within.{AreWithin}
 
 -- each folder that a node of the disk names is claimed in memory
 module _ (keys : KeyPair) (kept : KeptClaims keys) (whole : ClaimsAreWhole) (d : Disk) (tree : Tree) (live : HeldTree) (holds : Holds (sealing_of keys) tree live) where
@@ -139,7 +140,7 @@ module _ (keys : KeyPair) (texts : AreTexts (sealing_of keys)) (kept : KeptClaim
     })
 
   -- ---- with the step
-  module _ (name : List ℕ) (is_directory : Bool) (mode : ℕ) (rows : RowsAreAdded live live' parent n is_directory now)
+  module _ (within : AreWithin deeds) (name : List ℕ) (is_directory : Bool) (mode : ℕ) (rows : RowsAreAdded live live' parent n is_directory now)
       (claimed : (contents : ℕ → Content) → StandsOn (sealing_of keys) d live claims contents → AreClaimsOf (sealing_of keys) (added live node' now) claims')
       (step_is : (contents : ℕ → Content) → step (live_rows contents live) (create parent name is_directory mode) now
       ≡ stepped (with_new (live_rows contents live) (new_row (live_rows contents live) (live_row contents (parent, can.held)) n is_directory now) now)
@@ -157,6 +158,7 @@ module _ (keys : KeyPair) (texts : AreTexts (sealing_of keys)) (kept : KeptClaim
       after = (leads contents stands).after;
       does = does contents stands;
       repeatable = (leads contents stands).repeatable;
+      within = within;
       stepped = λ others more.
           let same : (leads others more).after ≡ (leads contents stands).after = same_run (in_order deeds) d (leads others more).after (leads contents stands).after (does others more) (does contents stands) in
           subst (λ (y : Disk). ShowsRows k (step (live_rows others live) (create parent name is_directory mode) now).rows y live' claims') same (shows others more);

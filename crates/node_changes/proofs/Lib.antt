@@ -1,5 +1,6 @@
 pub mod Nodes
 pub mod Refusing
+pub mod Within
 pub mod Removals
 pub mod Committing
 pub mod Creations

@@ -46,8 +46,10 @@ use Rattle.node_changes.specs.declared.site.Site.{Site}
 use Rattle.node_changes.specs.Changed.{StandsOn}
 use Rattle.node_changes.specs.Placed.{identifier_in, identifier_at, name_of, taken_in}
 use Rattle.node_changes.specs.Creating.{IsSite, MakesOn, new_qid}
+use Rattle.node_changes.specs.Within.{AreWithin}
 use Rattle.node_changes.proofs.Nodes.{is_below, place_is, above_there}
 use Rattle.node_changes.proofs.Sites.{named_raw}
+use Rattle.node_changes.proofs.Within.{creation_within, directory_within}
 use Rattle.node_changes.proofs.Creations.{CanCome, dir_node, free_child, made_step, makes}
 
 -- ---- a file without chunks
@@ -173,7 +175,7 @@ module _ (keys : KeyPair) (texts : AreTexts (sealing_of keys)) (kept : KeptClaim
   abbrev o : Sealing
   o = sealing_of keys
 
-  module _ (is_directory : Bool) (drawn : Option (List ℕ)) (x : Node) (empty : content_of (what_of (sealing_of keys) x) (chunks true []) ≡ content_in (sealing_of keys) x)
+  module _ (within : AreWithin deeds) (is_directory : Bool) (drawn : Option (List ℕ)) (x : Node) (empty : content_of (what_of (sealing_of keys) x) (chunks true []) ≡ content_in (sealing_of keys) x)
       (leads : (d : Disk) (tree : Tree) (p : Path) → site.folder ≡ (sealing_of keys).folder_of at.identifier → IsTreeOf (sealing_of keys) d tree → laws.IsNew (sealing_of keys) d tree p at.identifier site.name site.place.long drawn
       → laws.Leads (sealing_of keys) d deeds (with_node tree (site.name ∷ p) x site.place.long))
       (made : live' ≡ added live (new_node parent site.name (what_of (sealing_of keys) x) site.place.entry site.place.long now) now) (rows : RowsAreAdded live live' parent site.name is_directory now)
@@ -196,7 +198,7 @@ module _ (keys : KeyPair) (texts : AreTexts (sealing_of keys)) (kept : KeptClaim
     makes_on : MakesOn (sealing_of keys) (create parent name is_directory mode) now (says (qid (new_qid live is_directory))) drawn live live' claims claims' deeds
     makes_on d contents stands untaken = (
       makes keys texts kept claims_are_whole d live live' claims claims' parent now at.identifier site.name site.place.long drawn (can d untaken) x empty deeds
-          (λ tree p of new. leads d tree p (folder_is keys live parent site at d claims contents stands) of new) (made ∙ ap with_entry at.place.entry) name is_directory mode rows
+          (λ tree p of new. leads d tree p (folder_is keys live parent site at d claims contents stands) of new) (made ∙ ap with_entry at.place.entry) within name is_directory mode rows
           (λ others more. subst (λ (entry : List ℕ). AreClaimsOf o (with_entry entry) claims') at.place.entry (claimed more.claimed))
           (made_is keys live parent site at name clear is_directory mode now is) contents stands,
       λ others more. answer_is keys live parent site at name clear is_directory mode now is others,
@@ -212,7 +214,7 @@ module _ (keys : KeyPair) (texts : AreTexts (sealing_of keys)) (kept : KeptClaim
 
     pub file_makes : MakesOn (sealing_of keys) (create parent name false mode) now (says (qid (new_qid live false))) None live live' claims claims' deeds
     file_makes =
-        makes_on false None (File header) (sym (empty_file keys header long opens))
+        makes_on (subst AreWithin (sym are) (creation_within (place_by site.folder site.place.entry site.place.long) site.place.text header)) false None (File header) (sym (empty_file keys header long opens))
         (λ d tree p folder of new. subst (λ (ds : List PlainDeed). laws.Leads o d ds (with_node tree (site.name ∷ p) (File header) site.place.long)) (file_deeds folder)
         (creates_file o d tree p at.identifier site.name header site.place.long texts of new))
         (made ∙ ap (λ (size : ℕ). added live (new_node parent site.name (KeptFile size) site.place.entry site.place.long now) now) (sym long)) rows
@@ -232,7 +234,9 @@ module _ (keys : KeyPair) (texts : AreTexts (sealing_of keys)) (kept : KeptClaim
 
     pub directory_makes : MakesOn (sealing_of keys) (create parent name true mode) now (says (qid (new_qid live true))) (Some directory.identifier) live live' claims claims' deeds
     directory_makes =
-        makes_on true (Some directory.identifier) (Dir directory.identifier) refl
+        makes_on
+        (subst AreWithin (sym are) (directory_within (place_by site.folder site.place.entry site.place.long) site.place.text directory.folder directory.identifier))
+        true (Some directory.identifier) (Dir directory.identifier) refl
         (λ d tree p folder of it. subst (λ (ds : List PlainDeed). laws.Leads o d ds (with_node tree (site.name ∷ p) (Dir directory.identifier) site.place.long)) (dir_deeds folder)
         (creates_directory o d tree p at.identifier site.name directory.identifier site.place.long texts of it new.valid))
         (made ∙ ap (λ (f : List ℕ). added live (new_node parent site.name (KeptDir directory.identifier f) site.place.entry site.place.long now) now) new.folder) rows

@@ -4,7 +4,6 @@ use Rattle.std.specs.Option.{option_and_then}
 use Rattle.std.specs.FinMap.{get}
 use Rattle.outside.specs.Disk.{Disk}
 use Rattle.tree_model.specs.Rows.{root}
-use Rattle.clear_tree.specs.declared.node.What.TheVariants as whats
 use Rattle.clear_tree.specs.Walk.{Path, Sealing, Node, Dir}
 use Rattle.clear_tree.specs.Places.{folders_of}
 use Rattle.clear_tree.specs.Kept.{What as KeptWhat, KeptDir, folder_in}

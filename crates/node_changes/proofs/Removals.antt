@@ -36,9 +36,11 @@ use Rattle.name_places.specs.Laws.{EntriesAreParts, KeptClaims, Shrinks}
 use Rattle.name_places.proofs.Lowest.{removing_keeps}
 use Rattle.node_changes.specs.Changed.{StandsOn, MakesStep, LeadsOn, MayRefuse, ShowsRows, IsStepAnswer}
 use Rattle.node_changes.specs.Causes.{RefusalCause}
+use Rattle.node_changes.specs.Within.{AreWithin}
 use Rattle.node_changes.specs.Removal.{AreRemoval, IsMisplaced, IsRemovalRefusal, IsFolderAbove, IsUnclaimed, place_in}
 use Rattle.node_changes.proofs.Committing.{early_step}
 use Rattle.node_changes.proofs.Nodes.{IsBelow, is_below, place_is}
+use Rattle.node_changes.proofs.Within.{removal_within}
 use Rattle.node_changes.proofs.Refusing.{IsRemovable, removable, is_there, node_there}
 
 -- a folder that a number's node names is that of its node on the disk
@@ -168,6 +170,7 @@ module _ (keys : KeyPair) (texts : AreTexts (sealing_of keys)) (kept : KeptClaim
       after = (leads contents stands).after;
       does = does contents stands;
       repeatable = (leads contents stands).repeatable;
+      within = subst AreWithin (sym deeds_are) (removal_within (place_in folder held) held.kept.what);
       stepped = λ others more.
           let same : (leads others more).after ≡ (leads contents stands).after = same_run (in_order deeds) d (leads others more).after (leads contents stands).after (does others more) (does contents stands) in
           subst (λ (x : Disk). ShowsRows k (step (live_rows others live) (remove number) now).rows x live' claims') same (shows others more gone rows unclaimed);

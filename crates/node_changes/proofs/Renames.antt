@@ -27,7 +27,9 @@ use Rattle.name_places.specs.Laws.{ClaimsAreWhole, KeptClaims}
 use Rattle.name_places.proofs.Lowest.{renaming_keeps}
 use Rattle.node_changes.specs.Changed.{StandsOn, MakesStep, ShowsRows}
 use Rattle.node_changes.specs.Removal.{IsFolderAbove, place_in}
+use Rattle.node_changes.specs.Within.{AreWithin}
 use Rattle.node_changes.proofs.Nodes.{IsBelow, is_below, place_is}
+use Rattle.node_changes.proofs.Within.{renaming_within}
 use Rattle.node_changes.proofs.Creations.{are_claimed, dir_node}
 
 -- the node of a number can get the name m in its directory, of identifier i
@@ -136,6 +138,7 @@ module _ (keys : KeyPair) (texts : AreTexts (sealing_of keys)) (kept : KeptClaim
       after = (leads deeds_are contents stands).after;
       does = does deeds_are contents stands;
       repeatable = (leads deeds_are contents stands).repeatable;
+      within = subst AreWithin (sym deeds_are) (renaming_within (place_in can.folder held) (place_of k i m long) (k.seal i m) held.kept.what);
       stepped = λ others more.
           let same : (leads deeds_are others more).after ≡ (leads deeds_are contents stands).after =
           same_run (in_order deeds) d (leads deeds_are others more).after (leads deeds_are contents stands).after (does deeds_are others more) (does deeds_are contents stands) in

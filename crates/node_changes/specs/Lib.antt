@@ -1,3 +1,4 @@
+pub mod Within
 pub mod Changed
 pub mod Causes
 pub mod Removal

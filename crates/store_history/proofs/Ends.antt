@@ -28,12 +28,12 @@ use Rattle.store_history.proofs.Placed.{HasBegun, begins_low, begun_goes_on, goe
 use Rattle.store_history.proofs.Turns.{moments_rise, none_back}
 
 pub failed_openings_recover : FailedOpeningsRecover
-failed_openings_recover keys old new stays sound = opening_recovers (shows_under keys) (shows_blind keys) old new (stays_soundly old new stays sound) (stays_applied old new stays sound) sound
+failed_openings_recover keys old new stays sound = opening_recovers (shows_under (Some old) keys) (shows_blind (Some old) keys) old new (stays_soundly old new stays sound) (stays_applied old new stays sound) sound
 
 pub stores_recover : StoresRecover
 stores_recover found store folder rows origin history is = record {
-  stops = told_then folder.log (IsStoredIn found store rows origin history) (λ log. (opened : ℕ) → IsSaidFrom found origin opened → StopsRecover (shows_under store.keys) opened rows history log) is.stored
-      (λ log stored opened from. state_stops (shows_under store.keys) rows opened history store.waiting log (tally_of origin history).stopped (stored.state opened from));
+  stops = told_then folder.log (IsStoredIn found store rows origin history) (λ log. (opened : ℕ) → IsSaidFrom found origin opened → StopsRecover (shows_under found store.keys) opened rows history log) is.stored
+      (λ log stored opened from. state_stops (shows_under found store.keys) rows opened history store.waiting log (tally_of origin history).stopped (stored.state opened from));
   begun = told_then folder.log (IsStoredIn found store rows origin history) (HasBegun found store.keys rows origin) is.stored (λ log stored. stored.begun);
 }
 
@@ -52,10 +52,10 @@ whole_at_rest Shows opened rows history log running =
 
 pub stores_are_whole : StoresAreWhole
 stores_are_whole found store folder rows origin history is idle none =
-    told_then folder.log (IsStoredIn found store rows origin history) (IsWhole (shows_under store.keys) rows history) is.stored
-    (λ log stored. whole_at_rest (shows_under store.keys) origin.moment rows history log
-    (subst (λ (w : List PlainDeed). IsRunning (shows_under store.keys) origin.moment rows history w log) idle
-    (state_runs (shows_under store.keys) origin.moment rows history store.waiting log (tally_of origin history).stopped none (stored.state origin.moment (inl refl)))))
+    told_then folder.log (IsStoredIn found store rows origin history) (IsWhole (shows_under found store.keys) rows history) is.stored
+    (λ log stored. whole_at_rest (shows_under found store.keys) origin.moment rows history log
+    (subst (λ (w : List PlainDeed). IsRunning (shows_under found store.keys) origin.moment rows history w log) idle
+    (state_runs (shows_under found store.keys) origin.moment rows history store.waiting log (tally_of origin history).stopped none (stored.state origin.moment (inl refl)))))
 
 -- ---- where the commit of what waited failed at the end
 
@@ -65,13 +65,13 @@ module _ (found : Option Log) (store : StoreView) (before after : FolderView) (r
   grown = changed_from before.log after.log (IsStoredIn found store rows origin history) (AnyMoment store.waiting) LogGoesOn
       (λ a b stored moments. leaves_go_on a b (IsBeforeOrAfter (now a) (laid store.waiting (now a))) (moments (laid store.waiting (now a)) (stored.waits none).does)) is.stored any
 
-  recovers_on : (a b : Log) → IsStoredIn found store rows origin history a → AnyMoment store.waiting a b → (opened : ℕ) → IsSaidFrom found origin opened → StopsRecover (shows_under store.keys) opened rows history b
+  recovers_on : (a b : Log) → IsStoredIn found store rows origin history a → AnyMoment store.waiting a b → (opened : ℕ) → IsSaidFrom found origin opened → StopsRecover (shows_under found store.keys) opened rows history b
   recovers_on a b stored moments opened from =
-      closes_broken (shows_under store.keys) rows opened (shows_blind store.keys) history store.waiting a b (is_repeatable store.waiting (stored.waits none).pending)
-      (state_runs (shows_under store.keys) opened rows history store.waiting a (tally_of origin history).stopped none (stored.state opened from)) moments
+      closes_broken (shows_under found store.keys) rows opened (shows_blind found store.keys) history store.waiting a b (is_repeatable store.waiting (stored.waits none).pending)
+      (state_runs (shows_under found store.keys) opened rows history store.waiting a (tally_of origin history).stopped none (stored.state opened from)) moments
 
   recovers_told : (a b : Option Log) → Told a (IsStoredIn found store rows origin history) → Changes a b (AnyMoment store.waiting)
-      → Told b (λ log. (opened : ℕ) → IsSaidFrom found origin opened → StopsRecover (shows_under store.keys) opened rows history log)
+      → Told b (λ log. (opened : ℕ) → IsSaidFrom found origin opened → StopsRecover (shows_under found store.keys) opened rows history log)
   recovers_told None None stored moments = tt
   recovers_told None (Some b) stored moments = absurd moments
   recovers_told (Some a) None stored moments = absurd moments

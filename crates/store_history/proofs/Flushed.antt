@@ -25,6 +25,7 @@ use Rattle.store_history.specs.Turns.{AddsEntry, FlushedTurnsAdd, FlushesStand, 
 use Rattle.store_history.proofs.Alike.{for_alike, looks_beside, looks_through}
 use Rattle.store_history.proofs.Placed.{begins_low, begun_goes_on, goes_later, not_both, opened_goes_on, places_go_on, read_then}
 use Rattle.node_changes.proofs.Beside.{stands_beside}
+use Rattle.store_history.proofs.Elsewhere.{keeps_alike, keeps_done}
 use Rattle.store_history.proofs.Shows.{shows_blind}
 use Rattle.store_history.proofs.Turns.{moments_rise, none_back}
 
@@ -64,11 +65,14 @@ module _ (old : StoreView) (before after : FolderView) (found : Option Log) (row
       let has : HasRows old (laid old.waiting (now a)) rows history = stored.tree none in
       let waits : CanWait old.waiting (now a) = stored.waits none in
       record {
-        state = λ opened from. in_state (shows_under old.keys) opened rows history [] b tally.stopped none
-            (settles (shows_under old.keys) opened rows (shows_blind old.keys) history old.waiting a b (is_repeatable old.waiting waits.pending)
-            (state_runs (shows_under old.keys) opened rows history old.waiting a tally.stopped none (stored.state opened from)) any committed);
+        state = λ opened from. in_state (shows_under found old.keys) opened rows history [] b tally.stopped none
+            (settles (shows_under found old.keys) opened rows (shows_blind found old.keys) history old.waiting a b (is_repeatable old.waiting waits.pending)
+            (state_runs (shows_under found old.keys) opened rows history old.waiting a tally.stopped none (stored.state opened from)) any committed);
         begun = begun_goes_on found old.keys rows origin history a b (goes a b stored any) store.caused late stored.begun;
         waits = λ _. none_waits (now b);
+        within = λ _. tt;
+        elsewhere = λ _. keeps_alike found (laid old.waiting (now a)) (now b) (beside a b stored committed)
+            (keeps_done found old.waiting (now a) (laid old.waiting (now a)) (stored.within none) waits.does (stored.elsewhere none));
         tree = λ _. record {
           contents = has.contents;
           stands = stands_beside (sealing_of old.keys) (laid old.waiting (now a)) (now b) old.live old.claims has.contents has.stands committed.at_rest.steady.tree (beside a b stored committed);

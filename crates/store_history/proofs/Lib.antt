@@ -1,3 +1,4 @@
+pub mod Elsewhere
 pub mod Shows
 pub mod Alike
 pub mod Placed

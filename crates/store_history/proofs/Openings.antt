@@ -33,6 +33,7 @@ use Rattle.held_changes.specs.Loading.{IsLoaded, loaded_tree}
 use Rattle.held_changes.proofs.Loading.{loading_holds}
 use Rattle.name_places.specs.Claims.{AreClaimsOf}
 use Rattle.node_changes.specs.Changed.{StandsOn}
+use Rattle.node_changes.specs.Within.{AreWithin}
 use Rattle.stop_history.specs.Crash.{DiskShows}
 use Rattle.stop_history.specs.Stands.{IsRunning}
 use Rattle.stop_history.specs.Opening.{StaysFound, StaysAsFound, IsSoundlyFound}
@@ -41,6 +42,7 @@ use Rattle.stop_history.proofs.Openings.{begins_now}
 use Rattle.stop_history.proofs.Stops.{running_begins}
 use Rattle.store_history.specs.Store.{StoreView, moment_of, shows_under, HasRows, IsSaidFrom, IsStoredIn, IsStoreOf}
 use Rattle.store_history.specs.Ends.{IsFoundClear, IsOpened, HasBeenOpened, OpeningsStand}
+use Rattle.store_history.proofs.Elsewhere.{keeps_opened}
 use Rattle.store_history.proofs.Shows.{shows_blind, stands_shows}
 use Rattle.store_history.proofs.Alike.{looks_itself}
 use Rattle.store_history.proofs.Placed.{at_its_end}
@@ -105,8 +107,8 @@ module _ (unlocked : ℕ) (kept : KeptTree) (store : StoreView) (live_is : store
   abbrev s : Sealing
   s = sealing_of store.keys
 
-  abbrev Shows : DiskShows
-  Shows = shows_under store.keys
+  abbrev Shows : Option Log → DiskShows
+  Shows found = shows_under found store.keys
 
   abbrev rows_of : (ℕ → Content) → Rows
   rows_of contents = tree_rows contents unlocked kept
@@ -131,8 +133,8 @@ module _ (unlocked : ℕ) (kept : KeptTree) (store : StoreView) (live_is : store
   -- ---- the log begins a history
 
   -- nothing is said of the moments before this one
-  runs_now : (log : Log) (rows : Rows) → IsQuiet log → Shows (now log) rows → IsRunning Shows (moment log) rows [] [] log
-  runs_now log rows at_rest shows = record {
+  runs_now : (found : Option Log) (log : Log) (rows : Rows) → IsQuiet log → Shows found (now log) rows → IsRunning (Shows found) (moment log) rows [] [] log
+  runs_now found log rows at_rest shows = record {
     since = omega arith;
     past = λ m since before image here. absurd (omega (arith, since, before));
     ended = λ i x at. absurd cc;
@@ -156,12 +158,12 @@ module _ (unlocked : ℕ) (kept : KeptTree) (store : StoreView) (live_is : store
   opened_later old new opened opening sound = moment_later (adds old Synced) new (RecoversLike opened.disk) (opening_keeps old new opened.disk opening (reopenable (now old) sound) opened.recovers)
 
   -- the store runs, and stands for no entries yet
-  runs_on : (old new : Log) → HasOpened old new → IsOpening old new → (rows : Rows) → Shows (now new) rows → (origin : Origin) → origin.moment ≡ moment new → (opened_at : ℕ) → IsSaidFrom (Some old) origin opened_at
-      → IsRunning Shows opened_at rows [] [] new
-  runs_on old new opened opening rows shows origin at opened_at (inl here) = subst (λ (n : ℕ). IsRunning Shows n rows [] [] new) (sym (here ∙ at)) (runs_now new rows opened.at_rest shows)
+  runs_on : (old new : Log) → HasOpened old new → IsOpening old new → (rows : Rows) → Shows (Some old) (now new) rows → (origin : Origin) → origin.moment ≡ moment new → (opened_at : ℕ) → IsSaidFrom (Some old) origin opened_at
+      → IsRunning (Shows (Some old)) opened_at rows [] [] new
+  runs_on old new opened opening rows shows origin at opened_at (inl here) = subst (λ (n : ℕ). IsRunning (Shows (Some old)) n rows [] [] new) (sym (here ∙ at)) (runs_now (Some old) new rows opened.at_rest shows)
   runs_on old new opened opening rows shows origin at opened_at (inr (sound, there)) =
-      subst (λ (n : ℕ). IsRunning Shows n rows [] [] new) (sym there)
-      (begins_now Shows (shows_blind store.keys) rows opened.disk old new (stays_soundly old new (inr opening) sound)
+      subst (λ (n : ℕ). IsRunning (Shows (Some old)) n rows [] [] new) (sym there)
+      (begins_now (Shows (Some old)) (shows_blind (Some old) store.keys) rows opened.disk old new (stays_soundly old new (inr opening) sound)
       (record { at_rest = opened.at_rest; since = opened_later old new opened opening sound; found = λ other recovers. opened_alike old new other opened recovers }) opened.recovers shows)
 
   begins_on : (old new : Log) → HasOpened old new → IsOpening old new → IsKept s (now new) kept → Begins (Some old) (Some new)
@@ -169,7 +171,10 @@ module _ (unlocked : ℕ) (kept : KeptTree) (store : StoreView) (live_is : store
       let tells : TellsRows s (now new) kept = keeping_tells_rows s (now new) kept is in
       let host : IsTree (now new) = opened.at_rest.steady.tree in
       let has : HasRows store (now new) (rows_of tells.contents) [] = has_rows (now new) is tells host in
-      let shows : Shows (now new) (rows_of tells.contents) = stands_shows s (now new) store.live store.claims tells.contents (rows_of tells.contents) (stands_loaded (now new) is tells host) (current tells.contents) in
+      let shows : Shows (Some old) (now new) (rows_of tells.contents) = record {
+        tree = stands_shows s (now new) store.live store.claims tells.contents (rows_of tells.contents) (stands_loaded (now new) is tells host) (current tells.contents);
+        elsewhere = keeps_opened old new opened;
+      } in
       let found : IsTree opened.disk = recovered_tree (now old) opened.disk opening.steady.tree opened.recovers in
       let running = λ (origin : Origin) (at : origin.moment ≡ moment new) (opened_at : ℕ) (from : IsSaidFrom (Some old) origin opened_at). runs_on old new opened opening (rows_of tells.contents) shows origin at opened_at from in
       record {
@@ -181,9 +186,11 @@ module _ (unlocked : ℕ) (kept : KeptTree) (store : StoreView) (live_is : store
           few = subst (λ (n : ℕ). n ≤ node_limit) (sym (count_rows tells.contents unlocked 0 kept.nodes)) few;
         };
         stands = λ origin at. record {
-          state = λ opened_at from. subst (λ (w : List PlainDeed). IsRunning Shows opened_at (rows_of tells.contents) [] w new) (sym idle) (running origin at opened_at from);
-          begun = λ opened_at from. subst (λ (n : ℕ). BeginningRecovers Shows opened_at n (rows_of tells.contents) new) (sym at) (running_begins Shows (rows_of tells.contents) opened_at [] new (running origin at opened_at from));
+          state = λ opened_at from. subst (λ (w : List PlainDeed). IsRunning (Shows (Some old)) opened_at (rows_of tells.contents) [] w new) (sym idle) (running origin at opened_at from);
+          begun = λ opened_at from. subst (λ (n : ℕ). BeginningRecovers (Shows (Some old)) opened_at n (rows_of tells.contents) new) (sym at) (running_begins (Shows (Some old)) (rows_of tells.contents) opened_at [] new (running origin at opened_at from));
           waits = λ none. subst (λ (w : List PlainDeed). CanWait w (now new)) (sym idle) (none_waits (now new));
+          within = λ none. subst AreWithin (sym idle) tt;
+          elsewhere = λ none. keeps_opened old new opened;
           since = λ none. subst (λ (d : Disk). LookAlike d (now new)) (sym (ap (λ (m : ℕ). now (log_at new m)) at ∙ ap now (at_its_end new))) (looks_itself (now new));
           tree = λ none. subst (λ (d : Disk). HasRows store d (rows_of tells.contents) []) (sym (ap (λ (w : List PlainDeed). laid w (now new)) idle)) has;
           answered = tt;

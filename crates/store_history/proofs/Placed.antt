@@ -125,7 +125,7 @@ none_past keys live origin history log none i x there some = absurd (not_both (t
 -- ---- before a history begins
 
 abbrev pub HasBegun : Option Log → KeyPair → Rows → Origin → Log → Type 0
-HasBegun found keys rows origin log = (opened : ℕ) → IsSaidFrom found origin opened → BeginningRecovers (shows_under keys) opened origin.moment rows log
+HasBegun found keys rows origin log = (opened : ℕ) → IsSaidFrom found origin opened → BeginningRecovers (shows_under found keys) opened origin.moment rows log
 
 -- no history begins past its last entry
 pub begins_low : (origin : Origin) (history : List Entry) (m : ℕ) → AreCaused (tally_at origin) history → (tally_of origin history).moment ≤ m → origin.moment ≤ m

@@ -1,5 +1,5 @@
 -- Which rows a disk shows, and that the journal's two files don't matter to it.
-use Rattle.std.proofs.Common.{◌≡◌, ℕ, List, [], ◌∷◌, map, sym, subst, ◌∙◌, inl, inr}
+use Rattle.std.proofs.Common.{◌≡◌, ℕ, List, [], ◌∷◌, Option, map, sym, subst, ◌∙◌, inl, inr}
 use Rattle.std.proofs.lemmas.Cmp.{tied_itself, nat_cmp_total}
 use Rattle.std.specs.Ordering.{nat_cmp}
 use Rattle.std.specs.declared.cmp.Ordering.TheVariants.{Less, Equal}
@@ -7,6 +7,7 @@ use Rattle.std.specs.List.{AllByRecursion}
 use Rattle.std.specs.List.Sorted.{IsStrictlySortedBy}
 use Rattle.std.specs.Map.{keys_of}
 use Rattle.outside.specs.Disk.{Disk}
+use Rattle.outside.specs.Images.{Log}
 use Rattle.siv_mode.specs.Keys.{KeyPair}
 use Rattle.tree_model.specs.Rows.{Content, Row, Rows}
 use Rattle.clear_tree.specs.Walk.{Sealing}
@@ -22,14 +23,18 @@ use Rattle.held_changes.proofs.Numbers.{held_rows_have_shape}
 use Rattle.node_changes.specs.Changed.{StandsOn}
 use Rattle.stop_history.specs.Crash.{IsBlind}
 use Rattle.store_history.specs.Store.{shows_under}
+use Rattle.store_history.proofs.Elsewhere.{keeps_alike}
 
 -- ---- beside the journal's two files
 
-pub shows_blind : (keys : KeyPair) → IsBlind (shows_under keys)
-shows_blind keys a b rows shows host same = record {
-  tree = shows.tree;
-  is = stays_beside (sealing_of keys) a b shows.tree shows.is host same;
-  shape = shows.shape;
+pub shows_blind : (found : Option Log) (keys : KeyPair) → IsBlind (shows_under found keys)
+shows_blind found keys a b rows shows host same = record {
+  tree = record {
+    tree = shows.tree.tree;
+    is = stays_beside (sealing_of keys) a b shows.tree.tree shows.tree.is host same;
+    shape = shows.tree.shape;
+  };
+  elsewhere = keeps_alike found a b same shows.elsewhere;
 }
 
 -- ---- the rows of a tree in memory

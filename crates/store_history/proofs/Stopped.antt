@@ -130,10 +130,12 @@ module _ (old : StoreView) (before : FolderView) (source : EntropyView) (turn : 
               stored.placed_since (λ stopped. taken_then log (stored.rests stopped) taken_now);
           left = λ stopped. left_still (stored.left some);
           rests = λ stopped. ap (λ (t : Tally). t.moment) (after_more (tally_at origin) history entry) ∙ here;
-          state = λ opened from. broken_state (shows_under old.keys) opened rows origin history entry old.waiting log (inr some)
-              (stays_broken (shows_under old.keys) opened rows origin history log entry (state_broke (shows_under old.keys) opened rows history old.waiting log tally.stopped some (stored.state opened from)) here same_stable);
+          state = λ opened from. broken_state (shows_under found old.keys) opened rows origin history entry old.waiting log (inr some)
+              (stays_broken (shows_under found old.keys) opened rows origin history log entry (state_broke (shows_under found old.keys) opened rows history old.waiting log tally.stopped some (stored.state opened from)) here same_stable);
           begun = stored.begun;
           waits = λ none. absurd (running_not store (subst (λ (o : Option ℕ). IsNone o) more none));
+          within = λ none. absurd (running_not store (subst (λ (o : Option ℕ). IsNone o) more none));
+          elsewhere = λ none. absurd (running_not store (subst (λ (o : Option ℕ). IsNone o) more none));
           since = λ none. absurd (running_not store (subst (λ (o : Option ℕ). IsNone o) more none));
           tree = λ none. absurd (running_not store (subst (λ (o : Option ℕ). IsNone o) more none));
           answered = answered_more rows (tally_at origin) history entry stored.answered (λ none. absurd (running_not store none));

@@ -10,7 +10,7 @@ use Rattle.outside.proofs.Told.{changed_by, changed_from, unchanged}
 use Rattle.siv_mode.specs.Keys.{KeyPair}
 use Rattle.deeds.specs.Deeds.{PlainDeed, LogGoesOn}
 use Rattle.deeds.proofs.Growing.{goes_nowhere, grown_on, leaves_go_on}
-use Rattle.chunk_journal.specs.Journal.{AnyMoment, IsBeforeOrAfter}
+use Rattle.chunk_journal.specs.Journal.{AnyMoment, IsAlike, IsBeforeOrAfter}
 use Rattle.pending_files.specs.Laid.{CanWait, LookAlike, laid, laid_log}
 use Rattle.pending_files.proofs.Batched.{is_repeatable}
 use Rattle.pending_files.proofs.Laying.{looks_alike, none_waits}
@@ -29,6 +29,7 @@ use Rattle.row_versions.proofs.Histories.{answered_in_both, rows_then_are_same}
 use Rattle.live_tree.specs.Held.{HeldTree, live_rows}
 use Rattle.node_changes.specs.Changed.{StandsOn, ShowsRows, HasChanged, MayHaveChanged}
 use Rattle.node_changes.specs.Placed.{taken_for}
+use Rattle.node_changes.specs.Within.{AreWithin}
 use Rattle.stop_history.specs.Crash.{DiskShows, rows_stepped}
 use Rattle.stop_history.specs.Stands.{IsRunning, IsBroken, IsInState}
 use Rattle.stop_history.specs.Stable.{is_kept, stable_then, IsStableNext}
@@ -36,9 +37,10 @@ use Rattle.stop_history.proofs.Histories.{at_last, at_within, longer, rows_all, 
 use Rattle.stop_history.proofs.Moves.{idles, idles_kept, commits, breaks, settles_broken, stays_broken}
 use Rattle.stop_history.proofs.Stable.{stable_next}
 use Rattle.stop_history.proofs.States.{state_runs, running_state, broken_state}
-use Rattle.store_history.specs.Store.{StoreView, bounded, moment_of, shows_under, ArePlaced, ArePlacedSince, HasRows, HasRowsLeft, IsPlacedOn, IsSaidFrom, IsStoredIn, IsStoreOf, IsTakenBy}
+use Rattle.store_history.specs.Store.{StoreView, bounded, moment_of, shows_under, ArePlaced, ArePlacedSince, HasRows, HasRowsLeft, IsPlacedOn, IsSaidFrom, IsStoredIn, IsStoreOf, IsTakenBy, KeepsFound}
 use Rattle.store_history.specs.Turns.{Draws, IsMadeOf, Turn, made_in, made_of, IsTurn, IsQuietTurn, IsChangedTurn, IsBrokenTurn, IsUnflushedTurn, QuietTurnsAdd, ChangedTurnsAdd, BrokenTurnsAdd, UnflushedTurnsAdd}
 use Rattle.node_changes.proofs.Beside.{stands_beside}
+use Rattle.store_history.proofs.Elsewhere.{keeps_alike, keeps_done}
 use Rattle.store_history.proofs.Shows.{shows_blind, stands_shows}
 use Rattle.store_history.proofs.Alike.{for_alike, looks_itself, looks_through}
 use Rattle.store_history.proofs.Placed.{HasBegun, at_its_end, begins_low, begun_goes_on, goes_later, none_past, not_both, opened_goes_on, placed_more}
@@ -82,7 +84,7 @@ module _ (old new : StoreView) (before after : FolderView) (source source' : Ent
   s = sealing_of old.keys
 
   abbrev Shows : DiskShows
-  Shows = shows_under old.keys
+  Shows = shows_under found old.keys
 
   abbrev Before : Type 0
   Before = IsStoreOf found old before rows origin history
@@ -102,6 +104,9 @@ module _ (old new : StoreView) (before after : FolderView) (source source' : Ent
 
   abbrev WaitsOn : Log → Type 0
   WaitsOn log = CanWait new.waiting (now log)
+
+  abbrev WithinOn : Log → Type 0
+  WithinOn log = AreWithin old.waiting → AreWithin new.waiting
 
   abbrev TakenOn : Disk → Type 0
   TakenOn d = turn.taken ≡ taken_for s d old.live turn.asked.request turn.drawn
@@ -188,9 +193,11 @@ module _ (old new : StoreView) (before after : FolderView) (source source' : Ent
 
     -- the disk shows them, as they are numbered
     shows_next : (d : Disk) (contents : ℕ → Content) → StandsOn s d new.live new.claims contents → wrapped (rows_then (rows_after rows history) made) ≡ wrapped (live_rows contents new.live)
-        → Shows d (rows_then (rows_at rows history (length history)) made)
-    shows_next d contents stands same =
-        subst (λ (r : Rows). HasTree s d (rows_then r made)) (rows_all rows history) (stands_shows s d new.live new.claims contents (rows_then (rows_after rows history) made) stands same)
+        → KeepsFound found d → Shows d (rows_then (rows_at rows history (length history)) made)
+    shows_next d contents stands same elsewhere = record {
+      tree = subst (λ (r : Rows). HasTree s d (rows_then r made)) (rows_all rows history) (stands_shows s d new.live new.claims contents (rows_then (rows_after rows history) made) stands same);
+      elsewhere = elsewhere;
+    }
 
     has_next : (d : Disk) (contents : ℕ → Content) → StandsOn s d new.live new.claims contents → wrapped (rows_then (rows_after rows history) made) ≡ wrapped (live_rows contents new.live)
         → HasRows new d rows (history ++ entry ∷ [])
@@ -203,9 +210,9 @@ module _ (old new : StoreView) (before after : FolderView) (source source' : Ent
     -- ---- on a log
 
     pub state_next : (opened : ℕ) (log : Log) → IsInState Shows opened rows (history ++ entry ∷ []) new.waiting log (tally_of origin (history ++ entry ∷ [])).stopped
-        → IsInState (shows_under new.keys) opened rows (history ++ entry ∷ []) new.waiting log (tally_of origin (history ++ entry ∷ [])).stopped
+        → IsInState (shows_under found new.keys) opened rows (history ++ entry ∷ []) new.waiting log (tally_of origin (history ++ entry ∷ [])).stopped
     state_next opened log state =
-        subst (λ (k : KeyPair). IsInState (shows_under k) opened rows (history ++ entry ∷ []) new.waiting log (tally_of origin (history ++ entry ∷ [])).stopped) (sym is.keys) state
+        subst (λ (k : KeyPair). IsInState (shows_under found k) opened rows (history ++ entry ∷ []) new.waiting log (tally_of origin (history ++ entry ∷ [])).stopped) (sym is.keys) state
 
     pub runs : (log : Log) → Before → Stored log → (opened : ℕ) → IsSaidFrom found origin opened → IsRunning Shows opened rows history old.waiting log
     runs log store stored opened from = state_runs Shows opened rows history old.waiting log tally.stopped (not_stopped is.running store) (stored.state opened from)
@@ -278,9 +285,10 @@ module _ (old new : StoreView) (before after : FolderView) (source source' : Ent
     -- whose commits all came through
     runs_next : (log : Log) → Before → turn.commit_failed ≡ false → made.moment ≡ moment log → AreAnswered rows (tally_at origin) history → IsAnswered (rows_after rows history) made → WaitsOn log → (contents : ℕ → Content)
         → StandsOn s (laid new.waiting (now log)) new.live new.claims contents → wrapped (rows_then (rows_after rows history) made) ≡ wrapped (live_rows contents new.live)
+        → AreWithin new.waiting → KeepsFound found (now log)
         → ((opened : ℕ) → IsSaidFrom found origin opened → IsRunning Shows opened rows (history ++ entry ∷ []) new.waiting log) → HasBegun found new.keys rows origin log
         → ArePlaced new.keys rows origin (history ++ entry ∷ []) log → StoredNext log
-    runs_next log store whole at answered so waits contents stands same running begun placed = record {
+    runs_next log store whole at answered so waits contents stands same within elsewhere running begun placed = record {
       placed = placed;
       placed_since = none_past new.keys new.live origin (history ++ entry ∷ []) log (none_next store whole);
       left = λ some. absurd (not_both (tally_of origin (history ++ entry ∷ [])).stopped (none_next store whole) some);
@@ -288,6 +296,8 @@ module _ (old new : StoreView) (before after : FolderView) (source source' : Ent
       begun = begun;
       state = λ opened from. state_next opened log (running_state Shows opened rows origin history entry new.waiting log (not_stopped is.running store) whole (running opened from));
       waits = λ none. waits;
+      within = λ none. within;
+      elsewhere = λ none. elsewhere;
       since = λ none. since_next log at;
       tree = λ none. has_next (laid new.waiting (now log)) contents stands same;
       answered = answered_more rows (tally_at origin) history entry answered (λ none. so);
@@ -310,14 +320,17 @@ module _ (old new : StoreView) (before after : FolderView) (source source' : Ent
         idles Shows opened rows history old.waiting new.waiting log entry running at
         (omega (arith, ap (λ (k : Bool). cond k (suc (length history)) tally.stable) e, held log opened running)) (laid new.waiting (now log)) waits.does shows
 
-    quiet_on : (log : Log) → Before → turn.commit_failed ≡ false → moment_of before.log ≡ moment log → made.moment ≡ moment log → Stored log → AllowedOn (laid old.waiting (now log)) → WaitsOn log → ShownOn log → Kept → TakenOn (now log)
+    quiet_on : (log : Log) → Before → turn.commit_failed ≡ false → moment_of before.log ≡ moment log → made.moment ≡ moment log → Stored log → AllowedOn (laid old.waiting (now log)) → WaitsOn log → WithinOn log → ShownOn log → Kept → TakenOn (now log)
         → StoredNext log
-    quiet_on log store whole was at stored allowed waits shown kept taken =
+    quiet_on log store whole was at stored allowed waits within shown kept taken =
+        let none = not_stopped is.running store in
+        let still : AreWithin new.waiting = within (stored.within none) in
+        let elsewhere : KeepsFound found (laid new.waiting (now log)) = keeps_done found new.waiting (now log) (laid new.waiting (now log)) still waits.does (stored.elsewhere none) in
         let has : HasRows old (laid old.waiting (now log)) rows history = stored.tree (not_stopped is.running store) in
         let to = shown has.contents has.stands in
         let same = same_next has.contents to.contents has.current to.shows in
-        runs_next log store whole at stored.answered (answered_next (laid old.waiting (now log)) allowed has) waits to.contents to.stands same
-        (λ opened from. idles_on log opened store stored from at waits kept (shows_next (laid new.waiting (now log)) to.contents to.stands same) (is_kept turn.asked.request turn.asked.reply) refl)
+        runs_next log store whole at stored.answered (answered_next (laid old.waiting (now log)) allowed has) waits to.contents to.stands same still (stored.elsewhere none)
+        (λ opened from. idles_on log opened store stored from at waits kept (shows_next (laid new.waiting (now log)) to.contents to.stands same elsewhere) (is_kept turn.asked.request turn.asked.reply) refl)
         (begun_next log log store was (goes_nowhere log) stored) (placed_next log log store was (goes_nowhere log) stored taken)
 
     accepted_rows : (r : Rows) → is_refusal turn.asked.reply ≡ false → rows_then r made ≡ (step r turn.asked.request turn.asked.second).rows
@@ -332,14 +345,18 @@ module _ (old new : StoreView) (before after : FolderView) (source source' : Ent
         let has : HasRows old (now a) rows history = has_idle idle.0 a store stored in
         let to = change.makes.stepped has.contents has.stands in
         let same = same_next has.contents to.contents has.current (to.shows ∙ ap wrapped (sym (accepted_rows (live_rows has.contents old.live) accepted))) in
-        let shows = shows_next change.makes.after to.contents to.stands same in
-        let stands = stands_beside s change.makes.after (now b) new.live new.claims to.contents to.stands change.committed.at_rest.steady.tree (change.committed.after change.makes.after change.makes.does) in
+        let left : KeepsFound found change.makes.after =
+        keeps_done found change.deeds (now a) change.makes.after change.makes.within change.makes.does (stored.elsewhere (not_stopped is.running store)) in
+        let shows = shows_next change.makes.after to.contents to.stands same left in
+        let alike : IsAlike change.makes.after (now b) = change.committed.after change.makes.after change.makes.does in
+        let stands = stands_beside s change.makes.after (now b) new.live new.claims to.contents to.stands change.committed.at_rest.steady.tree alike in
         let none : laid new.waiting (now b) ≡ now b = ap (λ (w : List PlainDeed). laid w (now b)) idle.1 in
         let goes : LogGoesOn a b = leaves_go_on a b (IsBeforeOrAfter (now a) change.makes.after) (change.any_moment change.makes.after change.makes.does) in
         runs_next b store whole at stored.answered (answered_next (now a) (subst AllowedOn (shown_idle idle.0 a) allowed) has)
         (subst (λ (w : List PlainDeed). CanWait w (now b)) (sym idle.1) (none_waits (now b))) to.contents (subst (λ (d : Disk). StandsOn s d new.live new.claims to.contents) (sym none) stands) same
+        (subst AreWithin (sym idle.1) tt) (keeps_alike found change.makes.after (now b) alike left)
         (λ opened from. subst (λ (w : List PlainDeed). IsRunning Shows opened rows (history ++ entry ∷ []) w b) (sym idle.1)
-        (commits Shows opened rows (shows_blind old.keys) history change.deeds a b entry change.makes.after change.makes.repeatable (runs_idle idle.0 a store stored opened from) change.makes.does shows at (stable store).within
+        (commits Shows opened rows (shows_blind found old.keys) history change.deeds a b entry change.makes.after change.makes.repeatable (runs_idle idle.0 a store stored opened from) change.makes.does shows at (stable store).within
         change.any_moment change.committed))
         (begun_next a b store was goes stored) (placed_next a b store was goes stored taken)
 
@@ -356,10 +373,12 @@ module _ (old new : StoreView) (before after : FolderView) (source source' : Ent
     same_stepped contents contents' current shows = (steps_are_same (rows_after rows history) (live_rows contents old.live) turn.asked.request turn.asked.second current).rows ∙ sym shows
 
     shows_stepped : (d : Disk) (contents contents' : ℕ → Content) → wrapped (rows_after rows history) ≡ wrapped (live_rows contents old.live) → StandsOn s d new.live new.claims contents'
-        → wrapped (live_rows contents' new.live) ≡ wrapped (step (live_rows contents old.live) turn.asked.request turn.asked.second).rows → Shows d (rows_stepped (rows_at rows history (length history)) made)
-    shows_stepped d contents contents' current stands shows =
-        subst (λ (r : Rows). HasTree s d (rows_stepped r made)) (rows_all rows history)
-        (stands_shows s d new.live new.claims contents' (rows_stepped (rows_after rows history) made) stands (same_stepped contents contents' current shows))
+        → wrapped (live_rows contents' new.live) ≡ wrapped (step (live_rows contents old.live) turn.asked.request turn.asked.second).rows → KeepsFound found d → Shows d (rows_stepped (rows_at rows history (length history)) made)
+    shows_stepped d contents contents' current stands shows elsewhere = record {
+      tree = subst (λ (r : Rows). HasTree s d (rows_stepped r made)) (rows_all rows history)
+          (stands_shows s d new.live new.claims contents' (rows_stepped (rows_after rows history) made) stands (same_stepped contents contents' current shows));
+      elsewhere = elsewhere;
+    }
 
     -- the entry counts for nothing in the rows
     rows_stay : turn.asked.reply ≡ refused refusals.DeviceFault → rows_after rows (history ++ entry ∷ []) ≡ rows_after rows history
@@ -402,6 +421,8 @@ module _ (old new : StoreView) (before after : FolderView) (source source' : Ent
       begun = begun_next a b store was grown stored;
       state = λ opened from. state_next opened b (broken_state Shows opened rows origin history entry new.waiting b (inl failed) (broken opened from));
       waits = λ none. stops_tree failed none;
+      within = λ none. stops_tree failed none;
+      elsewhere = λ none. stops_tree failed none;
       since = λ none. stops_tree failed none;
       tree = λ none. stops_tree failed none;
       answered = answered_more rows (tally_at origin) history entry stored.answered (λ none. answered_next (laid old.waiting (now a)) allowed (stored.tree (not_stopped is.running store)));
@@ -412,10 +433,12 @@ module _ (old new : StoreView) (before after : FolderView) (source source' : Ent
     broken_on a b store none failed reply was at stored allowed taken change =
         let has : HasRows old (now a) rows history = has_idle none a store stored in
         let to = change.makes.stepped has.contents has.stands in
-        let shows = shows_stepped change.makes.after has.contents to.contents has.current to.stands to.shows in
+        let left : KeepsFound found change.makes.after =
+        keeps_done found change.deeds (now a) change.makes.after change.makes.within change.makes.does (stored.elsewhere (not_stopped is.running store)) in
+        let shows = shows_stepped change.makes.after has.contents to.contents has.current to.stands to.shows left in
         broken_next a b store failed was at (leaves_go_on a b (IsBeforeOrAfter (now a) change.makes.after) (change.any_moment change.makes.after change.makes.does)) stored allowed taken
         (left_changed has.contents to.contents failed reply has.current to.shows)
-        (λ opened from. breaks Shows opened rows (shows_blind old.keys) history change.deeds a b entry change.makes.after change.makes.repeatable (runs_idle none a store stored opened from) change.makes.does shows at failed
+        (λ opened from. breaks Shows opened rows (shows_blind found old.keys) history change.deeds a b entry change.makes.after change.makes.repeatable (runs_idle none a store stored opened from) change.makes.does shows at failed
         ((stable store).held (unkept reply)) change.any_moment)
 
     -- ---- where the folder tells its log
@@ -423,10 +446,10 @@ module _ (old new : StoreView) (before after : FolderView) (source source' : Ent
     abbrev ShownIn : Option Log → Option Disk
     ShownIn log = disk_in (option_map (laid_log old.waiting) log)
 
-    quiet_told : (log : Option Log) → Before → turn.commit_failed ≡ false → moment_of before.log ≡ moment_of log → made.moment ≡ moment_of log → Told log Stored → Told (ShownIn log) AllowedOn → Told log WaitsOn → Told log ShownOn → Kept
+    quiet_told : (log : Option Log) → Before → turn.commit_failed ≡ false → moment_of before.log ≡ moment_of log → made.moment ≡ moment_of log → Told log Stored → Told (ShownIn log) AllowedOn → Told log WaitsOn → Told log WithinOn → Told log ShownOn → Kept
         → Told (disk_in log) TakenOn → Told log StoredNext
-    quiet_told None store whole was at stored allowed waits shown kept taken = tt
-    quiet_told (Some log) store whole was at stored allowed waits shown kept taken = quiet_on log store whole was at stored allowed waits shown kept taken
+    quiet_told None store whole was at stored allowed waits within shown kept taken = tt
+    quiet_told (Some log) store whole was at stored allowed waits within shown kept taken = quiet_on log store whole was at stored allowed waits within shown kept taken
 
     changed_told : (a b : Option Log) → Before → Idle → turn.commit_failed ≡ false → is_refusal turn.asked.reply ≡ false → moment_of before.log ≡ moment_of a → made.moment ≡ moment_of b → Told a Stored → Told (ShownIn a) AllowedOn
         → Told (disk_in a) TakenOn → Changes a b ChangedTo → Told b StoredNext
@@ -461,7 +484,7 @@ module _ (old new : StoreView) (before after : FolderView) (source source' : Ent
     made_so is.is_turn,
     adds_to store (caused is.is_turn store drew (omega (arith, ap moment_of is.log)) (unflagged is.is_turn is.whole))
         (unchanged before.log after.log LogGoesOn is.log goes_nowhere)
-        (subst (λ (o : Option Log). Told o StoredNext) (sym is.log) (quiet_told is.is_turn before.log store is.whole refl (ap moment_of is.log) store.stored is.allowed is.waits is.shown is.kept is.is_turn.taken))
+        (subst (λ (o : Option Log). Told o StoredNext) (sym is.log) (quiet_told is.is_turn before.log store is.whole refl (ap moment_of is.log) store.stored is.allowed is.waits is.within is.shown is.kept is.is_turn.taken))
         (goes_on is.is_turn is.goes_on is.whole store) is.is_turn.entries,
   )
 
@@ -501,7 +524,7 @@ module _ (old new : StoreView) (before after : FolderView) (source source' : Ent
         broken_next is.is_turn a b store is.stops.failed was at (leaves_go_on a b (IsBeforeOrAfter (now a) (laid old.waiting (now a))) (any (laid old.waiting (now a)) waits.does)) stored allowed taken
         (left_same is.is_turn is.stops.reply is.live (laid old.waiting (now a)) (stored.tree (not_stopped is.is_turn.running store)))
         (λ opened from. stays_broken Shows opened rows origin history b entry
-        (settles_broken Shows opened rows (shows_blind old.keys) history old.waiting a b (is_repeatable old.waiting waits.pending) (runs is.is_turn a store stored opened from) any) at (same_stable is.stops.reply))
+        (settles_broken Shows opened rows (shows_blind found old.keys) history old.waiting a b (is_repeatable old.waiting waits.pending) (runs is.is_turn a store stored opened from) any) at (same_stable is.stops.reply))
 
     unflushed_told : (a b : Option Log) → Before → moment_of before.log ≡ moment_of a → made.moment ≡ moment_of b → Told a Stored → Told (disk_in (option_map (laid_log old.waiting) a)) AllowedOn → Told (disk_in a) TakenOn → Changes a b (AnyMoment old.waiting)
         → Told b StoredNext

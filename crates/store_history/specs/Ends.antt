@@ -1,11 +1,11 @@
 -- How a store's history begins, and what its end leaves.
-use Rattle.std.specs.Prelude.{◌≡◌, ℕ, ◌≤◌, List, [], length, Option, IsNone}
+use Rattle.std.specs.Prelude.{◌≡◌, ℕ, ◌≤◌, List, [], length, Option, Some, IsNone}
 use Rattle.outside.specs.Calls.{Changes, Told}
 use Rattle.outside.specs.Disk.{Disk}
 use Rattle.outside.specs.Images.{Log, log_at, now}
 use Rattle.outside.specs.Views.{FolderView}
 use Rattle.siv_mode.specs.Keys.{KeyPair}
-use Rattle.chunk_journal.specs.Journal.{AnyMoment, RecoversTo}
+use Rattle.chunk_journal.specs.Journal.{AnyMoment, RecoversTo, Recovered}
 use Rattle.chunk_journal.specs.Opening.{HasOpened, IsOpening, StaysOpening}
 use Rattle.tree_model.specs.Rows.{Rows}
 use Rattle.tree_model.specs.Step.{node_limit}
@@ -18,7 +18,7 @@ use Rattle.name_places.specs.Claims.{AreClaimsOf}
 use Rattle.stop_history.specs.Prefix.{StopsRecover, BeginningRecovers, IsWhole}
 use Rattle.stop_history.specs.Opening.{IsSoundlyFound, OpeningRecovers}
 use Rattle.deeds.specs.Deeds.{LogGoesOn}
-use Rattle.store_history.specs.Store.{StoreView, ArePlaced, ArePlacedSince, IsSaidFrom, IsStoreOf, moment_of, shows_under}
+use Rattle.store_history.specs.Store.{StoreView, ArePlaced, ArePlacedSince, IsSaidFrom, IsStoreOf, KeepsFound, moment_of, shows_under}
 
 -- the rows of what a found disk recovers to, of a vault that is unlocked at this second; there are no more of them than a tree may have nodes
 pub record IsFoundClear (keys : KeyPair) (disk : Disk) (unlocked : ℕ) (rows : Rows) : Type 0 where
@@ -53,17 +53,21 @@ abbrev pub OpeningsStand : Type 0
 OpeningsStand = (before after : FolderView) (keys : KeyPair) (unlocked : ℕ) (kept : KeptTree) (store : StoreView)
     → HasBeenOpened before keys unlocked kept store after → IsOpened before keys unlocked store after
 
+-- what isn't the vault's data is on the disk that was found as it is on that which it recovers to
+abbrev pub FoundIsKept : Type 0
+FoundIsKept = (log : Log) (found : Disk) → Recovered (now log) found → KeepsFound (Some log) found
+
 -- where it wasn't opened, a stop since the first sync recovers to what was found
 abbrev pub FailedOpeningsRecover : Type 0
-FailedOpeningsRecover = (keys : KeyPair) (old new : Log) → StaysOpening old new → IsSoundlyFound (now old) → OpeningRecovers (shows_under keys) old new
+FailedOpeningsRecover = (keys : KeyPair) (old new : Log) → StaysOpening old new → IsSoundlyFound (now old) → OpeningRecovers (shows_under (Some old) keys) old new
 
 -- ---- at its end
 
 -- What a stop recovers to: at any moment to a prefix of the history that holds all that was synced, and up to the moment at which it begins to the
--- rows that it begins with.
+-- rows that it begins with, with what isn't the vault's data as it was found.
 pub record Recovers (found : Option Log) (keys : KeyPair) (folder : FolderView) (rows : Rows) (origin : Origin) (history : List Entry) : Type 0 where
-  pub stops : Told folder.log (λ log. (opened : ℕ) → IsSaidFrom found origin opened → StopsRecover (shows_under keys) opened rows history log)
-  pub begun : Told folder.log (λ log. (opened : ℕ) → IsSaidFrom found origin opened → BeginningRecovers (shows_under keys) opened origin.moment rows log)
+  pub stops : Told folder.log (λ log. (opened : ℕ) → IsSaidFrom found origin opened → StopsRecover (shows_under found keys) opened rows history log)
+  pub begun : Told folder.log (λ log. (opened : ℕ) → IsSaidFrom found origin opened → BeginningRecovers (shows_under found keys) opened origin.moment rows log)
 
 -- a store's history is left so, whenever it ends
 abbrev pub StoresRecover : Type 0
@@ -74,7 +78,7 @@ StoresRecover = (found : Option Log) (store : StoreView) (folder : FolderView) (
 abbrev pub StoresAreWhole : Type 0
 StoresAreWhole = (found : Option Log) (store : StoreView) (folder : FolderView) (rows : Rows) (origin : Origin) (history : List Entry)
     → IsStoreOf found store folder rows origin history → store.waiting ≡ []
-    → IsNone (tally_of origin history).stopped → Told folder.log (λ log. IsWhole (shows_under store.keys) rows history log)
+    → IsNone (tally_of origin history).stopped → Told folder.log (λ log. IsWhole (shows_under found store.keys) rows history log)
 
 -- what is left of a store's history where the commit of what waits failed as it was closed
 pub record IsCutShort (found : Option Log) (store : StoreView) (after : FolderView) (rows : Rows) (origin : Origin) (history : List Entry) : Type 0 where

@@ -1,11 +1,13 @@
 -- What an open vault stands for: a legal history of the plain file tree, and what a stop at each moment of it recovers to.
-use Rattle.std.specs.Prelude.{◌≡◌, ◌⊎◌, ℕ, suc, ◌≤◌, ◌^◌, ◌-◌, min, List, length, take, true, Option, Some, IsNone, IsSome, IsSomeAnd}
+use Rattle.std.specs.Prelude.{◌≡◌, ◌≢◌, ◌⊎◌, ℕ, suc, ◌≤◌, ◌^◌, ◌-◌, min, List, length, take, true, Option, Some, IsNone, IsSome, IsSomeAnd}
 use Rattle.std.specs.Option.{option_map, option_map_or}
 use Rattle.outside.specs.Calls.{Changes, Told}
-use Rattle.outside.specs.Disk.{Disk}
+use Rattle.outside.specs.Disk.{Disk, Path as HostPath, node_at}
 use Rattle.outside.specs.Images.{Log, disk_in, log_at, moment, now}
 use Rattle.outside.specs.Views.{FolderView}
 use Rattle.deeds.specs.Deeds.{PlainDeed, LogGoesOn}
+use Rattle.deeds.specs.Repeatable.{journal_file, new_file}
+use Rattle.chunk_journal.specs.Journal.{Recovered}
 use Rattle.chunk_journal.specs.Opening.{HasOpened}
 use Rattle.pending_files.specs.Laid.{CanWait, LookAlike, laid, laid_log}
 use Rattle.siv_mode.specs.Keys.{KeyPair}
@@ -17,14 +19,27 @@ use Rattle.tree_changes.specs.Shapes.{HasTree}
 use Rattle.live_tree.specs.Held.{HeldTree, live_rows}
 use Rattle.node_changes.specs.Changed.{StandsOn}
 use Rattle.node_changes.specs.Placed.{taken_for}
+use Rattle.node_changes.specs.Within.{IsWithin, AreWithin}
 use Rattle.stop_history.specs.Crash.{DiskShows, rows_stepped}
 use Rattle.stop_history.specs.Stands.{IsInState}
 use Rattle.stop_history.specs.Opening.{IsSoundlyFound}
 use Rattle.stop_history.specs.Prefix.{BeginningRecovers}
 
--- a disk shows rows where they have the shape of its tree
-abbrev pub shows_under : KeyPair → DiskShows
-shows_under keys disk rows = HasTree (sealing_of keys) disk rows
+-- what isn't the vault's data, nor one of the journal's two files, is as it is on this disk
+abbrev pub KeepsElsewhere : Disk → Disk → Type 0
+KeepsElsewhere first disk = (path : HostPath) → (IsWithin path → ⊥) → path ≢ journal_file → path ≢ new_file → node_at disk path ≡ node_at first path
+
+-- the same of the disk that a folder recovers to which was found with this log, its batch applied as far as it can be
+abbrev pub KeepsFound : Option Log → Disk → Type 0
+KeepsFound found disk = Told found (λ log. (first : Disk) → Recovered (now log) first → KeepsElsewhere first disk)
+
+-- A disk shows rows where they have the shape of its tree, and what isn't the vault's data is as it was found.
+pub record ShowsVault (found : Option Log) (keys : KeyPair) (disk : Disk) (rows : Rows) : Type 0 where
+  pub tree : HasTree (sealing_of keys) disk rows
+  pub elsewhere : KeepsFound found disk
+
+abbrev pub shows_under : Option Log → KeyPair → DiskShows
+shows_under found keys disk rows = ShowsVault found keys disk rows
 
 -- an open vault in memory: its keys, its tree and which node names which folder, what waits to be committed, how many entries its history
 -- has, as far as 64 bits go, and the number that is answered once a commit has failed
@@ -107,13 +122,15 @@ pub record HasRowsLeft (store : StoreView) (rows : Rows) (history : List Entry) 
   pub current : (wrapped (rows_after rows history) ≡ wrapped (live_rows contents store.live)) ⊎ HasFailedChange contents store.live rows history
 
 -- A folder's log on which a store stands for a history: a stop at any moment recovers to a prefix of it, which is empty up to the moment at which
--- it begins; until a commit fails the tree in memory is that of the disk once what waits is done, which can be done; each entry is answered
--- in the rows before it, and names the place that is taken. What was committed since the last entry has changed no more than bytes of files; and once
+-- it begins; until a commit fails the tree in memory is that of the disk once what waits is done, which can be done and names the vault's data alone,
+-- and what isn't the vault's data is as it was found; each entry is answered in the rows before it, and names the place that is taken. What was committed since the last entry has changed no more than bytes of files; and once
 -- a commit has failed, no moment goes by.
 pub record IsStoredIn (found : Option Log) (store : StoreView) (rows : Rows) (origin : Origin) (history : List Entry) (log : Log) : Type 0 where
-  pub state : (opened : ℕ) → IsSaidFrom found origin opened → IsInState (shows_under store.keys) opened rows history store.waiting log (tally_of origin history).stopped
-  pub begun : (opened : ℕ) → IsSaidFrom found origin opened → BeginningRecovers (shows_under store.keys) opened origin.moment rows log
+  pub state : (opened : ℕ) → IsSaidFrom found origin opened → IsInState (shows_under found store.keys) opened rows history store.waiting log (tally_of origin history).stopped
+  pub begun : (opened : ℕ) → IsSaidFrom found origin opened → BeginningRecovers (shows_under found store.keys) opened origin.moment rows log
   pub waits : IsNone (tally_of origin history).stopped → CanWait store.waiting (now log)
+  pub within : IsNone (tally_of origin history).stopped → AreWithin store.waiting
+  pub elsewhere : IsNone (tally_of origin history).stopped → KeepsFound found (now log)
   pub tree : IsNone (tally_of origin history).stopped → HasRows store (laid store.waiting (now log)) rows history
   pub since : IsNone (tally_of origin history).stopped → LookAlike (now (log_at log (tally_of origin history).moment)) (now log)
   pub answered : AreAnswered rows (tally_at origin) history

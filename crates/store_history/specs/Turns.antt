@@ -14,6 +14,7 @@ use Rattle.directory_scan.specs.Format.{sealing_of}
 use Rattle.live_tree.specs.Held.{live_rows}
 use Rattle.node_changes.specs.Changed.{StandsOn, ShowsRows, HasChanged, MayHaveChanged}
 use Rattle.node_changes.specs.Placed.{taken_for, IfDrawn, IsIdentifierOf}
+use Rattle.node_changes.specs.Within.{AreWithin}
 use Rattle.stop_history.specs.Stable.{is_kept}
 use Rattle.store_history.specs.Store.{StoreView, IsStoreOf, bounded, moment_of, shown_in}
 
@@ -105,7 +106,7 @@ abbrev pub StaysShown : StoreView → StoreView → FolderView → Made → Type
 StaysShown old new folder made = Told folder.log (λ log. (contents : ℕ → Content) → StandsOn (sealing_of old.keys) (laid old.waiting (now log)) old.live old.claims contents
     → ShowsRows (sealing_of old.keys) (rows_then (live_rows contents old.live) made) (laid new.waiting (now log)) new.live new.claims)
 
--- What is answered as stable doesn't wait.
+-- What is answered as stable doesn't wait, and what waits names the vault's data alone, if what waited before does.
 pub record IsQuietTurn (old new : StoreView) (before after : FolderView) (source source' : EntropyView) (turn : Turn) : Type 0 where
   pub is_turn : IsTurn old new before after source source' turn
   pub goes_on : IsNone new.stopped
@@ -113,6 +114,7 @@ pub record IsQuietTurn (old new : StoreView) (before after : FolderView) (source
   pub log : after.log ≡ before.log
   pub allowed : IsAllowed old before (made_of turn before after source source')
   pub waits : Told before.log (λ log. CanWait new.waiting (now log))
+  pub within : Told before.log (λ log. AreWithin old.waiting → AreWithin new.waiting)
   pub shown : StaysShown old new before (made_of turn before after source source')
   pub kept : is_kept turn.asked.request turn.asked.reply ≡ true → (old.waiting ≡ []) × (new.waiting ≡ [])
 

@@ -9,7 +9,7 @@
 //! Its functions are laws: they do nothing, and their clauses hold.
 #![tactic(auto)]
 
-ghost use Rattle.store_history.specs.Ends.{ClosingsRecover, FailedOpeningsRecover, OpeningsStand, StoresAreWhole, StoresRecover};
+ghost use Rattle.store_history.specs.Ends.{ClosingsRecover, FailedOpeningsRecover, FoundIsKept, OpeningsStand, StoresAreWhole, StoresRecover};
 ghost use Rattle.store_history.specs.Turns.{BrokenTurnsAdd, ChangedTurnsAdd, FlushedTurnsAdd, FlushesStand, QuietTurnsAdd, StoppedTurnsAdd, UnflushedTurnsAdd};
 
 /// Each turn adds an entry to whatever history the store stood for: one that changes nothing on the disk, also where a write waits, one whose change is committed,
@@ -30,10 +30,11 @@ pub fn flushes_stand()
 {}
 
 /// A vault whose journal is opened and whose tree is loaded stands for no entries, from the rows on of what its folder recovers to;
-/// where it isn't opened a stop recovers to what was found. It does nothing.
+/// where it isn't opened a stop recovers to what was found. Of what isn't the vault's data the disk that was found recovers to what stays so. It does nothing.
 pub fn openings_stand()
     ensures stand { OpeningsStand }
     ensures failed { FailedOpeningsRecover }
+    ensures kept { FoundIsKept }
 {}
 
 /// A stop at any moment recovers to a prefix of the history that holds all that was synced; of a store none of whose commits failed and in

@@ -21,6 +21,7 @@ use Rattle.directory_scan.specs.Format.{sealing_of}
 use Rattle.live_tree.specs.Held.{live_rows}
 use Rattle.node_changes.specs.Changed.{StandsOn, ShowsRows}
 use Rattle.node_changes.specs.Placed.{taken_for}
+use Rattle.node_changes.specs.Within.{AreWithin}
 use Rattle.stop_history.specs.Stable.{is_kept}
 use Rattle.store_history.specs.Store.{StoreView, moment_of}
 use Rattle.store_history.specs.Turns.{Draws, IsFlushed, IsQuietTurn, IsTurn, Turn, made_of}
@@ -110,6 +111,7 @@ module _ (old new : StoreView) (before after : FolderView) (source source' : Ent
     log = is.log;
     allowed = subst (λ (w : List PlainDeed). Told (disk_in (option_map (laid_log w) before.log)) AllowedOn) (sym none) (told_idle before.log AllowedOn is.allowed);
     waits = told_always before.log (λ log. CanWait new.waiting (now log)) (λ log. subst (λ (w : List PlainDeed). CanWait w (now log)) (sym none') (none_waits (now log)));
+    within = told_always before.log (λ log. AreWithin old.waiting → AreWithin new.waiting) (λ log all. subst AreWithin (sym none') tt);
     shown = subst (λ (w : List PlainDeed). Told before.log (ShownBy w new.waiting)) (sym none)
         (subst (λ (w : List PlainDeed). Told before.log (ShownBy [] w)) (sym none') (told_laid [] before.log ShownOn (told_idle before.log ShownOn is.shown)));
     kept = λ yes. (none, none');
@@ -122,6 +124,10 @@ module _ (old new : StoreView) (before after : FolderView) (source source' : Ent
   waits_still : (log : Option Log) → (IsSome log → new.waiting ≡ old.waiting) → Told log (λ log. CanWait old.waiting (now log)) → Told log (λ log. CanWait new.waiting (now log))
   waits_still None same can = tt
   waits_still (Some log) same can = subst (λ (w : List PlainDeed). CanWait w (now log)) (sym (same refl)) can
+
+  within_still : (log : Option Log) → (IsSome log → new.waiting ≡ old.waiting) → Told log (λ log. AreWithin old.waiting → AreWithin new.waiting)
+  within_still None same = tt
+  within_still (Some log) same = λ all. subst AreWithin (sym (same refl)) all
 
   shown_still : (log : Option Log) → (IsSome log → new.waiting ≡ old.waiting) → Told log (ShownBy old.waiting old.waiting) → Told log (ShownBy old.waiting new.waiting)
   shown_still None same is = tt
@@ -138,6 +144,7 @@ module _ (old new : StoreView) (before after : FolderView) (source source' : Ent
         log = same.0;
         allowed = is.allowed;
         waits = waits_still before.log same_waits can;
+        within = within_still before.log same_waits;
         shown = shown_still before.log same_waits (told_laid old.waiting before.log ShownOn is.shown);
         kept = λ yes. absurd (true≢false (sym yes ∙ loose));
       }

@@ -64,7 +64,7 @@ left_by before after store rows origin entries is = let recover = stores_recover
 -- where a commit had failed, what waits is of no account
 module _ (found : Option Log) (store : StoreView) (folder : FolderView) (rows : Rows) (origin : Origin) (entries : List Entry) where
   broken : (stopped : Option ℕ) (opened : ℕ) (log : Log) → IsSome stopped
-      → IsInState (shows_under store.keys) opened rows entries store.waiting log stopped → IsInState (shows_under store.keys) opened rows entries [] log stopped
+      → IsInState (shows_under found store.keys) opened rows entries store.waiting log stopped → IsInState (shows_under found store.keys) opened rows entries [] log stopped
   broken None opened log some is = absurd (true≢false (sym some))
   broken (Some f) opened log some is = is
 
@@ -192,9 +192,9 @@ module _ (before : FolderView) (store : StoreView) (back folder : FolderView) (r
   pub none_failed : IsOk closed.committed → IsNone (tally_of origin entries).stopped
   none_failed ok = none_stopped (tally_of origin entries).stopped store.stopped is.stopped (flushed_when closed.committed how.well ok).running
 
-  pub whole_closed : IsOk closed.committed → Told folder.log (λ log. IsWhole (shows_under store.keys) rows entries log)
+  pub whole_closed : IsOk closed.committed → Told folder.log (λ log. IsWhole (shows_under before.log store.keys) rows entries log)
   whole_closed ok =
-      subst (λ (keys : KeyPair). Told folder.log (λ log. IsWhole (shows_under keys) rows entries log)) same_keys
+      subst (λ (keys : KeyPair). Told folder.log (λ log. IsWhole (shows_under before.log keys) rows entries log)) same_keys
       (stores_are_whole before.log closed.store folder rows origin entries (flushed (flushed_when closed.committed how.well ok)) (ap (λ (s : StoreView). s.waiting) how.idle) (none_failed ok))
 
   -- closed badly, one had, or the folder failed since
@@ -213,10 +213,10 @@ said_later : (origin : Origin) (log : Log) → origin.moment ≡ suc (moment log
 said_later origin log next opened (inl here) = omega (arith, here, next)
 said_later origin log next opened (inr found) = let here = found.1 in omega (arith, here)
 
-nothing_since : (keys : KeyPair) (rows : Rows) (origin : Origin) (log : Log) → origin.moment ≡ suc (moment log) → (opened : ℕ) → IsSaidFrom (Some log) origin opened → StopsRecover (shows_under keys) opened rows [] log
+nothing_since : (keys : KeyPair) (rows : Rows) (origin : Origin) (log : Log) → origin.moment ≡ suc (moment log) → (opened : ℕ) → IsSaidFrom (Some log) origin opened → StopsRecover (shows_under (Some log) keys) opened rows [] log
 nothing_since keys rows origin log next opened from m since within image is = absurd (omega (arith, since, within, said_later origin log next opened from))
 
-nothing_before : (keys : KeyPair) (rows : Rows) (origin : Origin) (log : Log) → origin.moment ≡ suc (moment log) → (opened : ℕ) → IsSaidFrom (Some log) origin opened → BeginningRecovers (shows_under keys) opened origin.moment rows log
+nothing_before : (keys : KeyPair) (rows : Rows) (origin : Origin) (log : Log) → origin.moment ≡ suc (moment log) → (opened : ℕ) → IsSaidFrom (Some log) origin opened → BeginningRecovers (shows_under (Some log) keys) opened origin.moment rows log
 nothing_before keys rows origin log next opened from m since before within image is = absurd (omega (arith, since, within, said_later origin log next opened from))
 
 pub stops_nowhere : (keys : KeyPair) (rows : Rows) (origin : Origin) (view : FolderView) → origin.moment ≡ suc (moment_of view.log) → HasStops keys rows origin [] view view

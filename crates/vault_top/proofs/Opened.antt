@@ -59,5 +59,5 @@ closed_by view secret second folder looked kept vault NoRoot read is =
 closed_by view secret second folder looked kept vault Memory read is = tt
 
 -- a stop recovers to what was found
-pub recovers : (keys : KeyPair) (a b : Option Log) → Changes a b StaysOpening → Changes a b (λ old new. IsSoundlyFound (now old) → OpeningRecovers (shows_under keys) old new)
-recovers keys a b stays = changed_by a b StaysOpening (λ old new. IsSoundlyFound (now old) → OpeningRecovers (shows_under keys) old new) (λ old new h. failed_openings_recover keys old new h) stays
+pub recovers : (keys : KeyPair) (a b : Option Log) → Changes a b StaysOpening → Changes a b (λ old new. IsSoundlyFound (now old) → OpeningRecovers (shows_under (Some old) keys) old new)
+recovers keys a b stays = changed_by a b StaysOpening (λ old new. IsSoundlyFound (now old) → OpeningRecovers (shows_under (Some old) keys) old new) (λ old new h. failed_openings_recover keys old new h) stays

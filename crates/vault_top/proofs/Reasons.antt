@@ -77,9 +77,9 @@ module _ {D : Type 0} (since : FolderView → KeyPair → Rows → Type 0) (view
     none_closed : IsOk closed.committed → IsNone (tally_of origin entries).stopped
     none_closed ok = none_failed right.start store.store (view store.folder) (view kept) rows origin entries right.stands closed seen ok
 
-    whole_under : IsOk closed.committed → Told (view kept).log (λ log. IsWhole (shows_under begun.vault.keys) rows entries log)
+    whole_under : IsOk closed.committed → Told (view kept).log (λ log. IsWhole (shows_under (view folder).log begun.vault.keys) rows entries log)
     whole_under ok =
-        subst (λ (keys : KeyPair). Told (view kept).log (λ log. IsWhole (shows_under keys) rows entries log)) (sym begun.keys_are)
+        subst (λ (keys : KeyPair). Told (view kept).log (λ log. IsWhole (shows_under (view folder).log keys) rows entries log)) (sym begun.keys_are)
         (whole_closed right.start store.store (view store.folder) (view kept) rows origin entries right.stands closed seen ok)
 
     failed_under : IsErr closed.committed → IsSome (tally_of origin entries).stopped ⊎ Rose (tally_of origin entries).folder_faults (view kept).faults
@@ -186,7 +186,7 @@ module _ {D N C E : Type 0} (start : Rows → Origin → Type 0) (since : Folder
   none_in h ok = none_closed since views.folder service.kind secret.before second folder h.store h.rows h.origin h.joined.entries h.joined.right (begun_as h) h.folder h.closed h.closing ok
 
   whole_in : (h : HasServedAll start since views second service workers workers' ends back) → IsOk h.closed.committed
-      → Told (views.folder h.folder).log (λ log. IsWhole (shows_under (begun_as h).vault.keys) h.rows h.joined.entries log)
+      → Told (views.folder h.folder).log (λ log. IsWhole (shows_under (views.folder folder).log (begun_as h).vault.keys) h.rows h.joined.entries log)
   whole_in h ok = whole_under since views.folder service.kind secret.before second folder h.store h.rows h.origin h.joined.entries h.joined.right (begun_as h) h.folder h.closed h.closing ok
 
   -- where it was closed well, no commit failed, and all entries are on the disk

@@ -73,7 +73,7 @@ pub record FailsToUnlock (given : Given) (kind : SecretKind) (cause : Cause) : T
   pub locked : IsLocked given kind refusal
 
 -- The vault is unlocked, but isn't opened, for this cause: of the folder no more is changed than the opening of its journal does, and a stop since
--- the end of the first sync recovers to what was found.
+-- the end of the first sync recovers to what was found, the vault's data and all else.
 pub record FailsToOpen (given : Given) (kind : SecretKind) (cause : Cause) : Type 0 where
   pub vault : UnlockedVault
   pub unlocked : IsUnlocked given kind vault
@@ -81,7 +81,7 @@ pub record FailsToOpen (given : Given) (kind : SecretKind) (cause : Cause) : Typ
   pub is : cause ≡ of_opening error
   pub closed : IsClosedBy given vault error
   pub stays : Changes given.folder.before.log given.folder.after.log StaysOpening
-  pub recovers : Changes given.folder.before.log given.folder.after.log (λ old new. IsSoundlyFound (now old) → OpeningRecovers (shows_under vault.keys) old new)
+  pub recovers : Changes given.folder.before.log given.folder.after.log (λ old new. IsSoundlyFound (now old) → OpeningRecovers (shows_under (Some old) vault.keys) old new)
 
 -- why nothing is served from the folder, whose count never falls
 pub record IsUnopened (given : Given) (kind : SecretKind) (cause : Cause) : Type 0 where

@@ -106,11 +106,12 @@ pub record IsHandedBack (keys : KeyPair) (rows : Rows) (origin : Origin) (entrie
 
 -- What a stop leaves of a vault that was served under these keys with these entries. The folder's log goes on from the one that was found; a stop at
 -- any moment, from the end of the opening on, and where the disk was found sound from the end of the opening's first sync on, recovers to a prefix of the history
--- that holds all that was synced; and up to the moment at which the history begins to a disk that shows the rows that it begins with.
+-- that holds all that was synced; and up to the moment at which the history begins to a disk that shows the rows that it begins with. Each time what isn't the
+-- vault's data is as it was found.
 pub record HasStops (keys : KeyPair) (rows : Rows) (origin : Origin) (entries : List Entry) (before after : FolderView) : Type 0 where
   pub grown : Changes before.log after.log LogGoesOn
-  pub recover : Told after.log (λ log. (opened : ℕ) → IsSaidFrom before.log origin opened → StopsRecover (shows_under keys) opened rows entries log)
-  pub begun : Told after.log (λ log. (opened : ℕ) → IsSaidFrom before.log origin opened → BeginningRecovers (shows_under keys) opened origin.moment rows log)
+  pub recover : Told after.log (λ log. (opened : ℕ) → IsSaidFrom before.log origin opened → StopsRecover (shows_under before.log keys) opened rows entries log)
+  pub begun : Told after.log (λ log. (opened : ℕ) → IsSaidFrom before.log origin opened → BeginningRecovers (shows_under before.log keys) opened origin.moment rows log)
 
 -- The entries of all callers are one history from the rows on that the folder recovers to, under these keys. Of each caller it has what was asked on the links of the worker of
 -- that number, in order, but for requests that were answered as exhausted; and nothing else. One is answered so only where the most tickets that all requests may
@@ -138,4 +139,4 @@ pub record HasHistory {C : Type 0} (span : Span C) (keys : KeyPair) (shares : Li
 
 -- all entries of a history are on the disk: it shows the rows after them, and so does what any stop leaves
 abbrev pub IsOnDisk : {C : Type 0} {span : Span C} {keys : KeyPair} {shares : List (Share C)} → HasHistory span keys shares → Type 0
-IsOnDisk {span = span} {keys = keys} history = Told span.given.folder.after.log (λ log. IsWhole (shows_under keys) history.rows history.entries log)
+IsOnDisk {span = span} {keys = keys} history = Told span.given.folder.after.log (λ log. IsWhole (shows_under span.given.folder.before.log keys) history.rows history.entries log)

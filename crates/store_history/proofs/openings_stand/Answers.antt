@@ -1,4 +1,5 @@
 use Rattle.store_history.proofs.Openings.{openings_stand}
+use Rattle.store_history.proofs.Elsewhere.{found_is_kept}
 use Rattle.store_history.proofs.Ends.{failed_openings_recover}
 use Rattle.store_history.proofs.openings_stand.Goals as goal
 
@@ -7,3 +8,6 @@ returns-clause-stand c = openings_stand
 
 pub returns-clause-failed : goal.returns-clause-failed
 returns-clause-failed c = failed_openings_recover
+
+pub returns-clause-kept : goal.returns-clause-kept
+returns-clause-kept c = found_is_kept
