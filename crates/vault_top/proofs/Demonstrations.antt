@@ -152,7 +152,7 @@ module _ (d : Demonstration) (secret : Course SourceView) (folder : Holding) (ke
       unlocked_keys secret.before.left (key_line d.seed) (disk_in (Some folder.log)) whole.served.vault keys (ap (λ (s : SourceView). s.left) secret_is) keys_are whole.served.unlocked.gave
       in
       let shows : HasTree (sealing_of keys) (now kept.folder.log) (rows_at history.rows history.entries (length history.entries)) =
-      subst (λ (k : KeyPair). HasTree (sealing_of k) (now kept.folder.log) (rows_at history.rows history.entries (length history.entries))) same whole.closed.on_disk.shows
+      subst (λ (k : KeyPair). HasTree (sealing_of k) (now kept.folder.log) (rows_at history.rows history.entries (length history.entries))) same whole.closed.on_disk.shows.tree
       in
       let summed = sums (rows_after history.rows history.entries) (subst (λ (r : Rows). HasTree (sealing_of keys) (now kept.folder.log) r) (rows_at-all history.rows history.entries) shows) in
       record {

@@ -77,6 +77,8 @@ module _ (found : Option Log) (store : StoreView) (folder : FolderView) (rows : 
     state = λ opened from. broken (tally_of origin entries).stopped opened log some (is.state opened from);
     begun = is.begun;
     waits = λ none. absurd (never (tally_of origin entries).stopped some none);
+    within = λ none. absurd (never (tally_of origin entries).stopped some none);
+    elsewhere = λ none. absurd (never (tally_of origin entries).stopped some none);
     tree = λ none. absurd (never (tally_of origin entries).stopped some none);
     since = is.since;
     answered = is.answered;

@@ -80,7 +80,8 @@ module _ {D : Type 0} (since : FolderView → KeyPair → Rows → Type 0) (view
     whole_under : IsOk closed.committed → Told (view kept).log (λ log. IsWhole (shows_under (view folder).log begun.vault.keys) rows entries log)
     whole_under ok =
         subst (λ (keys : KeyPair). Told (view kept).log (λ log. IsWhole (shows_under (view folder).log keys) rows entries log)) (sym begun.keys_are)
-        (whole_closed right.start store.store (view store.folder) (view kept) rows origin entries right.stands closed seen ok)
+        (subst (λ (v : FolderView). Told (view kept).log (λ log. IsWhole (shows_under v.log store.store.keys) rows entries log)) begun.folder_is
+        (whole_closed right.start store.store (view store.folder) (view kept) rows origin entries right.stands closed seen ok))
 
     failed_under : IsErr closed.committed → IsSome (tally_of origin entries).stopped ⊎ Rose (tally_of origin entries).folder_faults (view kept).faults
     failed_under bad = failed_closed right.start store.store (view store.folder) (view kept) rows origin entries right.stands closed seen bad
