@@ -37,7 +37,7 @@ use Rattle.file_changes.specs.Steps.{ChangesContent}
 use Rattle.file_changes.specs.Files.{IsSealedFor, IsSealedIn}
 use Rattle.file_changes.specs.Waiting.{HasPut, HasWritten, IsAtRestOver, IsFlush, IsNotFlushed, MayBeFlushed}
 use Rattle.file_changes.proofs.Within.{path_within, rewriting_within}
-use Rattle.file_changes.proofs.Standing.{there, old, old_long, answered, shows, still_stands}
+use Rattle.file_changes.proofs.Standing.{there, old, old_long, answered, shows, spares, still_stands}
 use Rattle.file_changes.proofs.Telling.{Stands}
 
 -- ---- a change that waits
@@ -271,6 +271,7 @@ module _ (keys : KeyPair) (live : HeldTree) (claims : List (List ℕ × ℕ)) (n
           rewriting = r;
           are = put.are;
           within = λ all. subst AreWithin (sym put.are) (rewriting_within path (path_within live number path path_is) size r put.middle all);
+          strays = λ contents stands. spares keys over live claims number size clear is contents stands path path_is r change can_here (laid waiting' (now y)) (is_here contents stands);
           waits = put.waits;
           answer_is = step_answers;
           stepped = λ contents stands.

@@ -24,6 +24,8 @@ use Rattle.held_changes.proofs.Contents.{writing_keeps_contents, dating_keeps_co
 use Rattle.held_changes.proofs.Files.{nodes_have_bytes, files_stand_at_places}
 use Rattle.held_changes.proofs.Numbers.{nodes_have_rows}
 use Rattle.held_changes.proofs.Rewriting.{contents_change}
+use Rattle.stray_entries.specs.Strays.{KeepsStrays}
+use Rattle.stray_entries.proofs.Laws.{rewritten_file_keeps}
 use Rattle.held_changes.proofs.Writing.{writing_holds, dating_holds}
 use Rattle.name_places.proofs.Lowest.{writing_keeps, dating_keeps}
 use Rattle.content_changes.specs.Rewriting.{Rewriting, rewritten}
@@ -134,6 +136,11 @@ module _ (keys : KeyPair) (d : Disk) (live : HeldTree) (claims : List (List ℕ 
         is_tree : IsTreeOf s after tree'
         is_tree =
             contents_change s d after tree it.path it.i it.name old new stands.is it.dir stands_file
+            (subst (λ (p : HostPath). HasOtherBytes d after p new) place_is other_bytes)
+
+        pub spares : KeepsStrays s d after
+        spares =
+            rewritten_file_keeps s d after tree it.path it.i it.name old new stands.is it.dir stands_file
             (subst (λ (p : HostPath). HasOtherBytes d after p new) place_is other_bytes)
 
         abbrev after_contents : ℕ → Content

@@ -34,7 +34,7 @@ use Rattle.file_changes.specs.Held.{rewritten_tree, RowsAreRewritten}
 use Rattle.file_changes.specs.Rewritten.{DrawsNonces, HasRewritten, MayHaveRewritten}
 use Rattle.file_changes.specs.Steps.{ChangesContent}
 use Rattle.file_changes.proofs.Within.{path_within}
-use Rattle.file_changes.proofs.Standing.{there, host, old, content_of_row, has_file, made, answered, shows}
+use Rattle.file_changes.proofs.Standing.{there, host, old, content_of_row, has_file, made, answered, shows, spares}
 
 -- what is told of the disk is told of the log
 of_disk : (log : Option Log) (P : Disk → Type 0) → Told (disk_in log) P → Told log (λ (l : Log). P (now l))
@@ -110,6 +110,7 @@ module _ (keys read : KeyPair) (same : read ≡ keys) (live : HeldTree) (claims 
               does = here.does;
               repeatable = here.repeatable;
               within = ((path_within live number path path_is, tt), tt);
+              strays = spares keys d live claims number size clear is contents stands path path_is r change can here.after here.is;
               stepped = λ others more.
                   let more_here = (done others more).1 in
                   let same_disk : more_here.after ≡ here.after = same_run (in_order deeds) d more_here.after here.after more_here.does here.does in

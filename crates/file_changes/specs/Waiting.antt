@@ -16,6 +16,7 @@ use Rattle.content_deeds.specs.Deeds.{rewriting_in}
 use Rattle.content_writer.specs.Sealed.{nonces_of}
 use Rattle.node_changes.specs.Changed.{IsLate, IsStepAnswer, ShowsRows, StandsOn}
 use Rattle.node_changes.specs.Within.{AreWithin}
+use Rattle.stray_entries.specs.Strays.{KeepsStrays}
 
 -- the journal is quiet, what waits can be done, and the tree in memory is that of the disk once it is
 pub record IsAtRestOver (s : Sealing) (live : HeldTree) (claims : List (List ℕ × ℕ)) (waiting : List PlainDeed) (log : Log) : Type 0 where
@@ -33,8 +34,8 @@ pub record IsFlush (waiting : List PlainDeed) (old new : Log) : Type 0 where
 abbrev pub MayBeFlushed : List PlainDeed → List PlainDeed → Log → Log → Type 0
 MayBeFlushed waiting middle old new = ((middle ≡ waiting) × (new ≡ old)) ⊎ ((middle ≡ []) × IsFlush waiting old new)
 
--- Chunks that were sealed for a host file wait besides, a file of the vault's data: what waited before may have been committed, the answer is the
--- step's, and the tree in memory is that of the step's rows once all is done.
+-- Chunks that were sealed for a host file wait besides, that of a node of the vault: what waited before may have been committed, the answer is the
+-- step's, and once all is done what belongs to no node is as it was, and the tree in memory is that of the step's rows.
 pub record HasPut (s : Sealing) (request : PlainRequest) (second : ℕ) (answer : Answer) (live live' : HeldTree) (claims claims' : List (List ℕ × ℕ)) (waiting waiting' : List PlainDeed) (old new : Log) : Type 0 where
   pub middle : List PlainDeed
   pub flushed : MayBeFlushed waiting middle old new
@@ -43,6 +44,7 @@ pub record HasPut (s : Sealing) (request : PlainRequest) (second : ℕ) (answer 
   pub rewriting : Rewriting
   pub are : waiting' ≡ rewriting_in path len rewriting middle
   pub within : AreWithin middle → AreWithin waiting'
+  pub strays : (contents : ℕ → Content) → StandsOn s (laid middle (now new)) live claims contents → KeepsStrays s (laid middle (now new)) (laid waiting' (now new))
   pub waits : CanWait waiting' (now new)
   pub answer_is : IsStepAnswer s request second answer (laid middle (now new)) live claims
   pub stepped : (contents : ℕ → Content) → StandsOn s (laid middle (now new)) live claims contents

@@ -36,6 +36,7 @@ use Rattle.held_changes.proofs.Making.{making_holds}
 use Rattle.held_changes.proofs.Contents.{making_keeps_contents}
 use Rattle.name_places.specs.Claims.{claimed_in, AreClaimsOf, claims_in}
 use Rattle.name_places.specs.Laws.{ClaimsAreWhole, KeptClaims}
+use Rattle.stray_entries.specs.Strays.{KeepsStrays}
 use Rattle.node_changes.proofs.Refusing.{find_in, find_true}
 use Rattle.node_changes.specs.Changed.{StandsOn, MakesStep, ShowsRows}
 use Rattle.node_changes.specs.Within.{AreWithin}
@@ -90,6 +91,7 @@ dir_node s (Bad t) i f e = absurd cc
 module _ (keys : KeyPair) (texts : AreTexts (sealing_of keys)) (kept : KeptClaims keys) (whole : ClaimsAreWhole) (d : Disk) (live live' : HeldTree) (claims claims' : List (List ℕ × ℕ)) (parent now : ℕ) (i n : List ℕ) (long : Bool)
     (drawn : Option (List ℕ)) (can : CanCome (sealing_of keys) d live parent i n long drawn) (x : Node) (empty : content_of (what_of (sealing_of keys) x) (chunks true []) ≡ content_in (sealing_of keys) x) (deeds : List PlainDeed)
     (creates : (tree : Tree) (p : Path) → IsTreeOf (sealing_of keys) d tree → laws.IsNew (sealing_of keys) d tree p i n long drawn → laws.Leads (sealing_of keys) d deeds (with_node tree (n ∷ p) x long))
+    (spares : (tree : Tree) (p : Path) (after : Disk) → IsTreeOf (sealing_of keys) d tree → laws.IsNew (sealing_of keys) d tree p i n long drawn → DoesAll deeds d after → KeepsStrays (sealing_of keys) d after)
     (made : live' ≡ added live (new_node parent n (what_of (sealing_of keys) x) (place_of (sealing_of keys) i n long).entry long now) now) where
   abbrev k : Sealing
   k = sealing_of keys
@@ -129,6 +131,9 @@ module _ (keys : KeyPair) (texts : AreTexts (sealing_of keys)) (kept : KeptClaim
     does : DoesAll (in_order deeds) d leads.after
     does = subst (λ (ds : List PlainDeed). DoesAll ds d leads.after) (sym leads.ordered) leads.does
 
+    spared : KeepsStrays k d leads.after
+    spared = spares tree at.0 leads.after stands.is new leads.does
+
     stands_after : AreClaimsOf k (added live node' now) claims' → StandsOn k leads.after live' claims' (with_new_content contents live.next)
     stands_after claimed = subst (λ (l : HeldTree). StandsOn k leads.after l claims' (with_new_content contents live.next)) (sym made) (record {
       tree = with_node tree (n ∷ at.0) x long;
@@ -159,6 +164,7 @@ module _ (keys : KeyPair) (texts : AreTexts (sealing_of keys)) (kept : KeptClaim
       does = does contents stands;
       repeatable = (leads contents stands).repeatable;
       within = within;
+      strays = spared contents stands;
       stepped = λ others more.
           let same : (leads others more).after ≡ (leads contents stands).after = same_run (in_order deeds) d (leads others more).after (leads contents stands).after (does others more) (does contents stands) in
           subst (λ (y : Disk). ShowsRows k (step (live_rows others live) (create parent name is_directory mode) now).rows y live' claims') same (shows others more);

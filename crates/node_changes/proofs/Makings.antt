@@ -6,7 +6,7 @@ use Rattle.std.specs.List.{range_with_len}
 use Rattle.std.specs.Option.{option_and_then, option_map_or}
 use Rattle.vault_path.specs.Parts.{is_part}
 use Rattle.outside.specs.Disk.{Disk, Path as HostPath}
-use Rattle.deeds.specs.Deeds.{PlainDeed}
+use Rattle.deeds.specs.Deeds.{PlainDeed, DoesAll}
 use Rattle.siv_mode.specs.Keys.{KeyPair}
 use Rattle.file_chunks.specs.Header.{header_opens}
 use Rattle.file_chunks.specs.File.{is_bad_size, cell_of, chunk_count, sealed_at}
@@ -42,6 +42,8 @@ use Rattle.name_places.specs.Asked.{IsTaken}
 use Rattle.name_places.specs.Asked.{identifier_in as drawn_in}
 use Rattle.name_places.proofs.Lowest.{making_keeps}
 use Rattle.name_places.proofs.Listed.{claims_are_whole}
+use Rattle.stray_entries.specs.Strays.{KeepsStrays}
+use Rattle.stray_entries.proofs.Laws.{created_directory_keeps, created_file_keeps}
 use Rattle.node_changes.specs.declared.site.Site.{Site}
 use Rattle.node_changes.specs.Changed.{StandsOn}
 use Rattle.node_changes.specs.Placed.{identifier_in, identifier_at, name_of, taken_in}
@@ -178,6 +180,8 @@ module _ (keys : KeyPair) (texts : AreTexts (sealing_of keys)) (kept : KeptClaim
   module _ (within : AreWithin deeds) (is_directory : Bool) (drawn : Option (List ℕ)) (x : Node) (empty : content_of (what_of (sealing_of keys) x) (chunks true []) ≡ content_in (sealing_of keys) x)
       (leads : (d : Disk) (tree : Tree) (p : Path) → site.folder ≡ (sealing_of keys).folder_of at.identifier → IsTreeOf (sealing_of keys) d tree → laws.IsNew (sealing_of keys) d tree p at.identifier site.name site.place.long drawn
       → laws.Leads (sealing_of keys) d deeds (with_node tree (site.name ∷ p) x site.place.long))
+      (spares : (d : Disk) (tree : Tree) (p : Path) (after : Disk) → site.folder ≡ (sealing_of keys).folder_of at.identifier → IsTreeOf (sealing_of keys) d tree → laws.IsNew (sealing_of keys) d tree p at.identifier site.name site.place.long drawn
+      → DoesAll deeds d after → KeepsStrays (sealing_of keys) d after)
       (made : live' ≡ added live (new_node parent site.name (what_of (sealing_of keys) x) site.place.entry site.place.long now) now) (rows : RowsAreAdded live live' parent site.name is_directory now)
       (claimed : AreClaimsOf (sealing_of keys) live claims → AreClaimsOf (sealing_of keys) (added live (new_node parent site.name (what_of (sealing_of keys) x) site.place.entry site.place.long now) now) claims') where
     abbrev with_entry : List ℕ → HeldTree
@@ -198,7 +202,8 @@ module _ (keys : KeyPair) (texts : AreTexts (sealing_of keys)) (kept : KeptClaim
     makes_on : MakesOn (sealing_of keys) (create parent name is_directory mode) now (says (qid (new_qid live is_directory))) drawn live live' claims claims' deeds
     makes_on d contents stands untaken = (
       makes keys texts kept claims_are_whole d live live' claims claims' parent now at.identifier site.name site.place.long drawn (can d untaken) x empty deeds
-          (λ tree p of new. leads d tree p (folder_is keys live parent site at d claims contents stands) of new) (made ∙ ap with_entry at.place.entry) within name is_directory mode rows
+          (λ tree p of new. leads d tree p (folder_is keys live parent site at d claims contents stands) of new)
+          (λ tree p after of new does. spares d tree p after (folder_is keys live parent site at d claims contents stands) of new does) (made ∙ ap with_entry at.place.entry) within name is_directory mode rows
           (λ others more. subst (λ (entry : List ℕ). AreClaimsOf o (with_entry entry) claims') at.place.entry (claimed more.claimed))
           (made_is keys live parent site at name clear is_directory mode now is) contents stands,
       λ others more. answer_is keys live parent site at name clear is_directory mode now is others,
@@ -217,6 +222,8 @@ module _ (keys : KeyPair) (texts : AreTexts (sealing_of keys)) (kept : KeptClaim
         makes_on (subst AreWithin (sym are) (creation_within (place_by site.folder site.place.entry site.place.long) site.place.text header)) false None (File header) (sym (empty_file keys header long opens))
         (λ d tree p folder of new. subst (λ (ds : List PlainDeed). laws.Leads o d ds (with_node tree (site.name ∷ p) (File header) site.place.long)) (file_deeds folder)
         (creates_file o d tree p at.identifier site.name header site.place.long texts of new))
+        (λ d tree p after folder of new does. created_file_keeps o d after tree p at.identifier site.name header site.place.long texts of new
+        (subst (λ (ds : List PlainDeed). DoesAll ds d after) (sym (file_deeds folder)) does))
         (made ∙ ap (λ (size : ℕ). added live (new_node parent site.name (KeptFile size) site.place.entry site.place.long now) now) (sym long)) rows
         (λ claimed. subst (AreClaimsOf o (added live (new_node parent site.name (KeptFile (length header)) site.place.entry site.place.long now) now)) (sym same)
         (making_keeps o live claims (new_node parent site.name (KeptFile (length header)) site.place.entry site.place.long now) now is claimed refl))
@@ -239,6 +246,8 @@ module _ (keys : KeyPair) (texts : AreTexts (sealing_of keys)) (kept : KeptClaim
         true (Some directory.identifier) (Dir directory.identifier) refl
         (λ d tree p folder of it. subst (λ (ds : List PlainDeed). laws.Leads o d ds (with_node tree (site.name ∷ p) (Dir directory.identifier) site.place.long)) (dir_deeds folder)
         (creates_directory o d tree p at.identifier site.name directory.identifier site.place.long texts of it new.valid))
+        (λ d tree p after folder of it does. created_directory_keeps o d after tree p at.identifier site.name directory.identifier site.place.long texts of it new.valid
+        (subst (λ (ds : List PlainDeed). DoesAll ds d after) (sym (dir_deeds folder)) does))
         (made ∙ ap (λ (f : List ℕ). added live (new_node parent site.name (KeptDir directory.identifier f) site.place.entry site.place.long now) now) new.folder) rows
         (λ before. grows o live (new_node parent site.name (what_of o (Dir directory.identifier)) site.place.entry site.place.long now) now is before refl (ap (λ (f : List ℕ). Some f) (sym new.folder)))
 

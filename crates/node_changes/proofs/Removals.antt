@@ -34,6 +34,8 @@ use Rattle.held_changes.proofs.Contents.{removing_keeps_contents}
 use Rattle.name_places.specs.Claims.{claimed_in, claimed_at, NamesFolder, IsOnly, AreClaimsOf}
 use Rattle.name_places.specs.Laws.{EntriesAreParts, KeptClaims, Shrinks}
 use Rattle.name_places.proofs.Lowest.{removing_keeps}
+use Rattle.stray_entries.specs.Strays.{KeepsStrays}
+use Rattle.stray_entries.proofs.Laws.{removed_directory_keeps, removed_file_keeps, removed_link_keeps}
 use Rattle.node_changes.specs.Changed.{StandsOn, MakesStep, LeadsOn, MayRefuse, ShowsRows, IsStepAnswer}
 use Rattle.node_changes.specs.Causes.{RefusalCause}
 use Rattle.node_changes.specs.Within.{AreWithin}
@@ -102,18 +104,26 @@ module _ (keys : KeyPair) (texts : AreTexts (sealing_of keys)) (kept : KeptClaim
     clean : laws.IsHeldByNone tree it.path it.i it.name it.node
     clean = record { parent = it.dir; there = it.stands; clean = sym it.is.shadowed ∙ can.clean }
 
-    by_node : (x : Node) → it.node ≡ x → laws.Leads k d (remove_deeds (place_of k it.i it.name (tree.long (it.name ∷ it.path))) (what_of k x)) tree'
-    by_node (File b) e = removes_file k d tree it.path it.i it.name b texts stands.is (subst (laws.IsHeldByNone tree it.path it.i it.name) e clean)
-    by_node (Link b) e = removes_link k d tree it.path it.i it.name b texts stands.is (subst (laws.IsHeldByNone tree it.path it.i it.name) e clean)
-    by_node (Dir t) e =
+    emptied : (t : List ℕ) → it.node ≡ Dir t → laws.IsEmptied tree (it.name ∷ it.path)
+    emptied t e =
         let bare = can.bare t (k.folder_of t) (it.is.what ∙ ap (what_of k) e) in
-        removes_directory k d tree it.path it.i it.name t texts stands.is (subst (laws.IsHeldByNone tree it.path it.i it.name) e clean)
-        (record {
+        record {
           no_child = (childless_have_no_child k tree live (it.name ∷ it.path) number stands.holds (held.kept.parent, it.at_dir, it.named)).0 can.childless;
           no_foreign = sym it.is.foreign ∙ bare.0;
           once = sym stands.holds.twice ∙ bare.1;
-        })
+        }
+
+    by_node : (x : Node) → it.node ≡ x → laws.Leads k d (remove_deeds (place_of k it.i it.name (tree.long (it.name ∷ it.path))) (what_of k x)) tree'
+    by_node (File b) e = removes_file k d tree it.path it.i it.name b texts stands.is (subst (laws.IsHeldByNone tree it.path it.i it.name) e clean)
+    by_node (Link b) e = removes_link k d tree it.path it.i it.name b texts stands.is (subst (laws.IsHeldByNone tree it.path it.i it.name) e clean)
+    by_node (Dir t) e = removes_directory k d tree it.path it.i it.name t texts stands.is (subst (laws.IsHeldByNone tree it.path it.i it.name) e clean) (emptied t e)
     by_node (Bad t) e = absurd (can.good _ (it.is.what ∙ ap (what_of k) e))
+
+    spares : (x : Node) → it.node ≡ x → (after : Disk) → DoesAll (remove_deeds (place_of k it.i it.name (tree.long (it.name ∷ it.path))) (what_of k x)) d after → KeepsStrays k d after
+    spares (File b) e after = removed_file_keeps k d after tree it.path it.i it.name b texts stands.is (subst (laws.IsHeldByNone tree it.path it.i it.name) e clean)
+    spares (Link b) e after = removed_link_keeps k d after tree it.path it.i it.name b texts stands.is (subst (laws.IsHeldByNone tree it.path it.i it.name) e clean)
+    spares (Dir t) e after = removed_directory_keeps k d after tree it.path it.i it.name t texts stands.is (subst (laws.IsHeldByNone tree it.path it.i it.name) e clean) (emptied t e)
+    spares (Bad t) e after = absurd (can.good _ (it.is.what ∙ ap (what_of k) e))
 
     same_deeds : remove_deeds (place_of k it.i it.name (tree.long (it.name ∷ it.path))) (what_of k it.node) ≡ deeds
     same_deeds = ap₂ remove_deeds (place_is k d tree live stands.is stands.holds number held there can.below folder above it) (sym it.is.what) ∙ sym deeds_are
@@ -123,6 +133,9 @@ module _ (keys : KeyPair) (texts : AreTexts (sealing_of keys)) (kept : KeptClaim
 
     pub does : DoesAll (in_order deeds) d leads.after
     does = subst (λ (ds : List PlainDeed). DoesAll ds d leads.after) (sym leads.ordered) leads.does
+
+    pub spared : KeepsStrays k d leads.after
+    spared = spares it.node refl leads.after (subst (λ (ds : List PlainDeed). DoesAll ds d leads.after) (sym same_deeds) leads.does)
 
     -- ---- in memory
     module _ (gone : live' ≡ removed live number held.kept.parent now) (rows : RowsAreRemoved live live' number now) (unclaimed : IsUnclaimed held claims claims') where
@@ -171,6 +184,7 @@ module _ (keys : KeyPair) (texts : AreTexts (sealing_of keys)) (kept : KeptClaim
       does = does contents stands;
       repeatable = (leads contents stands).repeatable;
       within = subst AreWithin (sym deeds_are) (removal_within (place_in folder held) held.kept.what);
+      strays = spared contents stands;
       stepped = λ others more.
           let same : (leads others more).after ≡ (leads contents stands).after = same_run (in_order deeds) d (leads others more).after (leads contents stands).after (does others more) (does contents stands) in
           subst (λ (x : Disk). ShowsRows k (step (live_rows others live) (remove number) now).rows x live' claims') same (shows others more gone rows unclaimed);

@@ -25,6 +25,8 @@ use Rattle.held_changes.proofs.Contents.{renaming_keeps_contents}
 use Rattle.name_places.specs.Claims.{claims_in}
 use Rattle.name_places.specs.Laws.{ClaimsAreWhole, KeptClaims}
 use Rattle.name_places.proofs.Lowest.{renaming_keeps}
+use Rattle.stray_entries.specs.Strays.{KeepsStrays}
+use Rattle.stray_entries.proofs.Laws.{renamed_directory_keeps, renamed_file_keeps, renamed_link_keeps}
 use Rattle.node_changes.specs.Changed.{StandsOn, MakesStep, ShowsRows}
 use Rattle.node_changes.specs.Removal.{IsFolderAbove, place_in}
 use Rattle.node_changes.specs.Within.{AreWithin}
@@ -92,11 +94,20 @@ module _ (keys : KeyPair) (texts : AreTexts (sealing_of keys)) (kept : KeptClaim
       };
     }
 
+    once : (t : List ℕ) → it.node ≡ Dir t → tree.marks.twice ≡ false
+    once t e = sym stands.holds.twice ∙ can.once t (k.folder_of t) (it.is.what ∙ ap (what_of k) e)
+
     by_node : (x : Node) → it.node ≡ x → laws.Leads k d (rename_deeds (place_of k i it.name (tree.long (it.name ∷ it.path))) (place_of k i m long) (k.seal i m) (what_of k x)) tree'
     by_node (File b) e = renames_file k d tree it.path i it.name m b long texts stands.is (clean (File b) e) new
     by_node (Link b) e = renames_link k d tree it.path i it.name m b long texts stands.is (clean (Link b) e) new
-    by_node (Dir t) e = renames_directory k d tree it.path i it.name m t long texts stands.is (clean (Dir t) e) new (sym stands.holds.twice ∙ can.once t (k.folder_of t) (it.is.what ∙ ap (what_of k) e))
+    by_node (Dir t) e = renames_directory k d tree it.path i it.name m t long texts stands.is (clean (Dir t) e) new (once t e)
     by_node (Bad t) e = absurd (can.good _ (it.is.what ∙ ap (what_of k) e))
+
+    spares : (x : Node) → it.node ≡ x → (after : Disk) → DoesAll (rename_deeds (place_of k i it.name (tree.long (it.name ∷ it.path))) (place_of k i m long) (k.seal i m) (what_of k x)) d after → KeepsStrays k d after
+    spares (File b) e after = renamed_file_keeps k d after tree it.path i it.name m b long texts stands.is (clean (File b) e) new
+    spares (Link b) e after = renamed_link_keeps k d after tree it.path i it.name m b long texts stands.is (clean (Link b) e) new
+    spares (Dir t) e after = renamed_directory_keeps k d after tree it.path i it.name m t long texts stands.is (clean (Dir t) e) new (once t e)
+    spares (Bad t) e after = absurd (can.good _ (it.is.what ∙ ap (what_of k) e))
 
     place : place_of k i it.name (tree.long (it.name ∷ it.path)) ≡ place_in can.folder held
     place = ap (λ (j : List ℕ). place_of k j it.name (tree.long (it.name ∷ it.path))) (sym same_dir) ∙ place_is k d tree live stands.is stands.holds number held there can.below can.folder above_is it
@@ -111,6 +122,9 @@ module _ (keys : KeyPair) (texts : AreTexts (sealing_of keys)) (kept : KeptClaim
 
     pub does : DoesAll (in_order deeds) d leads.after
     does = subst (λ (ds : List PlainDeed). DoesAll ds d leads.after) (sym leads.ordered) leads.does
+
+    pub spared : KeepsStrays k d leads.after
+    spared = spares it.node refl leads.after (subst (λ (ds : List PlainDeed). DoesAll ds d leads.after) (sym same_deeds) leads.does)
 
     pub stands_after : StandsOn k leads.after (renamed live number held.kept.parent m (place_of k i m long).entry long now) claims contents
     stands_after = record {
@@ -139,6 +153,7 @@ module _ (keys : KeyPair) (texts : AreTexts (sealing_of keys)) (kept : KeptClaim
       does = does deeds_are contents stands;
       repeatable = (leads deeds_are contents stands).repeatable;
       within = subst AreWithin (sym deeds_are) (renaming_within (place_in can.folder held) (place_of k i m long) (k.seal i m) held.kept.what);
+      strays = spared deeds_are contents stands;
       stepped = λ others more.
           let same : (leads deeds_are others more).after ≡ (leads deeds_are contents stands).after =
           same_run (in_order deeds) d (leads deeds_are others more).after (leads deeds_are contents stands).after (does deeds_are others more) (does deeds_are contents stands) in

@@ -17,6 +17,7 @@ use Rattle.live_tree.specs.Held.{HeldTree, live_rows}
 use Rattle.live_tree.specs.Changes.{wrapped}
 use Rattle.held_changes.specs.Holds.{Holds, AreHeldContents}
 use Rattle.name_places.specs.Claims.{AreClaimsOf}
+use Rattle.stray_entries.specs.Strays.{KeepsStrays}
 use Rattle.node_changes.specs.Within.{AreWithin}
 
 -- The tree in memory, with the index of its claims, is that of a disk, whose files and links have these contents by number.
@@ -62,13 +63,14 @@ IsAccepted s request second d live claims =
 
 -- ---- changes
 
--- Deeds that can be done, and again after a stop, and that name the vault's data alone; on the disk after them the tree in memory is that of the
--- step's rows.
+-- Deeds that can be done, and again after a stop, and that name the vault's data alone; on the disk after them what belonged to no node is as it
+-- was, and the tree in memory is that of the step's rows.
 pub record MakesStep (s : Sealing) (request : PlainRequest) (second : ℕ) (deeds : List PlainDeed) (old : Disk) (live live' : HeldTree) (claims claims' : List (List ℕ × ℕ)) : Type 0 where
   pub after : Disk
   pub does : DoesAll (in_order deeds) old after
   pub repeatable : IsRepeatable deeds
   pub within : AreWithin deeds
+  pub strays : KeepsStrays s old after
   pub stepped : (contents : ℕ → Content) → StandsOn s old live claims contents
       → ShowsRows s (step (live_rows contents live) request second).rows after live' claims'
 

@@ -25,7 +25,8 @@ use Rattle.store_history.specs.Turns.{AddsEntry, FlushedTurnsAdd, FlushesStand, 
 use Rattle.store_history.proofs.Alike.{for_alike, looks_beside, looks_through}
 use Rattle.store_history.proofs.Placed.{begins_low, begun_goes_on, goes_later, not_both, opened_goes_on, places_go_on, read_then}
 use Rattle.node_changes.proofs.Beside.{stands_beside}
-use Rattle.store_history.proofs.Elsewhere.{keeps_alike, keeps_done}
+use Rattle.stray_entries.proofs.Trees.{keeps_itself}
+use Rattle.store_history.proofs.Others.{keeps_alike, keeps_done}
 use Rattle.store_history.proofs.Shows.{shows_blind}
 use Rattle.store_history.proofs.Turns.{moments_rise, none_back}
 
@@ -71,8 +72,9 @@ module _ (old : StoreView) (before after : FolderView) (found : Option Log) (row
         begun = begun_goes_on found old.keys rows origin history a b (goes a b stored any) store.caused late stored.begun;
         waits = λ _. none_waits (now b);
         within = λ _. tt;
-        elsewhere = λ _. keeps_alike found (laid old.waiting (now a)) (now b) (beside a b stored committed)
-            (keeps_done found old.waiting (now a) (laid old.waiting (now a)) (stored.within none) waits.does (stored.elsewhere none));
+        strays = λ _. keeps_itself (sealing_of old.keys) (now b);
+        others = λ _. keeps_alike found old.keys (laid old.waiting (now a)) (now b) has.stands.is.host committed.at_rest.steady.tree (beside a b stored committed)
+            (keeps_done found old.keys old.waiting (now a) (laid old.waiting (now a)) (stored.within none) (stored.strays none) waits.does (stored.others none));
         tree = λ _. record {
           contents = has.contents;
           stands = stands_beside (sealing_of old.keys) (laid old.waiting (now a)) (now b) old.live old.claims has.contents has.stands committed.at_rest.steady.tree (beside a b stored committed);

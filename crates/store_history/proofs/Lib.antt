@@ -1,4 +1,4 @@
-pub mod Elsewhere
+pub mod Others
 pub mod Shows
 pub mod Alike
 pub mod Placed

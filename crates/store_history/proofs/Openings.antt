@@ -8,9 +8,9 @@ use Rattle.outside.proofs.Moments.{moment_later}
 use Rattle.siv_mode.specs.Keys.{KeyPair}
 use Rattle.deeds.specs.Deeds.{PlainDeed, in_order, LogGoesOn}
 use Rattle.deeds.proofs.Amid.{tree_run}
+use Rattle.chunk_journal.specs.Commits.{IsReopenable}
 use Rattle.chunk_journal.specs.Journal.{IsAlike, IsQuiet, RecoversTo, RecoversLike}
 use Rattle.chunk_journal.specs.Opening.{HasOpened, IsOpening, StaysOpening}
-use Rattle.chunk_journal.specs.Commits.{IsReopenable}
 use Rattle.chunk_journal.proofs.Found.{opening_keeps, stays_as_found, stays_found, opened_alike}
 use Rattle.pending_files.specs.Laid.{CanWait, LookAlike, laid}
 use Rattle.pending_files.proofs.Laying.{none_waits}
@@ -42,7 +42,9 @@ use Rattle.stop_history.proofs.Openings.{begins_now}
 use Rattle.stop_history.proofs.Stops.{running_begins}
 use Rattle.store_history.specs.Store.{StoreView, moment_of, shows_under, HasRows, IsSaidFrom, IsStoredIn, IsStoreOf}
 use Rattle.store_history.specs.Ends.{IsFoundClear, IsOpened, HasBeenOpened, OpeningsStand}
-use Rattle.store_history.proofs.Elsewhere.{keeps_opened}
+use Rattle.stray_entries.specs.Strays.{KeepsStrays}
+use Rattle.stray_entries.proofs.Trees.{keeps_itself}
+use Rattle.store_history.proofs.Others.{keeps_opened}
 use Rattle.store_history.proofs.Shows.{shows_blind, stands_shows}
 use Rattle.store_history.proofs.Alike.{looks_itself}
 use Rattle.store_history.proofs.Placed.{at_its_end}
@@ -171,11 +173,11 @@ module _ (unlocked : ℕ) (kept : KeptTree) (store : StoreView) (live_is : store
       let tells : TellsRows s (now new) kept = keeping_tells_rows s (now new) kept is in
       let host : IsTree (now new) = opened.at_rest.steady.tree in
       let has : HasRows store (now new) (rows_of tells.contents) [] = has_rows (now new) is tells host in
+      let found : IsTree opened.disk = recovered_tree (now old) opened.disk opening.steady.tree opened.recovers in
       let shows : Shows (Some old) (now new) (rows_of tells.contents) = record {
         tree = stands_shows s (now new) store.live store.claims tells.contents (rows_of tells.contents) (stands_loaded (now new) is tells host) (current tells.contents);
-        elsewhere = keeps_opened old new opened;
+        others = keeps_opened store.keys old new opened found;
       } in
-      let found : IsTree opened.disk = recovered_tree (now old) opened.disk opening.steady.tree opened.recovers in
       let running = λ (origin : Origin) (at : origin.moment ≡ moment new) (opened_at : ℕ) (from : IsSaidFrom (Some old) origin opened_at). runs_on old new opened opening (rows_of tells.contents) shows origin at opened_at from in
       record {
         rows = rows_of tells.contents;
@@ -190,7 +192,8 @@ module _ (unlocked : ℕ) (kept : KeptTree) (store : StoreView) (live_is : store
           begun = λ opened_at from. subst (λ (n : ℕ). BeginningRecovers (Shows (Some old)) opened_at n (rows_of tells.contents) new) (sym at) (running_begins (Shows (Some old)) (rows_of tells.contents) opened_at [] new (running origin at opened_at from));
           waits = λ none. subst (λ (w : List PlainDeed). CanWait w (now new)) (sym idle) (none_waits (now new));
           within = λ none. subst AreWithin (sym idle) tt;
-          elsewhere = λ none. keeps_opened old new opened;
+          strays = λ none. subst (λ (w : List PlainDeed). KeepsStrays s (now new) (laid w (now new))) (sym idle) (keeps_itself s (now new));
+          others = λ none. keeps_opened store.keys old new opened found;
           since = λ none. subst (λ (d : Disk). LookAlike d (now new)) (sym (ap (λ (m : ℕ). now (log_at new m)) at ∙ ap now (at_its_end new))) (looks_itself (now new));
           tree = λ none. subst (λ (d : Disk). HasRows store d (rows_of tells.contents) []) (sym (ap (λ (w : List PlainDeed). laid w (now new)) idle)) has;
           answered = tt;

@@ -23,7 +23,7 @@ use Rattle.held_changes.proofs.Numbers.{held_rows_have_shape}
 use Rattle.node_changes.specs.Changed.{StandsOn}
 use Rattle.stop_history.specs.Crash.{IsBlind}
 use Rattle.store_history.specs.Store.{shows_under}
-use Rattle.store_history.proofs.Elsewhere.{keeps_alike}
+use Rattle.store_history.proofs.Others.{keeps_alike}
 
 -- ---- beside the journal's two files
 
@@ -34,7 +34,7 @@ shows_blind found keys a b rows shows host same = record {
     is = stays_beside (sealing_of keys) a b shows.tree.tree shows.tree.is host same;
     shape = shows.tree.shape;
   };
-  elsewhere = keeps_alike found a b same shows.elsewhere;
+  others = keeps_alike found keys a b shows.tree.is.host host same shows.others;
 }
 
 -- ---- the rows of a tree in memory

@@ -135,7 +135,8 @@ module _ (old : StoreView) (before : FolderView) (source : EntropyView) (turn : 
           begun = stored.begun;
           waits = λ none. absurd (running_not store (subst (λ (o : Option ℕ). IsNone o) more none));
           within = λ none. absurd (running_not store (subst (λ (o : Option ℕ). IsNone o) more none));
-          elsewhere = λ none. absurd (running_not store (subst (λ (o : Option ℕ). IsNone o) more none));
+          strays = λ none. absurd (running_not store (subst (λ (o : Option ℕ). IsNone o) more none));
+          others = λ none. absurd (running_not store (subst (λ (o : Option ℕ). IsNone o) more none));
           since = λ none. absurd (running_not store (subst (λ (o : Option ℕ). IsNone o) more none));
           tree = λ none. absurd (running_not store (subst (λ (o : Option ℕ). IsNone o) more none));
           answered = answered_more rows (tally_at origin) history entry stored.answered (λ none. absurd (running_not store none));

@@ -40,7 +40,9 @@ use Rattle.stop_history.proofs.States.{state_runs, running_state, broken_state}
 use Rattle.store_history.specs.Store.{StoreView, bounded, moment_of, shows_under, ArePlaced, ArePlacedSince, HasRows, HasRowsLeft, IsPlacedOn, IsSaidFrom, IsStoredIn, IsStoreOf, IsTakenBy, KeepsFound}
 use Rattle.store_history.specs.Turns.{Draws, IsMadeOf, Turn, made_in, made_of, IsTurn, IsQuietTurn, IsChangedTurn, IsBrokenTurn, IsUnflushedTurn, QuietTurnsAdd, ChangedTurnsAdd, BrokenTurnsAdd, UnflushedTurnsAdd}
 use Rattle.node_changes.proofs.Beside.{stands_beside}
-use Rattle.store_history.proofs.Elsewhere.{keeps_alike, keeps_done}
+use Rattle.stray_entries.specs.Strays.{KeepsStrays}
+use Rattle.stray_entries.proofs.Trees.{keeps_itself, keeps_then}
+use Rattle.store_history.proofs.Others.{keeps_alike, keeps_done}
 use Rattle.store_history.proofs.Shows.{shows_blind, stands_shows}
 use Rattle.store_history.proofs.Alike.{for_alike, looks_itself, looks_through}
 use Rattle.store_history.proofs.Placed.{HasBegun, at_its_end, begins_low, begun_goes_on, goes_later, none_past, not_both, opened_goes_on, placed_more}
@@ -107,6 +109,9 @@ module _ (old new : StoreView) (before after : FolderView) (source source' : Ent
 
   abbrev WithinOn : Log → Type 0
   WithinOn log = AreWithin old.waiting → AreWithin new.waiting
+
+  abbrev SparesOn : Log → Type 0
+  SparesOn log = (contents : ℕ → Content) → StandsOn s (laid old.waiting (now log)) old.live old.claims contents → KeepsStrays s (laid old.waiting (now log)) (laid new.waiting (now log))
 
   abbrev TakenOn : Disk → Type 0
   TakenOn d = turn.taken ≡ taken_for s d old.live turn.asked.request turn.drawn
@@ -193,10 +198,10 @@ module _ (old new : StoreView) (before after : FolderView) (source source' : Ent
 
     -- the disk shows them, as they are numbered
     shows_next : (d : Disk) (contents : ℕ → Content) → StandsOn s d new.live new.claims contents → wrapped (rows_then (rows_after rows history) made) ≡ wrapped (live_rows contents new.live)
-        → KeepsFound found d → Shows d (rows_then (rows_at rows history (length history)) made)
-    shows_next d contents stands same elsewhere = record {
+        → KeepsFound found old.keys d → Shows d (rows_then (rows_at rows history (length history)) made)
+    shows_next d contents stands same others = record {
       tree = subst (λ (r : Rows). HasTree s d (rows_then r made)) (rows_all rows history) (stands_shows s d new.live new.claims contents (rows_then (rows_after rows history) made) stands same);
-      elsewhere = elsewhere;
+      others = others;
     }
 
     has_next : (d : Disk) (contents : ℕ → Content) → StandsOn s d new.live new.claims contents → wrapped (rows_then (rows_after rows history) made) ≡ wrapped (live_rows contents new.live)
@@ -285,10 +290,10 @@ module _ (old new : StoreView) (before after : FolderView) (source source' : Ent
     -- whose commits all came through
     runs_next : (log : Log) → Before → turn.commit_failed ≡ false → made.moment ≡ moment log → AreAnswered rows (tally_at origin) history → IsAnswered (rows_after rows history) made → WaitsOn log → (contents : ℕ → Content)
         → StandsOn s (laid new.waiting (now log)) new.live new.claims contents → wrapped (rows_then (rows_after rows history) made) ≡ wrapped (live_rows contents new.live)
-        → AreWithin new.waiting → KeepsFound found (now log)
+        → AreWithin new.waiting → KeepsStrays s (now log) (laid new.waiting (now log)) → KeepsFound found old.keys (now log)
         → ((opened : ℕ) → IsSaidFrom found origin opened → IsRunning Shows opened rows (history ++ entry ∷ []) new.waiting log) → HasBegun found new.keys rows origin log
         → ArePlaced new.keys rows origin (history ++ entry ∷ []) log → StoredNext log
-    runs_next log store whole at answered so waits contents stands same within elsewhere running begun placed = record {
+    runs_next log store whole at answered so waits contents stands same within strays others running begun placed = record {
       placed = placed;
       placed_since = none_past new.keys new.live origin (history ++ entry ∷ []) log (none_next store whole);
       left = λ some. absurd (not_both (tally_of origin (history ++ entry ∷ [])).stopped (none_next store whole) some);
@@ -297,7 +302,8 @@ module _ (old new : StoreView) (before after : FolderView) (source source' : Ent
       state = λ opened from. state_next opened log (running_state Shows opened rows origin history entry new.waiting log (not_stopped is.running store) whole (running opened from));
       waits = λ none. waits;
       within = λ none. within;
-      elsewhere = λ none. elsewhere;
+      strays = λ none. subst (λ (k : KeyPair). KeepsStrays (sealing_of k) (now log) (laid new.waiting (now log))) (sym is.keys) strays;
+      others = λ none. subst (λ (k : KeyPair). KeepsFound found k (now log)) (sym is.keys) others;
       since = λ none. since_next log at;
       tree = λ none. has_next (laid new.waiting (now log)) contents stands same;
       answered = answered_more rows (tally_at origin) history entry answered (λ none. so);
@@ -320,17 +326,19 @@ module _ (old new : StoreView) (before after : FolderView) (source source' : Ent
         idles Shows opened rows history old.waiting new.waiting log entry running at
         (omega (arith, ap (λ (k : Bool). cond k (suc (length history)) tally.stable) e, held log opened running)) (laid new.waiting (now log)) waits.does shows
 
-    quiet_on : (log : Log) → Before → turn.commit_failed ≡ false → moment_of before.log ≡ moment log → made.moment ≡ moment log → Stored log → AllowedOn (laid old.waiting (now log)) → WaitsOn log → WithinOn log → ShownOn log → Kept → TakenOn (now log)
+    quiet_on : (log : Log) → Before → turn.commit_failed ≡ false → moment_of before.log ≡ moment log → made.moment ≡ moment log → Stored log → AllowedOn (laid old.waiting (now log)) → WaitsOn log → WithinOn log → SparesOn log → ShownOn log → Kept → TakenOn (now log)
         → StoredNext log
-    quiet_on log store whole was at stored allowed waits within shown kept taken =
+    quiet_on log store whole was at stored allowed waits within spares shown kept taken =
         let none = not_stopped is.running store in
         let still : AreWithin new.waiting = within (stored.within none) in
-        let elsewhere : KeepsFound found (laid new.waiting (now log)) = keeps_done found new.waiting (now log) (laid new.waiting (now log)) still waits.does (stored.elsewhere none) in
         let has : HasRows old (laid old.waiting (now log)) rows history = stored.tree (not_stopped is.running store) in
+        let strays : KeepsStrays s (now log) (laid new.waiting (now log)) =
+        keeps_then s (now log) (laid old.waiting (now log)) (laid new.waiting (now log)) (stored.strays none) (spares has.contents has.stands) in
+        let others : KeepsFound found old.keys (laid new.waiting (now log)) = keeps_done found old.keys new.waiting (now log) (laid new.waiting (now log)) still strays waits.does (stored.others none) in
         let to = shown has.contents has.stands in
         let same = same_next has.contents to.contents has.current to.shows in
-        runs_next log store whole at stored.answered (answered_next (laid old.waiting (now log)) allowed has) waits to.contents to.stands same still (stored.elsewhere none)
-        (λ opened from. idles_on log opened store stored from at waits kept (shows_next (laid new.waiting (now log)) to.contents to.stands same elsewhere) (is_kept turn.asked.request turn.asked.reply) refl)
+        runs_next log store whole at stored.answered (answered_next (laid old.waiting (now log)) allowed has) waits to.contents to.stands same still strays (stored.others none)
+        (λ opened from. idles_on log opened store stored from at waits kept (shows_next (laid new.waiting (now log)) to.contents to.stands same others) (is_kept turn.asked.request turn.asked.reply) refl)
         (begun_next log log store was (goes_nowhere log) stored) (placed_next log log store was (goes_nowhere log) stored taken)
 
     accepted_rows : (r : Rows) → is_refusal turn.asked.reply ≡ false → rows_then r made ≡ (step r turn.asked.request turn.asked.second).rows
@@ -345,8 +353,8 @@ module _ (old new : StoreView) (before after : FolderView) (source source' : Ent
         let has : HasRows old (now a) rows history = has_idle idle.0 a store stored in
         let to = change.makes.stepped has.contents has.stands in
         let same = same_next has.contents to.contents has.current (to.shows ∙ ap wrapped (sym (accepted_rows (live_rows has.contents old.live) accepted))) in
-        let left : KeepsFound found change.makes.after =
-        keeps_done found change.deeds (now a) change.makes.after change.makes.within change.makes.does (stored.elsewhere (not_stopped is.running store)) in
+        let left : KeepsFound found old.keys change.makes.after =
+        keeps_done found old.keys change.deeds (now a) change.makes.after change.makes.within change.makes.strays change.makes.does (stored.others (not_stopped is.running store)) in
         let shows = shows_next change.makes.after to.contents to.stands same left in
         let alike : IsAlike change.makes.after (now b) = change.committed.after change.makes.after change.makes.does in
         let stands = stands_beside s change.makes.after (now b) new.live new.claims to.contents to.stands change.committed.at_rest.steady.tree alike in
@@ -354,7 +362,8 @@ module _ (old new : StoreView) (before after : FolderView) (source source' : Ent
         let goes : LogGoesOn a b = leaves_go_on a b (IsBeforeOrAfter (now a) change.makes.after) (change.any_moment change.makes.after change.makes.does) in
         runs_next b store whole at stored.answered (answered_next (now a) (subst AllowedOn (shown_idle idle.0 a) allowed) has)
         (subst (λ (w : List PlainDeed). CanWait w (now b)) (sym idle.1) (none_waits (now b))) to.contents (subst (λ (d : Disk). StandsOn s d new.live new.claims to.contents) (sym none) stands) same
-        (subst AreWithin (sym idle.1) tt) (keeps_alike found change.makes.after (now b) alike left)
+        (subst AreWithin (sym idle.1) tt) (subst (λ (d : Disk). KeepsStrays s (now b) d) (sym none) (keeps_itself s (now b)))
+        (keeps_alike found old.keys change.makes.after (now b) to.stands.is.host change.committed.at_rest.steady.tree alike left)
         (λ opened from. subst (λ (w : List PlainDeed). IsRunning Shows opened rows (history ++ entry ∷ []) w b) (sym idle.1)
         (commits Shows opened rows (shows_blind found old.keys) history change.deeds a b entry change.makes.after change.makes.repeatable (runs_idle idle.0 a store stored opened from) change.makes.does shows at (stable store).within
         change.any_moment change.committed))
@@ -373,11 +382,11 @@ module _ (old new : StoreView) (before after : FolderView) (source source' : Ent
     same_stepped contents contents' current shows = (steps_are_same (rows_after rows history) (live_rows contents old.live) turn.asked.request turn.asked.second current).rows ∙ sym shows
 
     shows_stepped : (d : Disk) (contents contents' : ℕ → Content) → wrapped (rows_after rows history) ≡ wrapped (live_rows contents old.live) → StandsOn s d new.live new.claims contents'
-        → wrapped (live_rows contents' new.live) ≡ wrapped (step (live_rows contents old.live) turn.asked.request turn.asked.second).rows → KeepsFound found d → Shows d (rows_stepped (rows_at rows history (length history)) made)
-    shows_stepped d contents contents' current stands shows elsewhere = record {
+        → wrapped (live_rows contents' new.live) ≡ wrapped (step (live_rows contents old.live) turn.asked.request turn.asked.second).rows → KeepsFound found old.keys d → Shows d (rows_stepped (rows_at rows history (length history)) made)
+    shows_stepped d contents contents' current stands shows others = record {
       tree = subst (λ (r : Rows). HasTree s d (rows_stepped r made)) (rows_all rows history)
           (stands_shows s d new.live new.claims contents' (rows_stepped (rows_after rows history) made) stands (same_stepped contents contents' current shows));
-      elsewhere = elsewhere;
+      others = others;
     }
 
     -- the entry counts for nothing in the rows
@@ -422,7 +431,8 @@ module _ (old new : StoreView) (before after : FolderView) (source source' : Ent
       state = λ opened from. state_next opened b (broken_state Shows opened rows origin history entry new.waiting b (inl failed) (broken opened from));
       waits = λ none. stops_tree failed none;
       within = λ none. stops_tree failed none;
-      elsewhere = λ none. stops_tree failed none;
+      strays = λ none. stops_tree failed none;
+      others = λ none. stops_tree failed none;
       since = λ none. stops_tree failed none;
       tree = λ none. stops_tree failed none;
       answered = answered_more rows (tally_at origin) history entry stored.answered (λ none. answered_next (laid old.waiting (now a)) allowed (stored.tree (not_stopped is.running store)));
@@ -433,8 +443,8 @@ module _ (old new : StoreView) (before after : FolderView) (source source' : Ent
     broken_on a b store none failed reply was at stored allowed taken change =
         let has : HasRows old (now a) rows history = has_idle none a store stored in
         let to = change.makes.stepped has.contents has.stands in
-        let left : KeepsFound found change.makes.after =
-        keeps_done found change.deeds (now a) change.makes.after change.makes.within change.makes.does (stored.elsewhere (not_stopped is.running store)) in
+        let left : KeepsFound found old.keys change.makes.after =
+        keeps_done found old.keys change.deeds (now a) change.makes.after change.makes.within change.makes.strays change.makes.does (stored.others (not_stopped is.running store)) in
         let shows = shows_stepped change.makes.after has.contents to.contents has.current to.stands to.shows left in
         broken_next a b store failed was at (leaves_go_on a b (IsBeforeOrAfter (now a) change.makes.after) (change.any_moment change.makes.after change.makes.does)) stored allowed taken
         (left_changed has.contents to.contents failed reply has.current to.shows)
@@ -446,10 +456,10 @@ module _ (old new : StoreView) (before after : FolderView) (source source' : Ent
     abbrev ShownIn : Option Log → Option Disk
     ShownIn log = disk_in (option_map (laid_log old.waiting) log)
 
-    quiet_told : (log : Option Log) → Before → turn.commit_failed ≡ false → moment_of before.log ≡ moment_of log → made.moment ≡ moment_of log → Told log Stored → Told (ShownIn log) AllowedOn → Told log WaitsOn → Told log WithinOn → Told log ShownOn → Kept
+    quiet_told : (log : Option Log) → Before → turn.commit_failed ≡ false → moment_of before.log ≡ moment_of log → made.moment ≡ moment_of log → Told log Stored → Told (ShownIn log) AllowedOn → Told log WaitsOn → Told log WithinOn → Told log SparesOn → Told log ShownOn → Kept
         → Told (disk_in log) TakenOn → Told log StoredNext
-    quiet_told None store whole was at stored allowed waits within shown kept taken = tt
-    quiet_told (Some log) store whole was at stored allowed waits within shown kept taken = quiet_on log store whole was at stored allowed waits within shown kept taken
+    quiet_told None store whole was at stored allowed waits within spares shown kept taken = tt
+    quiet_told (Some log) store whole was at stored allowed waits within spares shown kept taken = quiet_on log store whole was at stored allowed waits within spares shown kept taken
 
     changed_told : (a b : Option Log) → Before → Idle → turn.commit_failed ≡ false → is_refusal turn.asked.reply ≡ false → moment_of before.log ≡ moment_of a → made.moment ≡ moment_of b → Told a Stored → Told (ShownIn a) AllowedOn
         → Told (disk_in a) TakenOn → Changes a b ChangedTo → Told b StoredNext
@@ -484,7 +494,7 @@ module _ (old new : StoreView) (before after : FolderView) (source source' : Ent
     made_so is.is_turn,
     adds_to store (caused is.is_turn store drew (omega (arith, ap moment_of is.log)) (unflagged is.is_turn is.whole))
         (unchanged before.log after.log LogGoesOn is.log goes_nowhere)
-        (subst (λ (o : Option Log). Told o StoredNext) (sym is.log) (quiet_told is.is_turn before.log store is.whole refl (ap moment_of is.log) store.stored is.allowed is.waits is.within is.shown is.kept is.is_turn.taken))
+        (subst (λ (o : Option Log). Told o StoredNext) (sym is.log) (quiet_told is.is_turn before.log store is.whole refl (ap moment_of is.log) store.stored is.allowed is.waits is.within is.strays is.shown is.kept is.is_turn.taken))
         (goes_on is.is_turn is.goes_on is.whole store) is.is_turn.entries,
   )
 

@@ -53,9 +53,9 @@ abbrev pub OpeningsStand : Type 0
 OpeningsStand = (before after : FolderView) (keys : KeyPair) (unlocked : ℕ) (kept : KeptTree) (store : StoreView)
     → HasBeenOpened before keys unlocked kept store after → IsOpened before keys unlocked store after
 
--- what isn't the vault's data is on the disk that was found as it is on that which it recovers to
+-- what isn't the vault's own is on the disk that was found as it is on that which it recovers to
 abbrev pub FoundIsKept : Type 0
-FoundIsKept = (log : Log) (found : Disk) → Recovered (now log) found → KeepsFound (Some log) found
+FoundIsKept = (keys : KeyPair) (log : Log) (found : Disk) → Recovered (now log) found → KeepsFound (Some log) keys found
 
 -- where it wasn't opened, a stop since the first sync recovers to what was found
 abbrev pub FailedOpeningsRecover : Type 0
@@ -64,7 +64,7 @@ FailedOpeningsRecover = (keys : KeyPair) (old new : Log) → StaysOpening old ne
 -- ---- at its end
 
 -- What a stop recovers to: at any moment to a prefix of the history that holds all that was synced, and up to the moment at which it begins to the
--- rows that it begins with, with what isn't the vault's data as it was found.
+-- rows that it begins with, with what isn't the vault's own as it was found.
 pub record Recovers (found : Option Log) (keys : KeyPair) (folder : FolderView) (rows : Rows) (origin : Origin) (history : List Entry) : Type 0 where
   pub stops : Told folder.log (λ log. (opened : ℕ) → IsSaidFrom found origin opened → StopsRecover (shows_under found keys) opened rows history log)
   pub begun : Told folder.log (λ log. (opened : ℕ) → IsSaidFrom found origin opened → BeginningRecovers (shows_under found keys) opened origin.moment rows log)

@@ -17,6 +17,7 @@ use Rattle.row_versions.specs.Versions.{wrapped}
 use Rattle.directory_scan.specs.Format.{sealing_of}
 use Rattle.tree_changes.specs.Shapes.{HasTree}
 use Rattle.live_tree.specs.Held.{HeldTree, live_rows}
+use Rattle.stray_entries.specs.Strays.{KeepsStrays}
 use Rattle.node_changes.specs.Changed.{StandsOn}
 use Rattle.node_changes.specs.Placed.{taken_for}
 use Rattle.node_changes.specs.Within.{IsWithin, AreWithin}
@@ -29,14 +30,19 @@ use Rattle.stop_history.specs.Prefix.{BeginningRecovers}
 abbrev pub KeepsElsewhere : Disk → Disk → Type 0
 KeepsElsewhere first disk = (path : HostPath) → (IsWithin path → ⊥) → path ≢ journal_file → path ≢ new_file → node_at disk path ≡ node_at first path
 
--- the same of the disk that a folder recovers to which was found with this log, its batch applied as far as it can be
-abbrev pub KeepsFound : Option Log → Disk → Type 0
-KeepsFound found disk = Told found (λ log. (first : Disk) → Recovered (now log) first → KeepsElsewhere first disk)
+-- all that isn't the vault's own is as it is on this disk, also what stands among its data and belongs to no node
+pub record KeepsOthers (keys : KeyPair) (first disk : Disk) : Type 0 where
+  pub elsewhere : KeepsElsewhere first disk
+  pub strays : KeepsStrays (sealing_of keys) first disk
 
--- A disk shows rows where they have the shape of its tree, and what isn't the vault's data is as it was found.
+-- the same of the disk that a folder recovers to which was found with this log, its batch applied as far as it can be
+abbrev pub KeepsFound : Option Log → KeyPair → Disk → Type 0
+KeepsFound found keys disk = Told found (λ log. (first : Disk) → Recovered (now log) first → KeepsOthers keys first disk)
+
+-- A disk shows rows where they have the shape of its tree, and what isn't the vault's own is as it was found.
 pub record ShowsVault (found : Option Log) (keys : KeyPair) (disk : Disk) (rows : Rows) : Type 0 where
   pub tree : HasTree (sealing_of keys) disk rows
-  pub elsewhere : KeepsFound found disk
+  pub others : KeepsFound found keys disk
 
 abbrev pub shows_under : Option Log → KeyPair → DiskShows
 shows_under found keys disk rows = ShowsVault found keys disk rows
@@ -123,14 +129,15 @@ pub record HasRowsLeft (store : StoreView) (rows : Rows) (history : List Entry) 
 
 -- A folder's log on which a store stands for a history: a stop at any moment recovers to a prefix of it, which is empty up to the moment at which
 -- it begins; until a commit fails the tree in memory is that of the disk once what waits is done, which can be done and names the vault's data alone,
--- and what isn't the vault's data is as it was found; each entry is answered in the rows before it, and names the place that is taken. What was committed since the last entry has changed no more than bytes of files; and once
+-- spares what belongs to no node, and what isn't the vault's own is as it was found; each entry is answered in the rows before it, and names the place that is taken. What was committed since the last entry has changed no more than bytes of files; and once
 -- a commit has failed, no moment goes by.
 pub record IsStoredIn (found : Option Log) (store : StoreView) (rows : Rows) (origin : Origin) (history : List Entry) (log : Log) : Type 0 where
   pub state : (opened : ℕ) → IsSaidFrom found origin opened → IsInState (shows_under found store.keys) opened rows history store.waiting log (tally_of origin history).stopped
   pub begun : (opened : ℕ) → IsSaidFrom found origin opened → BeginningRecovers (shows_under found store.keys) opened origin.moment rows log
   pub waits : IsNone (tally_of origin history).stopped → CanWait store.waiting (now log)
   pub within : IsNone (tally_of origin history).stopped → AreWithin store.waiting
-  pub elsewhere : IsNone (tally_of origin history).stopped → KeepsFound found (now log)
+  pub strays : IsNone (tally_of origin history).stopped → KeepsStrays (sealing_of store.keys) (now log) (laid store.waiting (now log))
+  pub others : IsNone (tally_of origin history).stopped → KeepsFound found store.keys (now log)
   pub tree : IsNone (tally_of origin history).stopped → HasRows store (laid store.waiting (now log)) rows history
   pub since : IsNone (tally_of origin history).stopped → LookAlike (now (log_at log (tally_of origin history).moment)) (now log)
   pub answered : AreAnswered rows (tally_at origin) history

@@ -12,6 +12,7 @@ use Rattle.tree_model.specs.Asked.{Asked, PlainRequest, refused}
 use Rattle.tree_history.specs.History.{Made, Entry, Origin, entry_of, tally_of, answer_of, is_refusal, is_stopped, rows_then, HasCause, IsAnswered, MayCommit, MayDraw}
 use Rattle.directory_scan.specs.Format.{sealing_of}
 use Rattle.live_tree.specs.Held.{live_rows}
+use Rattle.stray_entries.specs.Strays.{KeepsStrays}
 use Rattle.node_changes.specs.Changed.{StandsOn, ShowsRows, HasChanged, MayHaveChanged}
 use Rattle.node_changes.specs.Placed.{taken_for, IfDrawn, IsIdentifierOf}
 use Rattle.node_changes.specs.Within.{AreWithin}
@@ -106,7 +107,12 @@ abbrev pub StaysShown : StoreView → StoreView → FolderView → Made → Type
 StaysShown old new folder made = Told folder.log (λ log. (contents : ℕ → Content) → StandsOn (sealing_of old.keys) (laid old.waiting (now log)) old.live old.claims contents
     → ShowsRows (sealing_of old.keys) (rows_then (live_rows contents old.live) made) (laid new.waiting (now log)) new.live new.claims)
 
--- What is answered as stable doesn't wait, and what waits names the vault's data alone, if what waited before does.
+-- what waits then leaves what belongs to no node as what waited before leaves it
+abbrev pub SparesStrays : StoreView → StoreView → FolderView → Type 0
+SparesStrays old new folder = Told folder.log (λ log. (contents : ℕ → Content) → StandsOn (sealing_of old.keys) (laid old.waiting (now log)) old.live old.claims contents
+    → KeepsStrays (sealing_of old.keys) (laid old.waiting (now log)) (laid new.waiting (now log)))
+
+-- What is answered as stable doesn't wait, and what waits names the vault's data alone, if what waited before does, and spares what belongs to no node.
 pub record IsQuietTurn (old new : StoreView) (before after : FolderView) (source source' : EntropyView) (turn : Turn) : Type 0 where
   pub is_turn : IsTurn old new before after source source' turn
   pub goes_on : IsNone new.stopped
@@ -115,6 +121,7 @@ pub record IsQuietTurn (old new : StoreView) (before after : FolderView) (source
   pub allowed : IsAllowed old before (made_of turn before after source source')
   pub waits : Told before.log (λ log. CanWait new.waiting (now log))
   pub within : Told before.log (λ log. AreWithin old.waiting → AreWithin new.waiting)
+  pub strays : SparesStrays old new before
   pub shown : StaysShown old new before (made_of turn before after source source')
   pub kept : is_kept turn.asked.request turn.asked.reply ≡ true → (old.waiting ≡ []) × (new.waiting ≡ [])
 

@@ -23,6 +23,7 @@ use Rattle.directory_scan.specs.Format.{sealing_of}
 use Rattle.live_tree.specs.Held.{HeldTree, live_rows}
 use Rattle.file_changes.specs.Waiting.{HasPut, IsFlush, IsNotFlushed}
 use Rattle.file_changes.specs.Causes.{ContentCause}
+use Rattle.stray_entries.specs.Strays.{KeepsStrays}
 use Rattle.node_changes.specs.Within.{AreWithin}
 use Rattle.node_changes.specs.declared.tree.VaultTree.{VaultTree}
 use Rattle.node_changes.specs.declared.error.ChangeErr.{ChangeErr}
@@ -127,6 +128,7 @@ module _ (keys keys' : KeyPair) (live live' : HeldTree) (claims claims' : List (
   record IsPutOver (reply : PlainReply) (middle : List PlainDeed) (log : Log) : Type 0 where
     pub waits : CanWait waiting' (now log)
     pub within : AreWithin middle → AreWithin waiting'
+    pub strays : (contents : ℕ → Content) → StandsOn s (laid middle (now log)) live claims contents → KeepsStrays s (laid middle (now log)) (laid waiting' (now log))
     pub answer_is : IsStepAnswer s request second (says reply) (laid middle (now log)) live claims
     pub stepped : (contents : ℕ → Content) → StandsOn s (laid middle (now log)) live claims contents
         → ShowsRows s (step (live_rows contents live) request second).rows (laid waiting' (now log)) live' claims'
@@ -134,7 +136,7 @@ module _ (keys keys' : KeyPair) (live live' : HeldTree) (claims claims' : List (
   put_over : (reply : PlainReply) (middle : List PlainDeed) (log : Option Log) (x y : Log) (put : HasPut s request second (says reply) live live' claims claims' waiting waiting' x y) → put.middle ≡ middle → log ≡ Some y → Told log (IsPutOver reply middle)
   put_over reply middle log x y put same is =
       subst (λ (o : Option Log). Told o (IsPutOver reply middle)) (sym is)
-      (subst (λ (w : List PlainDeed). IsPutOver reply w y) same (record { waits = put.waits; within = put.within; answer_is = put.answer_is; stepped = put.stepped }))
+      (subst (λ (w : List PlainDeed). IsPutOver reply w y) same (record { waits = put.waits; within = put.within; strays = put.strays; answer_is = put.answer_is; stepped = put.stepped }))
 
   module _ (reply : Reply) (buffer : List ℕ) (formed : IsFormed request reply buffer buffer) (none : bytes_put request (plain_reply reply) buffer ≡ []) (accepted : is_refusal (plain_reply reply) ≡ false)
       (unstopped : is_stopped (plain_reply reply) ≡ false) (loose : is_kept request (plain_reply reply) ≡ false) (cause : (made : Made) → HasCause made (plain_reply reply)) (unplaced : (rows : Rows) → places rows request ≡ false) where
@@ -159,6 +161,8 @@ module _ (keys keys' : KeyPair) (live live' : HeldTree) (claims claims' : List (
             ∙ sym (said_unplaced (live_rows contents live) request (told_path (disk_in amid.log) path_on None) (step (live_rows contents live) request second).answer (unplaced (live_rows contents live))))));
         waits = told_then amid.log (IsPutOver (plain_reply reply) middle) (λ log. CanWait waiting' (now log)) put (λ log put. put.waits);
         within = told_then amid.log (IsPutOver (plain_reply reply) middle) (λ log. AreWithin middle → AreWithin waiting') put (λ log put. put.within);
+        strays = told_then amid.log (IsPutOver (plain_reply reply) middle)
+            (λ log. (contents : ℕ → Content) → StandsOn s (laid middle (now log)) live claims contents → KeepsStrays s (laid middle (now log)) (laid waiting' (now log))) put (λ log put. put.strays);
         shown = told_then amid.log (IsPutOver (plain_reply reply) middle) (Shows (is_refusal (plain_reply reply))) put
             (λ log put. subst (λ (b : Bool). Shows b log) (sym accepted) put.stepped);
         kept = λ yes. absurd (true≢false (sym yes ∙ loose));

@@ -19,6 +19,8 @@ use Rattle.tree_model.specs.Step.{IsReading}
 use Rattle.tree_history.specs.History.{Made, rows_then, is_stable, HasCause, IsAnswered}
 use Rattle.directory_scan.specs.Format.{sealing_of}
 use Rattle.live_tree.specs.Held.{live_rows}
+use Rattle.stray_entries.specs.Strays.{KeepsStrays}
+use Rattle.stray_entries.proofs.Trees.{keeps_itself}
 use Rattle.node_changes.specs.Changed.{StandsOn, ShowsRows}
 use Rattle.node_changes.specs.Placed.{taken_for}
 use Rattle.node_changes.specs.Within.{AreWithin}
@@ -102,6 +104,15 @@ module _ (old new : StoreView) (before after : FolderView) (source source' : Ent
   ShownBy w w' log = (contents : ℕ → Content) → StandsOn (sealing_of old.keys) (laid w (now log)) old.live old.claims contents
       → ShowsRows (sealing_of old.keys) (rows_then (live_rows contents old.live) (made_of turn before after source source')) (laid w' (now log)) new.live new.claims
 
+  abbrev SparesOn : Log → Type 0
+  SparesOn log = (contents : ℕ → Content) → StandsOn (sealing_of old.keys) (laid old.waiting (now log)) old.live old.claims contents
+      → KeepsStrays (sealing_of old.keys) (laid old.waiting (now log)) (laid new.waiting (now log))
+
+  -- what waited and waits still leaves all as it left it
+  spares_still : (log : Log) → new.waiting ≡ old.waiting → SparesOn log
+  spares_still log same contents stands =
+      subst (λ (w : List PlainDeed). KeepsStrays (sealing_of old.keys) (laid old.waiting (now log)) (laid w (now log))) (sym same) (keeps_itself (sealing_of old.keys) (laid old.waiting (now log)))
+
   -- with nothing that waits
   pub idle_quiet : old.waiting ≡ [] → new.waiting ≡ [] → IsStillTurn old new before after source source' turn → IsQuietTurn old new before after source source' turn
   idle_quiet none none' is = record {
@@ -112,6 +123,7 @@ module _ (old new : StoreView) (before after : FolderView) (source source' : Ent
     allowed = subst (λ (w : List PlainDeed). Told (disk_in (option_map (laid_log w) before.log)) AllowedOn) (sym none) (told_idle before.log AllowedOn is.allowed);
     waits = told_always before.log (λ log. CanWait new.waiting (now log)) (λ log. subst (λ (w : List PlainDeed). CanWait w (now log)) (sym none') (none_waits (now log)));
     within = told_always before.log (λ log. AreWithin old.waiting → AreWithin new.waiting) (λ log all. subst AreWithin (sym none') tt);
+    strays = told_always before.log SparesOn (λ log. spares_still log (none' ∙ sym none));
     shown = subst (λ (w : List PlainDeed). Told before.log (ShownBy w new.waiting)) (sym none)
         (subst (λ (w : List PlainDeed). Told before.log (ShownBy [] w)) (sym none') (told_laid [] before.log ShownOn (told_idle before.log ShownOn is.shown)));
     kept = λ yes. (none, none');
@@ -129,6 +141,10 @@ module _ (old new : StoreView) (before after : FolderView) (source source' : Ent
   within_still None same = tt
   within_still (Some log) same = λ all. subst AreWithin (sym (same refl)) all
 
+  spared_still : (log : Option Log) → (IsSome log → new.waiting ≡ old.waiting) → Told log SparesOn
+  spared_still None same = tt
+  spared_still (Some log) same = spares_still log (same refl)
+
   shown_still : (log : Option Log) → (IsSome log → new.waiting ≡ old.waiting) → Told log (ShownBy old.waiting old.waiting) → Told log (ShownBy old.waiting new.waiting)
   shown_still None same is = tt
   shown_still (Some log) same is = subst (λ (w : List PlainDeed). ShownBy old.waiting w log) (sym (same refl)) is
@@ -145,6 +161,7 @@ module _ (old new : StoreView) (before after : FolderView) (source source' : Ent
         allowed = is.allowed;
         waits = waits_still before.log same_waits can;
         within = within_still before.log same_waits;
+        strays = spared_still before.log same_waits;
         shown = shown_still before.log same_waits (told_laid old.waiting before.log ShownOn is.shown);
         kept = λ yes. absurd (true≢false (sym yes ∙ loose));
       }

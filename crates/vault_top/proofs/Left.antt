@@ -78,7 +78,8 @@ module _ (found : Option Log) (store : StoreView) (folder : FolderView) (rows : 
     begun = is.begun;
     waits = λ none. absurd (never (tally_of origin entries).stopped some none);
     within = λ none. absurd (never (tally_of origin entries).stopped some none);
-    elsewhere = λ none. absurd (never (tally_of origin entries).stopped some none);
+    strays = λ none. absurd (never (tally_of origin entries).stopped some none);
+    others = λ none. absurd (never (tally_of origin entries).stopped some none);
     tree = λ none. absurd (never (tally_of origin entries).stopped some none);
     since = is.since;
     answered = is.answered;

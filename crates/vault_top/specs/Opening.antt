@@ -73,7 +73,7 @@ pub record FailsToUnlock (given : Given) (kind : SecretKind) (cause : Cause) : T
   pub locked : IsLocked given kind refusal
 
 -- The vault is unlocked, but isn't opened, for this cause: of the folder no more is changed than the opening of its journal does, and a stop since
--- the end of the first sync recovers to what was found, the vault's data and all else.
+-- the end of the first sync recovers to what was found, the vault's own and all else.
 pub record FailsToOpen (given : Given) (kind : SecretKind) (cause : Cause) : Type 0 where
   pub vault : UnlockedVault
   pub unlocked : IsUnlocked given kind vault

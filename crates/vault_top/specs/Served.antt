@@ -107,7 +107,7 @@ pub record IsHandedBack (keys : KeyPair) (rows : Rows) (origin : Origin) (entrie
 -- What a stop leaves of a vault that was served under these keys with these entries. The folder's log goes on from the one that was found; a stop at
 -- any moment, from the end of the opening on, and where the disk was found sound from the end of the opening's first sync on, recovers to a prefix of the history
 -- that holds all that was synced; and up to the moment at which the history begins to a disk that shows the rows that it begins with. Each time what isn't the
--- vault's data is as it was found.
+-- vault's own is as it was found, also among its data.
 pub record HasStops (keys : KeyPair) (rows : Rows) (origin : Origin) (entries : List Entry) (before after : FolderView) : Type 0 where
   pub grown : Changes before.log after.log LogGoesOn
   pub recover : Told after.log (λ log. (opened : ℕ) → IsSaidFrom before.log origin opened → StopsRecover (shows_under before.log keys) opened rows entries log)

@@ -1,5 +1,5 @@
 use Rattle.store_history.proofs.Openings.{openings_stand}
-use Rattle.store_history.proofs.Elsewhere.{found_is_kept}
+use Rattle.store_history.proofs.Others.{found_is_kept}
 use Rattle.store_history.proofs.Ends.{failed_openings_recover}
 use Rattle.store_history.proofs.openings_stand.Goals as goal
 

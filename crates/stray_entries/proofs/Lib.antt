@@ -1,0 +1,5 @@
+pub mod Trees
+pub mod Unnamed
+pub mod Gone
+pub mod Nodes
+pub mod Laws
