@@ -10,6 +10,7 @@ use Rattle.deeds.proofs.Frame.{framed, lone}
 use Rattle.deeds.proofs.Phases.{unnamed_ordered}
 use Rattle.chunk_journal.specs.Journal.{journal_file, new_file, journal_name, new_name, IsClosed, IsAlike, IsBeforeOrAfter, IsQuiet, IsRepeatable, RecoversLike, StaysShut, AnyMoment, HasCommitted}
 use Rattle.chunk_journal.specs.Stages.{HasGate}
+use Rattle.chunk_journal.proofs.Gate.{shut_reopens}
 
 -- a file that isn't empty has a gate
 gate_of : (o : Option Node) (len : ℕ) → option_map kind_of o ≡ Some (File len) → 0 < len → (gate : ℕ) × (rest : List ℕ) × (o ≡ Some (file (gate ∷ rest)))
@@ -24,7 +25,12 @@ found_gate d len is some = gate_of (node_at d journal_file) len (sym is) some
 pub quiet_stays : (log : Log) → IsQuiet log → StaysShut log log
 quiet_stays log quiet = started log (RecoversLike (now log)) (λ c image.
     let same = quiet.steady.durable c image in
-    (c, inl (subst IsClosed (sym same) quiet.closed, refl), (λ q ne nm. ap (λ (d : Disk). node_at d q) same), λ is. quiet.no_folder (subst (λ (d : Disk). IsFolder d new_file) same is)))
+    let closed : IsClosed c = subst IsClosed (sym same) quiet.closed in (
+      c,
+      inl (closed, refl),
+      (λ q ne nm. ap (λ (d : Disk). node_at d q) same),
+      shut_reopens c closed (λ is. quiet.no_folder (subst (λ (d : Disk). IsFolder d new_file) same is)),
+    ))
 
 no_journal_folder : (d : Disk) → IsClosed d → IsFolder d journal_file → ⊥
 no_journal_folder d (inl none) is = let e : None ≡ Some folder = sym none ∙ is in cc

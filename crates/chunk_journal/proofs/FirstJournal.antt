@@ -11,7 +11,7 @@ use Rattle.outside.proofs.Told.{through}
 use Rattle.outside.proofs.Told.{both_changed, changed_from}
 use Rattle.deeds.proofs.Again.{at_disk}
 use Rattle.chunk_journal.specs.Journal.{journal_file, new_file, IsClosed, IsAlike, IsReady, RecoversLike, IsQuiet, StaysShut}
-use Rattle.chunk_journal.proofs.Gate.{files_apart}
+use Rattle.chunk_journal.proofs.Gate.{files_apart, shut_reopens}
 
 pub record HasNew (old new : Log) : Type 0 where
   pub at_start : IsQuiet old
@@ -38,7 +38,7 @@ put_no_folder bytes d c none (inr (inr set)) is = no_folder_file _ set.1.0 (at_d
 
 -- what isn't open recovers to itself
 still_shut : (d c : Disk) → IsClosed c → IsAlike d c → (IsFolder c new_file → ⊥) → RecoversLike d c
-still_shut d c closed alike none = (c, inl (closed, refl), alike, none)
+still_shut d c closed alike none = (c, inl (closed, refl), alike, shut_reopens c closed none)
 
 same_closed : (d c : Disk) → node_at c journal_file ≡ node_at d journal_file → IsClosed d → IsClosed c
 same_closed d c e (inl none) = inl (e ∙ none)

@@ -7,9 +7,9 @@ use Rattle.deeds.specs.Deeds.{PlainDeed, DoesAll, in_order}
 use Rattle.deeds.specs.Applying.{Applies}
 use Rattle.deeds.proofs.Applying.{applies_one}
 use Rattle.deeds.proofs.Doing.{same_run}
-use Rattle.chunk_journal.specs.Journal.{RecoversTo, RecoversLike, Recovered, RecoveredLike, IsAlike}
+use Rattle.chunk_journal.specs.Journal.{IsReopenable, RecoversTo, RecoversLike, Recovered, RecoveredLike, IsAlike}
 use Rattle.chunk_journal.specs.Opening.{IsOpening, StaysOpening, HasOpened}
-use Rattle.chunk_journal.specs.Commits.{IsReopenable, StaysFound, StaysAsFound}
+use Rattle.chunk_journal.specs.Commits.{StaysFound, StaysAsFound}
 use Rattle.chunk_journal.proofs.Gate.{closed_not_held, one_held}
 
 pub recovers_once : (image one other : Disk) → RecoversTo image one → RecoversTo image other → one ≡ other
@@ -25,7 +25,7 @@ opening_keeps old new found opening fit (inl shut) =
     let over : new ≡ adds old Synced = opening.untouched (λ deeds is. closed_not_held (now old) deeds shut.0 is.open_gate) in
     let here : LeavesOnly (adds old Synced) (adds old Synced) (RecoversLike found) = started (adds old Synced) (RecoversLike found) (λ c image.
     let same : c ≡ now old = opening.steady.durable c image in
-    subst (RecoversLike found) (sym same) (found, inl shut, (λ q ne nm. refl), fit.no_folder)) in
+    subst (RecoversLike found) (sym same) (found, inl shut, (λ q ne nm. refl), fit)) in
     subst (λ (l : Log). LeavesOnly (adds old Synced) l (RecoversLike found)) (sym over) here
 opening_keeps old new found opening fit (inr (deeds, held, run)) =
     let stays = opening.stays deeds (fit.repeatable deeds held) (record { steady = opening.steady; open_gate = held; no_folder = fit.no_folder }) in
@@ -40,7 +40,7 @@ opening_keeps_applied : (old new : Log) (found : Disk) → IsOpening old new →
 opening_keeps_applied old new found opening fit (inl none) =
     let over : new ≡ adds old Synced = opening.untouched (λ deeds is. none.0 deeds is.open_gate) in
     let here : LeavesOnly (adds old Synced) (adds old Synced) (RecoveredLike found) = started (adds old Synced) (RecoveredLike found) (λ c image.
-    subst (RecoveredLike found) (sym (opening.steady.durable c image)) (found, inl none, (λ q ne nm. refl), fit.no_folder)) in
+    subst (RecoveredLike found) (sym (opening.steady.durable c image)) (found, inl none, (λ q ne nm. refl), fit)) in
     subst (λ (l : Log). LeavesOnly (adds old Synced) l (RecoveredLike found)) (sym over) here
 opening_keeps_applied old new found opening fit (inr (deeds, held, applies)) =
     let stays = opening.stays deeds (fit.repeatable deeds held) (record { steady = opening.steady; open_gate = held; no_folder = fit.no_folder }) in

@@ -29,7 +29,7 @@ use Rattle.deeds.specs.Deeds.{in_order}
 use Rattle.deeds.specs.Grammar.{behind_gate, IsBatch}
 use Rattle.deeds.proofs.Doing.{same_run}
 use Rattle.chunk_journal.specs.Stages.{IsShutBeside, KeepsShut, HasStaged}
-use Rattle.chunk_journal.specs.Journal.{journal_file, new_file, journal_name, new_name, names_apart, IsAlike, IsBeforeOrAfter, IsReady, IsRepeatable, AnyMoment, HasCommitted, RecoversTo, RecoversLike, Recovered, RecoveredLike, IsClosed, IsFound, StaysRecovered, HasRecovered, HoldsBatch}
+use Rattle.chunk_journal.specs.Journal.{journal_file, new_file, journal_name, new_name, names_apart, IsAlike, IsBeforeOrAfter, IsReady, IsReopenable, IsRepeatable, AnyMoment, HasCommitted, RecoversTo, RecoversLike, Recovered, RecoveredLike, IsClosed, IsFound, StaysRecovered, HasRecovered, HoldsBatch}
 
 pub files_apart : new_file ≢ journal_file
 files_apart e = names_apart (cc)
@@ -42,6 +42,23 @@ same_bytes o a b ea eb = let e : Some (file a) ≡ Some (file b) = sym ea ∙ eb
 pub closed_not_held : (disk : Disk) (deeds : List PlainDeed) → IsClosed disk → HoldsBatch disk deeds → ⊥
 closed_not_held disk deeds (inl none) held = let e : None ≡ Some (file (1 ∷ (behind_gate deeds ++ held.1))) = sym none ∙ held.2 in cc
 closed_not_held disk deeds (inr f) held = f.2 (ap (λ (l : List ℕ). get_or l 0 0) (same_bytes (node_at disk journal_file) f.0 (1 ∷ (behind_gate deeds ++ held.1)) f.1 held.2))
+
+-- a disk holds one batch alone
+pub one_held : (disk : Disk) (a b : List PlainDeed) → HoldsBatch disk a → HoldsBatch disk b → a ≡ b
+one_held disk a b x y =
+    let e : Some (file (1 ∷ (behind_gate a ++ x.1))) ≡ Some (file (1 ∷ (behind_gate b ++ y.1))) = sym x.2 ∙ y.2 in
+    let same : behind_gate a ++ x.1 ≡ behind_gate b ++ y.1 = cc in
+    one_batch a b x.1 y.1 x.0 y.0 (sym (drop_length a x.1) ∙ ap (λ (l : List ℕ). drop 8 l) same ∙ drop_length b y.1)
+  where
+    drop_length : (ds : List PlainDeed) (rest : List ℕ) → drop 8 (behind_gate ds ++ rest) ≡ spelled ds ++ rest
+    drop_length ds rest = refl
+
+-- a disk whose journal is closed can be opened again, and so can one with a batch that can be done again
+pub shut_reopens : (disk : Disk) → IsClosed disk → (IsFolder disk new_file → ⊥) → IsReopenable disk
+shut_reopens disk shut none = record { repeatable = λ deeds held. absurd (closed_not_held disk deeds shut held); no_folder = none }
+
+pub held_reopens : (disk : Disk) (deeds : List PlainDeed) → IsRepeatable deeds → HoldsBatch disk deeds → (IsFolder disk new_file → ⊥) → IsReopenable disk
+held_reopens disk deeds repeatable held none = record { repeatable = λ others again. subst IsRepeatable (one_held disk deeds others held again) repeatable; no_folder = none }
 
 -- what is done whole is applied
 pub recovers_applied : (image disk : Disk) → RecoversTo image disk → Recovered image disk
@@ -155,7 +172,7 @@ module _ (bs : List PlainDeed) (batch : IsBatch bs) (repeatable : IsRepeatable b
   -- the batch stands behind the closed gate
   pub staged_leaves : (old new : Log) → IsReady old → KeepsShut old new → AnyMoment bs old new
   staged_leaves old new ready keeps = λ after run. weaker old new (IsShutBeside (now old)) (IsBeforeOrAfter (now old) after)
-      (λ c b. (c, inl (inr (b.bytes, b.here, b.shut), refl), inl (λ q ne nm. b.alike q ne), λ is. ready.no_folder (sym (b.alike new_file files_apart) ∙ is))) keeps
+      (λ c b. (c, inl (inr (b.bytes, b.here, b.shut), refl), inl (λ q ne nm. b.alike q ne), shut_reopens c (inr (b.bytes, b.here, b.shut)) (λ is. ready.no_folder (sym (b.alike new_file files_apart) ∙ is)))) keeps
 
   pub staged : (old new : Log) → IsReady old → KeepsShut old new → HasStaged bs old new → IsStaged old new
   staged old new ready keeps has = record {
@@ -176,12 +193,13 @@ module _ (bs : List PlainDeed) (batch : IsBatch bs) (repeatable : IsRepeatable b
       let w = rewritten 0 (1 ∷ []) (stage.gate ∷ tail) (now mid) c stage.here part in
       let torn = gate_torn 1 stage.gate tail w.bytes w.torn in
       let alike = λ (q : Path) (ne : q ≢ journal_file) (nm : q ≢ new_file). w.rest q ne ∙ stage.alike q ne in
+      let clear : IsFolder c new_file → ⊥ = λ is. stage.at_start.no_folder (sym (w.rest new_file files_apart ∙ stage.alike new_file files_apart) ∙ is) in
       ⊎_elim
       (λ (is : torn.0 ≡ 1).
       let here : node_at c journal_file ≡ Some (file (1 ∷ tail)) = w.here ∙ ap (λ (l : List ℕ). Some (file l)) torn.1 ∙ ap (λ (g : ℕ). Some (file (g ∷ tail))) is in
       let f = framed journal_file new_file (lone journal_name) (lone new_name) ds (now old) after c run uj un (no_folders old stage.at_start) alike in
-      (f.0, inr (bs, (batch, stage.rest, here), f.1), inr f.2, λ is. stage.at_start.no_folder (sym (w.rest new_file files_apart ∙ stage.alike new_file files_apart) ∙ is)))
-      (λ (shut : torn.0 ≡ 1 → ⊥). (c, inl (inr (w.bytes, w.here, λ h. shut (sym (ap (λ (l : List ℕ). get_or l 0 0) torn.1) ∙ h)), refl), inl alike, λ is. stage.at_start.no_folder (sym (w.rest new_file files_apart ∙ stage.alike new_file files_apart) ∙ is)))
+      (f.0, inr (bs, (batch, stage.rest, here), f.1), inr f.2, held_reopens c bs repeatable (batch, stage.rest, here) clear))
+      (λ (shut : torn.0 ≡ 1 → ⊥). let closed : IsClosed c = inr (w.bytes, w.here, λ h. shut (sym (ap (λ (l : List ℕ). get_or l 0 0) torn.1) ∙ h)) in (c, inl (closed, refl), inl alike, shut_reopens c closed clear))
       (cases_eq torn.0 1)
 
   pub gate_leaves : (old mid new : Log) → IsStaged old mid → LeavesOnly mid new (IsPartOf (Write journal_file 0 (1 ∷ [])) (now mid)) → AnyMoment bs old new
@@ -207,7 +225,12 @@ module _ (bs : List PlainDeed) (batch : IsBatch bs) (repeatable : IsRepeatable b
   amid_recovers old mid after c open_gate run amid =
       let end = run_open old mid after open_gate run in
       let r = again_amid ds (now mid) end.0 c end.1 (tree_run ds (now mid) end.0 open_gate.steady.tree end.1) apart amid in
-      (r.0, inr (bs, (batch, open_gate.rest, amid.rest journal_file uj ∙ open_gate.here), r.1), inr (λ q ne nm. r.2 q ∙ end.2 q ne nm), λ is. open_gate.at_start.no_folder (sym (amid.rest new_file un ∙ open_gate.alike new_file files_apart) ∙ is))
+      let held : HoldsBatch c bs = (batch, open_gate.rest, amid.rest journal_file uj ∙ open_gate.here) in (
+        r.0,
+        inr (bs, held, r.1),
+        inr (λ q ne nm. r.2 q ∙ end.2 q ne nm),
+        held_reopens c bs repeatable held (λ is. open_gate.at_start.no_folder (sym (amid.rest new_file un ∙ open_gate.alike new_file files_apart) ∙ is)),
+      )
 
   pub deeds_leave : (old mid new : Log) → IsOpened old mid → StaysAmid ds mid new → AnyMoment bs old new
   deeds_leave old mid new open_gate stays = λ after run.
@@ -238,12 +261,13 @@ module _ (bs : List PlainDeed) (batch : IsBatch bs) (repeatable : IsRepeatable b
       let w = rewritten 0 (0 ∷ []) (1 ∷ tail) (now mid) c all.here part in
       let torn = gate_torn 0 1 tail w.bytes w.torn in
       let alike = all.after after run in
+      let clear : IsFolder c new_file → ⊥ = λ is. all.at_start.no_folder (sym (w.rest new_file files_apart ∙ all.other) ∙ is) in
       ⊎_elim
       (λ (is : torn.0 ≡ 1).
       let here : node_at c journal_file ≡ Some (file (1 ∷ tail)) = w.here ∙ ap (λ (l : List ℕ). Some (file l)) torn.1 ∙ ap (λ (g : ℕ). Some (file (g ∷ tail))) is in
       let same : c ≡ now mid = same_disk c (now mid) (λ q. by_path q journal_file (λ at. ap (λ (t : Path). node_at c t) at ∙ here ∙ sym all.here ∙ ap (λ (t : Path). node_at (now mid) t) (sym at)) (w.rest q)) in
-      (all.again.0, inr (bs, (batch, all.rest, here), subst (λ (d : Disk). DoesAll ds d all.again.0) (sym same) all.again.1), inr (λ q ne nm. all.again.2 q ∙ alike q ne nm), λ is. all.at_start.no_folder (sym (w.rest new_file files_apart ∙ all.other) ∙ is)))
-      (λ (shut : torn.0 ≡ 1 → ⊥). (c, inl (inr (w.bytes, w.here, λ h. shut (sym (ap (λ (l : List ℕ). get_or l 0 0) torn.1) ∙ h)), refl), inr (λ q ne nm. w.rest q ne ∙ alike q ne nm), λ is. all.at_start.no_folder (sym (w.rest new_file files_apart ∙ all.other) ∙ is)))
+      (all.again.0, inr (bs, (batch, all.rest, here), subst (λ (d : Disk). DoesAll ds d all.again.0) (sym same) all.again.1), inr (λ q ne nm. all.again.2 q ∙ alike q ne nm), held_reopens c bs repeatable (batch, all.rest, here) clear))
+      (λ (shut : torn.0 ≡ 1 → ⊥). let closed : IsClosed c = inr (w.bytes, w.here, λ h. shut (sym (ap (λ (l : List ℕ). get_or l 0 0) torn.1) ∙ h)) in (c, inl (closed, refl), inr (λ q ne nm. w.rest q ne ∙ alike q ne nm), shut_reopens c closed clear))
       (cases_eq torn.0 1)
 
   pub close_leaves : (old mid new : Log) → AreDone old mid → LeavesOnly mid new (IsPartOf (Write journal_file 0 (0 ∷ [])) (now mid)) → AnyMoment bs old new
@@ -310,16 +334,18 @@ module _ (bs : List PlainDeed) (batch : IsBatch bs) (repeatable : IsRepeatable b
   found_amid : (old : Log) (after c : Disk) → IsFound bs old → DoesAll ds (now old) after → IsAmid ds (now old) c → RecoversLike after c
   found_amid old after c found run amid =
       let r = again_amid ds (now old) after c run (tree_run ds (now old) after found.steady.tree run) apart amid in
-      (r.0, inr (bs, (batch, found.open_gate.1, amid.rest journal_file uj ∙ found.open_gate.2), r.1), (λ q ne nm. r.2 q), λ is. found.no_folder (sym (amid.rest new_file un) ∙ is))
+      let held : HoldsBatch c bs = (batch, found.open_gate.1, amid.rest journal_file uj ∙ found.open_gate.2) in
+      (r.0, inr (bs, held, r.1), (λ q ne nm. r.2 q), held_reopens c bs repeatable held (λ is. found.no_folder (sym (amid.rest new_file un) ∙ is)))
 
   -- the same of what is done of deeds that may not fit
   found_applied : (part : List PlainDeed) (old : Log) (after c : Disk) → IsFound bs old → GoesAsFar ds (now old) part → DoesAll part (now old) after → IsAmid part (now old) c → RecoveredLike after c
   found_applied part old after c found far run amid =
-      let r = applied_again ds part (now old) after c far run (tree_run part (now old) after found.steady.tree run) apart amid in (
+      let r = applied_again ds part (now old) after c far run (tree_run part (now old) after found.steady.tree run) apart amid in
+      let held : HoldsBatch c bs = (batch, found.open_gate.1, amid.rest journal_file (unnamed_part journal_file ds (now old) part far uj) ∙ found.open_gate.2) in (
         r.0,
-        inr (bs, (batch, found.open_gate.1, amid.rest journal_file (unnamed_part journal_file ds (now old) part far uj) ∙ found.open_gate.2), r.1),
+        inr (bs, held, r.1),
         (λ q ne nm. r.2 q),
-        λ is. found.no_folder (sym (amid.rest new_file (unnamed_part new_file ds (now old) part far un)) ∙ is),
+        held_reopens c bs repeatable held (λ is. found.no_folder (sym (amid.rest new_file (unnamed_part new_file ds (now old) part far un)) ∙ is)),
       )
 
   applied_all : (old new : Log) → IsFound bs old → StaysApplied ds old new → (after : Disk) → Applies ds (now old) after → LeavesOnly old new (RecoveredLike after)
@@ -367,13 +393,14 @@ module _ (bs : List PlainDeed) (batch : IsBatch bs) (repeatable : IsRepeatable b
   part_shut old mid after c all run part =
       let tail = behind_gate bs ++ all.rest in
       let w = rewritten 0 (0 ∷ []) (1 ∷ tail) (now mid) c all.here part in
+      let clear : IsFolder c new_file → ⊥ = λ is. all.no_folder (sym (w.rest new_file files_apart) ∙ is) in
       let torn = gate_torn 0 1 tail w.bytes w.torn in
       ⊎_elim
       (λ (is : torn.0 ≡ 1).
       let here : node_at c journal_file ≡ Some (file (1 ∷ tail)) = w.here ∙ ap (λ (l : List ℕ). Some (file l)) torn.1 ∙ ap (λ (g : ℕ). Some (file (g ∷ tail))) is in
       let same : c ≡ now mid = same_disk c (now mid) (λ q. by_path q journal_file (λ at. ap (λ (t : Path). node_at c t) at ∙ here ∙ sym all.here ∙ ap (λ (t : Path). node_at (now mid) t) (sym at)) (w.rest q)) in
-      (all.again.0, inr (bs, (batch, all.rest, here), subst (λ (d : Disk). DoesAll ds d all.again.0) (sym same) all.again.1), (λ q ne nm. all.again.2 q ∙ at_disk q (all.after after run)), λ is. all.no_folder (sym (w.rest new_file files_apart) ∙ is)))
-      (λ (shut : torn.0 ≡ 1 → ⊥). (c, inl (inr (w.bytes, w.here, λ h. shut (sym (ap (λ (l : List ℕ). get_or l 0 0) torn.1) ∙ h)), refl), (λ q ne nm. w.rest q ne ∙ at_disk q (all.after after run)), λ is. all.no_folder (sym (w.rest new_file files_apart) ∙ is)))
+      (all.again.0, inr (bs, (batch, all.rest, here), subst (λ (d : Disk). DoesAll ds d all.again.0) (sym same) all.again.1), (λ q ne nm. all.again.2 q ∙ at_disk q (all.after after run)), held_reopens c bs repeatable (batch, all.rest, here) clear))
+      (λ (shut : torn.0 ≡ 1 → ⊥). let closed : IsClosed c = inr (w.bytes, w.here, λ h. shut (sym (ap (λ (l : List ℕ). get_or l 0 0) torn.1) ∙ h)) in (c, inl (closed, refl), (λ q ne nm. w.rest q ne ∙ at_disk q (all.after after run)), shut_reopens c closed clear))
       (cases_eq torn.0 1)
 
   pub shut_leaves : (old mid new : Log) → AreRedone old mid → LeavesOnly mid new (IsPartOf (Write journal_file 0 (0 ∷ [])) (now mid)) → StaysRecovered bs old new
@@ -397,13 +424,3 @@ module _ (bs : List PlainDeed) (batch : IsBatch bs) (repeatable : IsRepeatable b
     };
     after = λ after run. λ q ne nm. at_disk q kept.is ∙ written_there 0 (0 ∷ []) (now mid) q ne ∙ at_disk q (all.after after run);
   }
-
--- a disk holds one batch alone
-pub one_held : (disk : Disk) (a b : List PlainDeed) → HoldsBatch disk a → HoldsBatch disk b → a ≡ b
-one_held disk a b x y =
-    let e : Some (file (1 ∷ (behind_gate a ++ x.1))) ≡ Some (file (1 ∷ (behind_gate b ++ y.1))) = sym x.2 ∙ y.2 in
-    let same : behind_gate a ++ x.1 ≡ behind_gate b ++ y.1 = cc in
-    one_batch a b x.1 y.1 x.0 y.0 (sym (drop_length a x.1) ∙ ap (λ (l : List ℕ). drop 8 l) same ∙ drop_length b y.1)
-  where
-    drop_length : (ds : List PlainDeed) (rest : List ℕ) → drop 8 (behind_gate ds ++ rest) ≡ spelled ds ++ rest
-    drop_length ds rest = refl

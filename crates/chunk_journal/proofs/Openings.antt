@@ -11,9 +11,9 @@ use Rattle.deeds.proofs.Again.{at_disk}
 use Rattle.deeds.proofs.Growing.{goes_nowhere, goes_on_on, leaves_go_on}
 use Rattle.chunk_journal.specs.declared.fault.JournalErr.{JournalErr}
 use Rattle.chunk_journal.specs.declared.fault.JournalErr.TheVariants.{Device, JournalDamaged, Memory}
-use Rattle.chunk_journal.specs.Journal.{journal_file, new_file, HoldsBatch, IsClosed, RecoversLike, RecoveredLike, IsAlike, IsQuiet, IsFound, IsRepeatable, StaysRecovered, IsUnheld}
+use Rattle.chunk_journal.specs.Journal.{journal_file, new_file, HoldsBatch, IsClosed, RecoversLike, RecoveredLike, IsAlike, IsQuiet, IsFound, IsReopenable, IsRepeatable, StaysRecovered, IsUnheld}
 use Rattle.chunk_journal.specs.Opening.{HasFolder, HasLen, IsUnfitAt, IsDamagedAt, LeavesFolder, IsBadBehindGate, IfDamaged, IsLeftApplied, IsOpening, HasOpened}
-use Rattle.chunk_journal.proofs.Gate.{files_apart, written_here, written_there, one_held}
+use Rattle.chunk_journal.proofs.Gate.{files_apart, held_reopens, written_here, written_there, one_held}
 use Rattle.chunk_journal.proofs.Damage.{recovers_undamaged, held_bytes}
 
 -- ---- what is told before a change, of what is told after it
@@ -65,13 +65,16 @@ pub record HasSettled (old mid : Log) : Type 0 where
   pub steady : IsSteady mid
   pub begun : LeavesOnly old mid (IsImage old)
 
-found_stays : (bs : List PlainDeed) (log : Log) → IsFound bs log → StaysRecovered bs log log
-found_stays bs log found = record {
+found_stays : (bs : List PlainDeed) → IsRepeatable bs → (log : Log) → IsFound bs log → StaysRecovered bs log log
+found_stays bs repeatable log found = record {
   whole = λ after run. started log (RecoversLike after) (λ c image.
-      subst (RecoversLike after) (sym (found.steady.durable c image)) (after, inr (bs, found.open_gate, run), (λ q ne nm. refl), found.no_folder));
+      subst (RecoversLike after) (sym (found.steady.durable c image)) (after, inr (bs, found.open_gate, run), (λ q ne nm. refl), again));
   applied = λ after applies. started log (RecoveredLike after) (λ c image.
-      subst (RecoveredLike after) (sym (found.steady.durable c image)) (after, inr (bs, found.open_gate, applies), (λ q ne nm. refl), found.no_folder));
+      subst (RecoveredLike after) (sym (found.steady.durable c image)) (after, inr (bs, found.open_gate, applies), (λ q ne nm. refl), again));
 }
+  where
+    again : IsReopenable (now log)
+    again = held_reopens (now log) bs repeatable found.open_gate found.no_folder
 
 opening : (old mid new : Log) → HasSettled old mid → LogGoesOn mid new → (((deeds : List PlainDeed) → IsFound deeds mid → ⊥) → new ≡ mid) → ((deeds : List PlainDeed) → IsRepeatable deeds → IsFound deeds mid → StaysRecovered deeds mid new) → IsOpening old new
 opening old mid new settled grown untouched stays =
@@ -85,7 +88,7 @@ opening old mid new settled grown untouched stays =
     }
 
 pub unopened : (old mid new : Log) → HasSettled old mid → new ≡ mid → IsOpening old new
-unopened old mid new settled same = opening old mid new settled (subst (LogGoesOn mid) (sym same) (goes_nowhere mid)) (λ none. same) (λ deeds repeatable found. subst (StaysRecovered deeds mid) (sym same) (found_stays deeds mid found))
+unopened old mid new settled same = opening old mid new settled (subst (LogGoesOn mid) (sym same) (goes_nowhere mid)) (λ none. same) (λ deeds repeatable found. subst (StaysRecovered deeds mid) (sym same) (found_stays deeds repeatable mid found))
 
 pub reopened : (bs : List PlainDeed) (old mid new : Log) → HasSettled old mid → IsFound bs mid → LogGoesOn mid new → (IsRepeatable bs → StaysRecovered bs mid new) → IsOpening old new
 reopened bs old mid new settled found grown stays = opening old mid new settled grown (λ none. absurd (none bs found)) (λ deeds repeatable other.

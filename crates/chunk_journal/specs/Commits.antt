@@ -1,14 +1,8 @@
 -- What an opening owes to whoever commits after it.
-use Rattle.std.specs.Prelude.{ℕ, suc, ◌≤◌, List}
-use Rattle.outside.specs.Disk.{Disk, IsFolder}
+use Rattle.std.specs.Prelude.{ℕ, suc, ◌≤◌}
+use Rattle.outside.specs.Disk.{Disk}
 use Rattle.outside.specs.Images.{Log, now, moment, log_at, IsImage}
-use Rattle.deeds.specs.Deeds.{PlainDeed}
-use Rattle.chunk_journal.specs.Journal.{new_file, HoldsBatch, RecoversTo, RecoversLike, Recovered, RecoveredLike, IsRepeatable}
-
--- the batch of a disk, if it holds one, can be done again, and no folder stands where the first journal is made
-pub record IsReopenable (disk : Disk) : Type 0 where
-  pub repeatable : (deeds : List PlainDeed) → HoldsBatch disk deeds → IsRepeatable deeds
-  pub no_folder : IsFolder disk new_file → ⊥
+use Rattle.chunk_journal.specs.Journal.{RecoversTo, RecoversLike, Recovered, RecoveredLike}
 
 -- at each moment since the opening's first sync, each image recovers to what the disk that was found does
 abbrev pub StaysFound : Log → Log → Type 0

@@ -28,13 +28,18 @@ RecoversTo image disk = (IsClosed image × (disk ≡ image)) ⊎ ((deeds : List 
 abbrev pub Recovered : Disk → Disk → Type 0
 Recovered image disk = (IsUnheld image × (disk ≡ image)) ⊎ ((deeds : List PlainDeed) × HoldsBatch image deeds × Applies (in_order deeds) image disk)
 
+-- the batch of a disk, if it holds one, can be done again, and no folder stands where the first journal is made
+pub record IsReopenable (disk : Disk) : Type 0 where
+  pub repeatable : (deeds : List PlainDeed) → HoldsBatch disk deeds → IsRepeatable deeds
+  pub no_folder : IsFolder disk new_file → ⊥
+
 -- the same beside the journal's two files
 abbrev pub IsAlike : Disk → Disk → Type 0
 IsAlike a b = IsAlikeBut journal_file new_file a b
 
--- an image recovers to what was before, or to what is after, and has no folder where the first journal is made
+-- an image recovers to what was before, or to what is after, and can be opened again
 abbrev pub IsBeforeOrAfter : Disk → Disk → Disk → Type 0
-IsBeforeOrAfter before after image = (disk : Disk) × RecoversTo image disk × (IsAlike before disk ⊎ IsAlike after disk) × (IsFolder image new_file → ⊥)
+IsBeforeOrAfter before after image = (disk : Disk) × RecoversTo image disk × (IsAlike before disk ⊎ IsAlike after disk) × IsReopenable image
 
 -- all is on the disk, no journal is open, and no folder stands where the first one is made
 pub record IsQuiet (log : Log) : Type 0 where
@@ -62,9 +67,9 @@ pub record HasCommitted (deeds : List PlainDeed) (old new : Log) : Type 0 where
 
 -- ---- recovery
 
--- an image recovers to this beside the journal's files, and has no folder where the first journal is made
+-- an image recovers to this beside the journal's files, and can be opened again
 abbrev pub RecoversLike : Disk → Disk → Type 0
-RecoversLike after image = (disk : Disk) × RecoversTo image disk × IsAlike after disk × (IsFolder image new_file → ⊥)
+RecoversLike after image = (disk : Disk) × RecoversTo image disk × IsAlike after disk × IsReopenable image
 
 -- a journal with this batch was found open, and all is on the disk
 pub record IsFound (deeds : List PlainDeed) (log : Log) : Type 0 where
@@ -74,7 +79,7 @@ pub record IsFound (deeds : List PlainDeed) (log : Log) : Type 0 where
 
 -- the same where its batch may not fit
 abbrev pub RecoveredLike : Disk → Disk → Type 0
-RecoveredLike after image = (disk : Disk) × Recovered image disk × IsAlike after disk × (IsFolder image new_file → ⊥)
+RecoveredLike after image = (disk : Disk) × Recovered image disk × IsAlike after disk × IsReopenable image
 
 -- at each moment since an image recovers to what the disk that was found does, whether all deeds can be done on it or not
 pub record StaysRecovered (deeds : List PlainDeed) (old new : Log) : Type 0 where

@@ -28,9 +28,9 @@ ghost use Rattle.std.specs.Prelude.{◌≡◌, ℕ, List};
 ghost use Rattle.outside.specs.Disk.{Disk, IsFolder};
 ghost use Rattle.outside.specs.Images.{Log, Synced, adds, now, LeavesOnly};
 ghost use Rattle.deeds.specs.Deeds.{PlainDeed};
-ghost use Rattle.chunk_journal.specs.Journal.{new_file, HoldsBatch, RecoversTo, RecoversLike, Recovered, IsAlike};
+ghost use Rattle.chunk_journal.specs.Journal.{new_file, HoldsBatch, RecoversTo, RecoversLike, Recovered, IsAlike, IsReopenable};
 ghost use Rattle.chunk_journal.specs.Opening.{IsDamagedAt, IsOpening, StaysOpening, HasOpened};
-ghost use Rattle.chunk_journal.specs.Commits.{IsReopenable, StaysFound, StaysAsFound};
+ghost use Rattle.chunk_journal.specs.Commits.{StaysFound, StaysAsFound};
 
 pub use fault::{Device, JournalErr};
 pub use journal::Journal;

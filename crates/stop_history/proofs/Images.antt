@@ -2,7 +2,8 @@
 use Rattle.std.proofs.Common.{◌≡◌, ℕ, ◌-◌, List, length, drop, refl, ap, subst, inl, arith}
 use Rattle.outside.specs.Disk.{Disk}
 use Rattle.outside.specs.Images.{Call, Log, now, moment, log_at, IsImage}
-use Rattle.chunk_journal.specs.Journal.{IsQuiet, RecoversTo}
+use Rattle.chunk_journal.specs.Journal.{IsQuiet, IsReopenable, RecoversTo}
+use Rattle.chunk_journal.proofs.Gate.{shut_reopens}
 
 drop_none : (calls : List Call) (n : ℕ) → n ≡ 0 → drop n calls ≡ calls
 drop_none calls n e = ap (λ (k : ℕ). drop k calls) e
@@ -16,3 +17,7 @@ at_now log m image same is = subst (λ (l : Log). IsImage l image) (at_end log m
 -- what reads give at rest is what it recovers to
 pub rest_recovers : (log : Log) → IsQuiet log → RecoversTo (now log) (now log)
 rest_recovers log rest = inl (rest.closed, refl)
+
+-- and can be opened again
+pub rest_reopens : (log : Log) → IsQuiet log → IsReopenable (now log)
+rest_reopens log rest = shut_reopens (now log) rest.closed rest.no_folder

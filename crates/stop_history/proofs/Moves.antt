@@ -1,19 +1,19 @@
 -- The moves of a store: an entry that changes no disk, the commit of what is pending, and the commit of one entry's own deeds.
 use Rattle.std.proofs.Common.{◌≡◌, ⊎_elim, ℕ, suc, ◌≤◌, ◌<◌, List, [], ◌∷◌, ◌++◌, length, true, Option, Some, refl, sym, subst, inl, inr, arith}
 use Rattle.std.proofs.lemmas.Bool.{cases_lt}
-use Rattle.outside.specs.Disk.{Disk, IsFolder}
+use Rattle.outside.specs.Disk.{Disk}
 use Rattle.outside.specs.Images.{Log, now, moment}
 use Rattle.outside.proofs.Moments.{moment_later}
 use Rattle.deeds.specs.Deeds.{PlainDeed, DoesAll, in_order}
 use Rattle.deeds.specs.Repeatable.{IsRepeatable}
-use Rattle.chunk_journal.specs.Journal.{new_file, IsBeforeOrAfter, AnyMoment, HasCommitted, RecoversTo}
+use Rattle.chunk_journal.specs.Journal.{IsBeforeOrAfter, IsReopenable, AnyMoment, HasCommitted, RecoversTo}
 use Rattle.tree_model.specs.Rows.{Rows}
 use Rattle.tree_history.specs.History.{Entry, Origin, entry_at, rows_at, rows_then, tally_at, tally_of}
 use Rattle.stop_history.specs.Crash.{DiskShows, IsBlind, HoldsEnded, HaveEnded, IsCrash, rows_stepped}
 use Rattle.stop_history.specs.Stands.{WasSafe, IsRunning, IsBroken, IsInState}
 use Rattle.stop_history.specs.Opening.{IsClearTree}
 use Rattle.stop_history.proofs.Histories.{at_more, at_last, at_within, rows_more, rows_last, rows_end, longer, tally_stable, tally_moment}
-use Rattle.stop_history.proofs.Images.{at_now, rest_recovers}
+use Rattle.stop_history.proofs.Images.{at_now, rest_recovers, rest_reopens}
 use Rattle.stop_history.proofs.Trees.{quiet_clear, alike_tree, clear_after}
 use Rattle.stop_history.proofs.Safe.{crash_more, safe_goes, safe_shorter, safe_more, safe_more_now}
 
@@ -45,12 +45,12 @@ module _ (Shows : DiskShows) (opened : ℕ) (rows : Rows) where
 
   -- a disk that has the first k entries, where all have ended
   pub crash_at : (history : List Entry) (m k : ℕ) (image disk : Disk) → HaveEnded history m (length history) → k ≤ length history
-      → ((i : ℕ) (x : Entry) → entry_at history i ≡ Some x → x.made.stable ≤ k) → (IsFolder image new_file → ⊥) → RecoversTo image disk → Shows disk (rows_at rows history k) → IsCrash Shows rows history m image
-  crash_at history m k image disk ended within held clean recovers shows = record {
+      → ((i : ℕ) (x : Entry) → entry_at history i ≡ Some x → x.made.stable ≤ k) → IsReopenable image → RecoversTo image disk → Shows disk (rows_at rows history k) → IsCrash Shows rows history m image
+  crash_at history m k image disk ended within held reopenable recovers shows = record {
     k = k;
     within = within;
     holds = λ i x at done. held i x at;
-    clean = clean;
+    reopenable = reopenable;
     disk = disk;
     recovers = recovers;
     shows = inl (record { ended = λ i x at le. ended i x at (at_within history i x at); shows = shows });
@@ -64,7 +64,7 @@ module _ (Shows : DiskShows) (opened : ℕ) (rows : Rows) where
       let same : m ≡ moment log = omega arith in
       let at : image ≡ now log = is.at_rest.steady.durable image (at_now log m image same here) in
       subst (λ (c : Disk). IsCrash Shows rows history m c) (sym at)
-      (crash_at history m is.base (now log) (now log) (λ i x there le. omega (arith, same, is.ended i x there le)) is.within (all_held history pending log is) is.at_rest.no_folder (rest_recovers log is.at_rest) is.shows))
+      (crash_at history m is.base (now log) (now log) (λ i x there le. omega (arith, same, is.ended i x there le)) is.within (all_held history pending log is) (rest_reopens log is.at_rest) (rest_recovers log is.at_rest) is.shows))
       (cases_lt m (moment log))
 
   -- ---- an entry that changes no disk
@@ -130,13 +130,13 @@ module _ (Shows : DiskShows) (opened : ℕ) (rows : Rows) where
 
     settle_each : (history : List Entry) (pending : List PlainDeed) (old : Log) → IsRepeatable pending → (is : IsRunning Shows opened rows history pending old) (m : ℕ) → moment old ≤ m → (image : Disk)
         → IsBeforeOrAfter (now old) is.after image → IsCrash Shows rows history m image
-    settle_each history pending old repeatable is m late image (disk, recovers, which, no_folder) =
+    settle_each history pending old repeatable is m late image (disk, recovers, which, reopenable) =
         let ended = ended_later history (moment old) m late is.ended in
         let clear : IsClearTree (now old) = quiet_clear old is.at_rest in
         elim which [
-          | inl before ↦ crash_at history m is.base image disk ended is.within (all_held history pending old is) no_folder recovers
+          | inl before ↦ crash_at history m is.base image disk ended is.within (all_held history pending old is) reopenable recovers
               (blind (now old) disk (rows_at rows history is.base) is.shows (alike_tree (now old) disk clear before) before)
-          | inr done ↦ crash_at history m (length history) image disk ended (omega arith) (λ i x at. omega (arith, all_held history pending old is i x at, is.within)) no_folder recovers
+          | inr done ↦ crash_at history m (length history) image disk ended (omega arith) (λ i x at. omega (arith, all_held history pending old is i x at, is.within)) reopenable recovers
               (blind is.after disk (rows_at rows history (length history)) is.shows_after (alike_tree is.after disk (clear_after pending (now old) is.after repeatable clear is.does) done) done)
         ]
 
@@ -176,18 +176,18 @@ module _ (Shows : DiskShows) (opened : ℕ) (rows : Rows) where
     commit_each : (history : List Entry) (old : Log) (e : Entry) (end : Disk) (is : IsRunning Shows opened rows history [] old) → IsClearTree end
         → Shows end (rows_then (rows_at rows history (length history)) e.made) → (m : ℕ) → moment old ≤ m → m < e.made.moment → (image : Disk) → IsBeforeOrAfter (now old) end image
         → IsCrash Shows rows (history ++ e ∷ []) m image
-    commit_each history old e end is clear_end shows m late early image (disk, recovers, which, no_folder) =
+    commit_each history old e end is clear_end shows m late early image (disk, recovers, which, reopenable) =
         let ended = ended_later history (moment old) m late is.ended in
         elim which [
           | inl before ↦ crash_more Shows rows history m image e (λ done k holds. absurd (omega (arith, early, done)))
-              (crash_at history m (length history) image disk ended (omega arith) (λ i x at. omega (arith, all_held history [] old is i x at, is.within)) no_folder recovers
+              (crash_at history m (length history) image disk ended (omega arith) (λ i x at. omega (arith, all_held history [] old is i x at, is.within)) reopenable recovers
               (blind (now old) disk (rows_at rows history (length history)) (shows_all history old is) (alike_tree (now old) disk (quiet_clear old is.at_rest) before) before))
           | inr done ↦ record {
             k = suc (length history);
             within = omega (arith, longer history e);
             holds = λ i x at over. at_more history e i x at (λ before. omega (arith, all_held history [] old is i x before, is.within))
                 (λ last same. absurd (omega (arith, early, subst (λ (y : Entry). y.made.moment ≤ m) (sym same) over)));
-            clean = no_folder;
+            reopenable = reopenable;
             disk = disk;
             recovers = recovers;
             shows = inl (record {
@@ -227,7 +227,7 @@ module _ (Shows : DiskShows) (opened : ℕ) (rows : Rows) where
     -- the commit failed: an image may have its one change, or not
     flag_each : (history : List Entry) (old : Log) (e : Entry) (end : Disk) (is : IsRunning Shows opened rows history [] old) → IsClearTree end → e.made.commit_failed ≡ true → e.made.stable ≤ length history
         → Shows end (rows_stepped (rows_at rows history (length history)) e.made) → (m : ℕ) → moment old ≤ m → (image : Disk) → IsBeforeOrAfter (now old) end image → IsCrash Shows rows (history ++ e ∷ []) m image
-    flag_each history old e end is clear_end failed stable shows m late image (disk, recovers, which, no_folder) =
+    flag_each history old e end is clear_end failed stable shows m late image (disk, recovers, which, reopenable) =
         let ended = ended_later history (moment old) m late is.ended in
         let holds : HoldsEnded (history ++ e ∷ []) m (length history) = λ i x at over. at_more history e i x at (λ before. omega (arith, all_held history [] old is i x before, is.within))
         (λ last same. subst (λ (y : Entry). y.made.stable ≤ length history) same stable) in
@@ -235,7 +235,7 @@ module _ (Shows : DiskShows) (opened : ℕ) (rows : Rows) where
           k = length history;
           within = omega (arith, longer history e);
           holds = holds;
-          clean = no_folder;
+          reopenable = reopenable;
           disk = disk;
           recovers = recovers;
           shows = elim which [

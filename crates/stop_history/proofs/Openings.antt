@@ -21,7 +21,7 @@ module _ (Shows : DiskShows) (blind : IsBlind Shows) where
         k = 0;
         within = omega arith;
         holds = λ i x at. absurd (cc);
-        clean = like.3;
+        reopenable = like.3;
         disk = like.0;
         recovers = like.1;
         shows = inl (record { ended = λ i x at. absurd (cc); shows = blind shown like.0 rows shows (alike_tree shown like.0 clear alike) alike });

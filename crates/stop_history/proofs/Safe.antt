@@ -30,7 +30,7 @@ module _ (Shows : DiskShows) (rows : Rows) where
     within = omega (arith, longer history e, is.within);
     holds = λ i x at ended. at_more history e i x at (λ old. is.holds i x old ended)
         (λ last same. subst (λ (y : Entry). y.made.stable ≤ is.k) same (low (subst (λ (y : Entry). y.made.moment ≤ m) (sym same) ended) is.k is.holds));
-    clean = is.clean;
+    reopenable = is.reopenable;
     disk = is.disk;
     recovers = is.recovers;
     shows = elim is.shows [

@@ -5,13 +5,13 @@ use Rattle.outside.specs.Disk.{Disk}
 use Rattle.outside.specs.Images.{Log, now, moment}
 use Rattle.deeds.specs.Deeds.{PlainDeed}
 use Rattle.deeds.specs.Repeatable.{IsRepeatable}
-use Rattle.chunk_journal.specs.Journal.{AnyMoment, HasCommitted, RecoversTo}
+use Rattle.chunk_journal.specs.Journal.{IsReopenable, AnyMoment, HasCommitted, RecoversTo}
 use Rattle.tree_model.specs.Rows.{Rows}
 use Rattle.tree_history.specs.History.{Entry}
 use Rattle.stop_history.specs.Crash.{DiskShows, IsBlind, HoldsEnded, HaveEnded, IsCrash}
 use Rattle.stop_history.specs.Stands.{WasSafe, IsRunning, IsInState}
 use Rattle.stop_history.specs.Prefix.{low_at, ended_at, IsCrashPrefix, StopsRecover, RecoversWhole, BeginningRecovers, IsWhole}
-use Rattle.stop_history.proofs.Images.{rest_recovers}
+use Rattle.stop_history.proofs.Images.{rest_recovers, rest_reopens}
 use Rattle.stop_history.proofs.Moves.{running_safe, settles, settles_broken, shows_all}
 
 by_le : {C : Type 0} (a b : ℕ) → (nat_le a b ≡ true → a ≤ b → C) → (nat_le a b ≡ false → b < a → C) → C
@@ -40,7 +40,7 @@ module _ (Shows : DiskShows) (rows : Rows) where
       | inr f ↦ omega (arith, ended_above history m is.k is.within f.ended)
     ];
     within = is.within;
-    clean = is.clean;
+    reopenable = is.reopenable;
     disk = is.disk;
     recovers = is.recovers;
     shows = elim is.shows [ inl a ↦ inl a.shows | inr f ↦ inr (record { begun = omega (arith, ended_above history m is.k is.within f.ended); entry = f.entry; there = f.there; failed = f.failed; shows = f.shows }) ];
@@ -49,6 +49,7 @@ module _ (Shows : DiskShows) (rows : Rows) where
   -- of no entries k is 0
   unentered : (m : ℕ) (image : Disk) → IsCrash Shows rows [] m image → RecoversWhole Shows rows [] image
   unentered m image is = record {
+    reopenable = is.reopenable;
     disk = is.disk;
     recovers = is.recovers;
     shows = elim is.shows [ inl a ↦ a.shows | inr f ↦ absurd (let there : None ≡ Some f.entry = f.there in cc) ];
@@ -80,6 +81,7 @@ module _ (Shows : DiskShows) (rows : Rows) where
         record {
           shows = shows;
           images = λ image here. record {
+            reopenable = subst IsReopenable (sym (settled.at_rest.steady.durable image here)) (rest_reopens new settled.at_rest);
             disk = now new;
             recovers = subst (λ (c : Disk). RecoversTo c (now new)) (sym (settled.at_rest.steady.durable image here)) (rest_recovers new settled.at_rest);
             shows = shows;

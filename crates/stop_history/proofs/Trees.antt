@@ -9,8 +9,10 @@ use Rattle.deeds.proofs.Again.{elsewhere}
 use Rattle.deeds.proofs.Applying.{unnamed_part}
 use Rattle.deeds.proofs.Amid.{tree_run}
 use Rattle.deeds.proofs.Phases.{unnamed_ordered}
-use Rattle.chunk_journal.specs.Journal.{journal_file, new_file, IsClosed, IsAlike, IsQuiet, RecoversTo, Recovered}
+use Rattle.chunk_journal.specs.Journal.{journal_file, new_file, IsClosed, IsAlike, IsQuiet, IsReopenable, RecoversTo, Recovered}
+use Rattle.stop_history.specs.Crash.{DiskShows}
 use Rattle.stop_history.specs.Opening.{IsClearTree, IsSoundlyFound}
+use Rattle.stop_history.specs.Laws.{StopsAreSound, WholesAreSound}
 
 -- a file or nothing is no folder
 file_no_folder : (o : Option Node) (bytes : List ℕ) → o ≡ Some (file bytes) → o ≡ Some folder → ⊥
@@ -82,3 +84,25 @@ clear_applied disk found sound (inr (deeds, held, applies)) = record {
   where
     left : (q : Path) → Unnamed q deeds → node_at found q ≡ node_at disk q
     left q un = stays_unnamed q applies.part disk found applies.does (unnamed_part q (in_order deeds) disk applies.part applies.far (unnamed_ordered q deeds un))
+
+-- ---- what is found next
+
+-- what can be opened again and recovers to a disk is soundly found
+pub recovering_is_sound : (image disk : Disk) → IsTree image → IsReopenable image → RecoversTo image disk → IsSoundlyFound image
+recovering_is_sound image disk tree reopenable recovers = record {
+  clear = record {
+    tree = tree;
+    no_folder = λ has. elim has [ inl journal ↦ no_journal recovers journal | inr beside ↦ reopenable.no_folder beside ];
+  };
+  repeatable = reopenable.repeatable;
+}
+  where
+    no_journal : RecoversTo image disk → IsFolder image journal_file → ⊥
+    no_journal (inl shut) is = closed_no_folder image shut.0 is
+    no_journal (inr (deeds, held, run)) is = file_no_folder (node_at image journal_file) _ held.2 is
+
+pub stops_are_sound : (Shows : DiskShows) → StopsAreSound Shows
+stops_are_sound Shows rows history low high image tree is = recovering_is_sound image is.disk tree is.reopenable is.recovers
+
+pub wholes_are_sound : (Shows : DiskShows) → WholesAreSound Shows
+wholes_are_sound Shows rows history image tree is = recovering_is_sound image is.disk tree is.reopenable is.recovers

@@ -1,7 +1,7 @@
 -- What a stop at a moment of a history recovers to.
 use Rattle.std.specs.Prelude.{◌≡◌, ◌⊎◌, ℕ, suc, ◌≤◌, List, length, true, Some}
-use Rattle.outside.specs.Disk.{Disk, IsFolder, IsTree}
-use Rattle.chunk_journal.specs.Journal.{new_file, RecoversTo, IsAlike}
+use Rattle.outside.specs.Disk.{Disk, IsTree}
+use Rattle.chunk_journal.specs.Journal.{RecoversTo, IsAlike, IsReopenable}
 use Rattle.tree_model.specs.Rows.{Rows}
 use Rattle.tree_model.specs.Step.{step}
 use Rattle.tree_history.specs.History.{Made, Entry, entry_at, rows_at}
@@ -43,12 +43,12 @@ pub record IsFlagged (Shows : DiskShows) (rows : Rows) (history : List Entry) (m
   pub failed : entry.made.commit_failed ≡ true
   pub shows : Shows disk (rows_stepped (rows_at rows history k) entry.made)
 
--- an image that recovers to such a disk, and has no folder where the first journal is made: so no journal in it is damaged
+-- an image that recovers to such a disk, and can be opened again: so no journal in it is damaged
 pub record IsCrash (Shows : DiskShows) (rows : Rows) (history : List Entry) (m : ℕ) (image : Disk) : Type 0 where
   pub k : ℕ
   pub within : k ≤ length history
   pub holds : HoldsEnded history m k
-  pub clean : IsFolder image new_file → ⊥
+  pub reopenable : IsReopenable image
   pub disk : Disk
   pub recovers : RecoversTo image disk
   pub shows : IsAfter Shows rows history m k disk ⊎ IsFlagged Shows rows history m k disk

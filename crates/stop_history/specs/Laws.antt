@@ -1,6 +1,6 @@
 -- The laws of a history's stops: how what it stands for goes on, and what follows of each stop.
 use Rattle.std.specs.Prelude.{◌≡◌, ◌⊎◌, ℕ, suc, ◌≤◌, List, [], ◌∷◌, ◌++◌, length, true, false, Option, IsNone, IsSome}
-use Rattle.outside.specs.Disk.{Disk}
+use Rattle.outside.specs.Disk.{Disk, IsTree}
 use Rattle.outside.specs.Images.{Log, now, moment}
 use Rattle.deeds.specs.Deeds.{PlainDeed, DoesAll, in_order}
 use Rattle.deeds.specs.Repeatable.{IsRepeatable}
@@ -10,7 +10,7 @@ use Rattle.tree_model.specs.Rows.{Rows}
 use Rattle.tree_history.specs.History.{Entry, Origin, rows_at, rows_then, tally_of, IsCaused, IsAnswered, IsLegal}
 use Rattle.stop_history.specs.Crash.{DiskShows, HoldsEnded, HaveEnded, IsCrash, rows_stepped}
 use Rattle.stop_history.specs.Stands.{WasSafe, IsRunning, IsBroken, IsInState}
-use Rattle.stop_history.specs.Prefix.{StopsRecover, IsWhole}
+use Rattle.stop_history.specs.Prefix.{IsCrashPrefix, RecoversWhole, StopsRecover, IsWhole}
 use Rattle.stop_history.specs.Opening.{StaysFound, StaysAsFound, HasFound, IsClearTree, IsSoundlyFound, IsFoundAs, OpeningRecovers}
 use Rattle.stop_history.specs.Stable.{stable_then, IsStableNext}
 
@@ -173,3 +173,11 @@ Continues = (rows : Rows) (origin : Origin) (history : List Entry) (entry : Entr
 -- what a sound folder recovers to is a tree, with no folder in the journal's places
 abbrev pub RecoversToTrees : Type 0
 RecoversToTrees = (disk found : Disk) → IsSoundlyFound disk → RecoversTo disk found → IsClearTree found
+
+-- What a stop leaves of a history, as a tree, is sound to whoever opens it next: so stops may come one after the other.
+abbrev pub StopsAreSound : DiskShows → Type 0
+StopsAreSound Shows = (rows : Rows) (history : List Entry) (low high : ℕ) (image : Disk) → IsTree image → IsCrashPrefix Shows rows history low high image → IsSoundlyFound image
+
+-- and so is what recovers to all of it
+abbrev pub WholesAreSound : DiskShows → Type 0
+WholesAreSound Shows = (rows : Rows) (history : List Entry) (image : Disk) → IsTree image → RecoversWhole Shows rows history image → IsSoundlyFound image

@@ -1,8 +1,8 @@
 -- The prefixes of a history that a stop at a moment may recover to, by their numbers.
 use Rattle.std.specs.Prelude.{◌≡◌, ◌⊎◌, ℕ, suc, ◌+◌, ◌≤◌, nat_le, List, [], ◌∷◌, length, true, Some, if◌then◌else◌}
-use Rattle.outside.specs.Disk.{Disk, IsFolder}
+use Rattle.outside.specs.Disk.{Disk}
 use Rattle.outside.specs.Images.{Log, now, moment, log_at, IsImage}
-use Rattle.chunk_journal.specs.Journal.{new_file, RecoversTo}
+use Rattle.chunk_journal.specs.Journal.{IsReopenable, RecoversTo}
 use Rattle.tree_model.specs.Rows.{Rows}
 use Rattle.tree_history.specs.History.{Entry, entry_at, rows_at}
 use Rattle.stop_history.specs.Crash.{DiskShows, rows_stepped}
@@ -26,13 +26,13 @@ pub record IsFailedChange (Shows : DiskShows) (rows : Rows) (history : List Entr
   pub shows : Shows disk (rows_stepped (rows_at rows history k) entry.made)
 
 -- For some k, from `low` to `high` and to the history's length, the image recovers to a disk that shows the rows after the first k
--- entries, or these with the change of the next one, whose commit failed.
+-- entries, or these with the change of the next one, whose commit failed; and it can be opened again.
 pub record IsCrashPrefix (Shows : DiskShows) (rows : Rows) (history : List Entry) (low high : ℕ) (image : Disk) : Type 0 where
   pub k : ℕ
   pub least : low ≤ k
   pub most : k ≤ high
   pub within : k ≤ length history
-  pub clean : IsFolder image new_file → ⊥
+  pub reopenable : IsReopenable image
   pub disk : Disk
   pub recovers : RecoversTo image disk
   pub shows : Shows disk (rows_at rows history k) ⊎ IsFailedChange Shows rows history high k disk
@@ -44,8 +44,9 @@ StopsRecover Shows opened rows history log =
     (m : ℕ) → opened ≤ m → m ≤ moment log → (image : Disk) → IsImage (log_at log m) image
     → IsCrashPrefix Shows rows history (low_at 0 history m) (suc (ended_at history m)) image
 
--- it recovers to a disk that shows the rows after all entries
+-- it recovers to a disk that shows the rows after all entries, and can be opened again
 pub record RecoversWhole (Shows : DiskShows) (rows : Rows) (history : List Entry) (image : Disk) : Type 0 where
+  pub reopenable : IsReopenable image
   pub disk : Disk
   pub recovers : RecoversTo image disk
   pub shows : Shows disk (rows_at rows history (length history))

@@ -1,7 +1,7 @@
 //! How what a history stands for goes on, and what follows of each stop.
 
 ghost use Rattle.stop_history.specs.Crash.{IsBlind};
-ghost use Rattle.stop_history.specs.Laws.{BaseHolds, Begins, BeginsNow, Breaks, ClosesSafely, ClosesWhole, Commits, Continues, CrashMore, Idles, IdlesKept, LivesOn, MomentHolds, OpeningFails, RecoversToTrees, RunningSafe, RunsOn, Settles, SettlesBroken, StablesFollow, StateIsBroken, StateRecovers, StateRuns, StaysBroken, StaysStopped};
+ghost use Rattle.stop_history.specs.Laws.{BaseHolds, Begins, BeginsNow, Breaks, ClosesSafely, ClosesWhole, Commits, Continues, CrashMore, Idles, IdlesKept, LivesOn, MomentHolds, OpeningFails, RecoversToTrees, RunningSafe, RunsOn, Settles, SettlesBroken, StablesFollow, StateIsBroken, StateRecovers, StateRuns, StaysBroken, StaysStopped, StopsAreSound, WholesAreSound};
 
 use crate::shape::ShowsRows;
 
@@ -102,4 +102,11 @@ pub fn continues()
 /// What a folder recovers to is a tree, where its batch can be done again. It does nothing.
 pub fn recovers_to_trees()
     ensures { RecoversToTrees }
+{}
+
+/// What a stop leaves, where it recovers to a prefix of a history or to all of it, is sound to whoever opens it next: no folder
+/// stands in the place of either of the journal's files, and a batch that it holds can be done again. It does nothing.
+pub fn stops_are_sound<S: ShowsRows>(shape: &S)
+    ensures prefix { StopsAreSound (S.shows shape.now) }
+    ensures whole { WholesAreSound (S.shows shape.now) }
 {}

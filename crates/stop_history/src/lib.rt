@@ -18,6 +18,6 @@ mod shape;
 pub use laws::{
     begins, breaks, closes, commits, continues, crash_more, idles, idles_kept, lives_on,
     recovers_to_trees, running_safe, settles, settles_broken, stables_follow, states_follow,
-    stays_broken, stops_recover, tallies_hold,
+    stays_broken, stops_are_sound, stops_recover, tallies_hold,
 };
 pub use shape::ShowsRows;

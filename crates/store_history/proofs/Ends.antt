@@ -7,7 +7,7 @@ use Rattle.outside.specs.Views.{FolderView}
 use Rattle.outside.proofs.Told.{changed_from, told_then}
 use Rattle.deeds.specs.Deeds.{PlainDeed, LogGoesOn}
 use Rattle.deeds.proofs.Growing.{grown_on, leaves_go_on}
-use Rattle.chunk_journal.specs.Journal.{AnyMoment, IsBeforeOrAfter, RecoversTo}
+use Rattle.chunk_journal.specs.Journal.{AnyMoment, IsBeforeOrAfter, IsReopenable, RecoversTo}
 use Rattle.pending_files.specs.Laid.{laid}
 use Rattle.pending_files.proofs.Batched.{is_repeatable}
 use Rattle.tree_model.specs.Rows.{Rows}
@@ -15,7 +15,7 @@ use Rattle.tree_history.specs.History.{Entry, Origin, rows_at, tally_of}
 use Rattle.stop_history.specs.Crash.{DiskShows}
 use Rattle.stop_history.specs.Prefix.{StopsRecover, IsWhole}
 use Rattle.stop_history.specs.Stands.{IsRunning}
-use Rattle.stop_history.proofs.Images.{rest_recovers}
+use Rattle.stop_history.proofs.Images.{rest_recovers, rest_reopens}
 use Rattle.stop_history.proofs.Moves.{shows_all}
 use Rattle.stop_history.proofs.Openings.{opening_recovers}
 use Rattle.stop_history.proofs.States.{state_runs}
@@ -44,6 +44,7 @@ whole_at_rest Shows opened rows history log running =
     record {
       shows = shows;
       images = λ image here. record {
+        reopenable = subst IsReopenable (sym (running.at_rest.steady.durable image here)) (rest_reopens log running.at_rest);
         disk = now log;
         recovers = subst (λ (c : Disk). RecoversTo c (now log)) (sym (running.at_rest.steady.durable image here)) (rest_recovers log running.at_rest);
         shows = shows;

@@ -8,8 +8,7 @@ use Rattle.outside.proofs.Moments.{moment_later}
 use Rattle.siv_mode.specs.Keys.{KeyPair}
 use Rattle.deeds.specs.Deeds.{PlainDeed, in_order, LogGoesOn}
 use Rattle.deeds.proofs.Amid.{tree_run}
-use Rattle.chunk_journal.specs.Commits.{IsReopenable}
-use Rattle.chunk_journal.specs.Journal.{IsAlike, IsQuiet, RecoversTo, RecoversLike}
+use Rattle.chunk_journal.specs.Journal.{IsAlike, IsQuiet, IsReopenable, RecoversTo, RecoversLike}
 use Rattle.chunk_journal.specs.Opening.{HasOpened, IsOpening, StaysOpening}
 use Rattle.chunk_journal.proofs.Found.{opening_keeps, stays_as_found, stays_found, opened_alike}
 use Rattle.pending_files.specs.Laid.{CanWait, LookAlike, laid}

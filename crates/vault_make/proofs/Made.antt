@@ -35,6 +35,7 @@ is_new_vault password secrets files place d e are laid =
           ∙ ap (λ (r : Result ℕ ConfigFault). result_map_both (λ n. record { keys = secrets.keys; threshold = n }) unlock.bad_vault_file r) are.unlocks;
       root = root.root.there;
       bare = root.root.bare;
+      alone = root.alone;
     }
 
 pub made : (a b c : Option Log) (password : List ℕ) (secrets : NewSecrets) (files : KeyFiles) (place : Path) → b ≡ a → place ≡ folder_of secrets.keys [] → AreFilesOf password secrets files

@@ -3,10 +3,10 @@ use Rattle.std.proofs.Common.{◌≡◌, ◌≢◌, ℕ, ◌<◌, codes, lit<, L
 use Rattle.std.specs.Option.{is_some}
 use Rattle.outside.specs.Disk.{Disk, Path, Node, folder, file, node_at, parent, IsTree}
 use Rattle.outside.specs.Changes.{MakeDir, Move, Put, CanDo, done, set_at}
-use Rattle.outside.proofs.Paths.{set_here, set_there}
+use Rattle.outside.proofs.Paths.{by_path, set_here, set_there}
 use Rattle.key_files.specs.Files.{masterkey_place, config_place, new_config_place}
-use Rattle.vault_make.specs.Vault.{IsEmpty}
-use Rattle.vault_make.specs.Stages.{top_name, HasBareRoot, HasRoot, HasKeyFiles, IsLaidOut}
+use Rattle.vault_make.specs.Vault.{top_name, IsEmpty}
+use Rattle.vault_make.specs.Stages.{HasBareRoot, HasRoot, HasKeyFiles, IsLaidOut}
 
 none_of : (o : Option Node) → (IsSome o → o ≡ None) → o ≡ None
 none_of None h = refl
@@ -132,6 +132,8 @@ has_key_files d place masterkey config has =
       free = set_there first new_config_place (Some (file config)) config_place (λ e. new_beside_config (sym e))
           ∙ set_there d masterkey_place (Some (file masterkey)) config_place (λ e. masterkey_beside_config (sym e))
           ∙ has.free (codes "vault.cryptomator") config_below;
+      alone = λ name not_top not_masterkey not_new.
+          set_there first new_config_place (Some (file config)) (name ∷ []) not_new ∙ set_there d masterkey_place (Some (file masterkey)) (name ∷ []) not_masterkey ∙ has.free name not_top;
     }
 
 pub can_move : (d : Disk) (place : Path) (masterkey config : List ℕ) → HasKeyFiles place masterkey config d → CanDo (Move new_config_place config_place) d
@@ -145,4 +147,8 @@ is_laid_out d place masterkey config has =
       root = root_stays less place _ moved (root_stays d place _ None has.root);
       masterkey = set_there less config_place moved masterkey_place masterkey_beside_config ∙ set_there d new_config_place None masterkey_place masterkey_beside ∙ has.masterkey;
       config = set_here less config_place moved config_place refl ∙ has.config;
+      alone = λ name not_top not_masterkey not_config.
+          set_there less config_place moved (name ∷ []) not_config
+          ∙ by_path (name ∷ []) new_config_place (λ e. set_here d new_config_place None (name ∷ []) e)
+          (λ not_new. set_there d new_config_place None (name ∷ []) not_new ∙ has.alone name not_top not_masterkey not_new);
     }

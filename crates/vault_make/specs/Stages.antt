@@ -4,11 +4,7 @@ use Rattle.outside.specs.Disk.{Disk, Path, file, node_at, IsFolder}
 use Rattle.outside.specs.Changes.{Change}
 use Rattle.outside.specs.Images.{Log, Synced, now, adds, IsImage, LeavesOnly, HasDone, HasBroken, IsSteady}
 use Rattle.key_files.specs.Files.{masterkey_place, config_place, new_config_place}
-use Rattle.vault_make.specs.Vault.{IsNoVault}
-
--- `d`
-abbrev pub top_name : List ℕ
-top_name = 100 ∷ []
+use Rattle.vault_make.specs.Vault.{top_name, IsNoVault}
 
 -- a folder of a directory: three parts, of which the first is `d`
 abbrev pub IsRootPath : Path → Type 0
@@ -26,18 +22,20 @@ pub record HasRoot (place : Path) (disk : Disk) : Type 0 where
   pub root : HasBareRoot place disk
   pub free : (name : List ℕ) → name ≢ top_name → node_at disk (name ∷ []) ≡ None
 
--- besides, the key files are there, the vault file beside its place
+-- besides, the key files are there, the vault file beside its place, and nothing else
 pub record HasKeyFiles (place : Path) (masterkey_bytes config_bytes : List ℕ) (disk : Disk) : Type 0 where
   pub root : HasBareRoot place disk
   pub masterkey : node_at disk masterkey_place ≡ Some (file masterkey_bytes)
   pub config : node_at disk new_config_place ≡ Some (file config_bytes)
   pub free : node_at disk config_place ≡ None
+  pub alone : (name : List ℕ) → name ≢ top_name → name ∷ [] ≢ masterkey_place → name ∷ [] ≢ new_config_place → node_at disk (name ∷ []) ≡ None
 
 -- besides, the vault file is at its place
 pub record IsLaidOut (place : Path) (masterkey_bytes config_bytes : List ℕ) (disk : Disk) : Type 0 where
   pub root : HasBareRoot place disk
   pub masterkey : node_at disk masterkey_place ≡ Some (file masterkey_bytes)
   pub config : node_at disk config_place ≡ Some (file config_bytes)
+  pub alone : (name : List ℕ) → name ≢ top_name → name ∷ [] ≢ masterkey_place → name ∷ [] ≢ config_place → node_at disk (name ∷ []) ≡ None
 
 -- ---- what a stop leaves
 

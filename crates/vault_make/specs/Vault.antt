@@ -1,5 +1,5 @@
 -- A new vault: what a folder holds before and after it was made.
-use Rattle.std.specs.Prelude.{◌≡◌, ◌⊎◌, ℕ, List, [], ◌∷◌, ◌++◌, Some, None, Ok, Contains, All, false}
+use Rattle.std.specs.Prelude.{◌≡◌, ◌≢◌, ◌⊎◌, ℕ, List, [], ◌∷◌, ◌++◌, Some, None, Ok, Contains, All, false}
 use Rattle.std.specs.Ordering.{nat_cmp, is_lt}
 use Rattle.std.specs.Cmp.Lexicographic.{slice_cmp}
 use Rattle.outside.specs.Calls.{Told, Changes, Extends}
@@ -23,8 +23,12 @@ pub record IsLeast (names : List (List ℕ)) (name : List ℕ) : Type 0 where
   pub among : Contains names name
   pub least : All (λ other. is_lt (slice_cmp nat_cmp other name) ≡ false) names
 
+-- `d`
+abbrev pub top_name : List ℕ
+top_name = 100 ∷ []
+
 -- A vault of these secrets under a password: the password opens its masterkey file to the keys, the keys open its vault file to the threshold
--- 220, and the folder of its root is there and empty, so that its only node is the root.
+-- 220, and the folder of its root is there and empty, so that its only node is the root. Beside these two files and `d` nothing stands there.
 pub record IsNewVault (password : List ℕ) (secrets : NewSecrets) (disk : Disk) : Type 0 where
   pub masterkey : node_at disk masterkey_place ≡ Some (file (key_file secrets.keys password secrets.salt))
   pub config : node_at disk config_place ≡ Some (file (config_file secrets.keys 220 (identifier_of secrets.jti)))
@@ -32,6 +36,7 @@ pub record IsNewVault (password : List ℕ) (secrets : NewSecrets) (disk : Disk)
   pub unlocks : vault_opened secrets.keys (found_at disk config_place) ≡ Ok (record { keys = secrets.keys; threshold = 220 })
   pub root : IsFolder disk (folder_of secrets.keys [])
   pub bare : (name : List ℕ) → node_at disk (folder_of secrets.keys [] ++ name ∷ []) ≡ None
+  pub alone : (name : List ℕ) → name ≢ top_name → name ∷ [] ≢ masterkey_place → name ∷ [] ≢ config_place → node_at disk (name ∷ []) ≡ None
 
 -- ---- what a stop leaves
 

@@ -20,3 +20,4 @@ pub mod SoundWords
 pub mod SoundServing
 pub mod SoundStatus
 pub mod NewVaults
+pub mod Stopped

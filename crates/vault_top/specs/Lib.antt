@@ -12,3 +12,4 @@ pub mod Ending
 pub mod Writing
 pub mod Serving
 pub mod Sound
+pub mod Stopped

@@ -11,6 +11,7 @@ ghost use Rattle.vault_top.specs.Ending.{Ending, HasReason};
 ghost use Rattle.vault_words.specs.Jobs.{Demonstration, demo};
 ghost use Rattle.vault_top.specs.Words.{Ask, AreRefused};
 ghost use Rattle.vault_top.specs.Sound.{IsSound, IsSoundRun, IsSoundToMake, IsFaultless, IsServedOrFull, IsMadeOrFull, IsHeldOrFull, IsBadOrFull, SomeRandomFailed, HasServedSoundly};
+ghost use Rattle.vault_top.specs.Stopped.{NewVaultsAreSound, StoppedVaultsAreSound};
 
 use outside::{Entropy, Folder, Listener};
 
@@ -50,6 +51,13 @@ pub fn an_empty_folder_becomes_a_vault<D: Folder, N: Listener, E: Entropy>()
 pub fn a_new_vault_is_its_root()
     ensures { (password : List ℕ) (secrets : NewSecrets) (disk : Disk) (now : ℕ) → IsTree disk → IsNewVault password secrets disk
         → IsClear secrets.keys disk now (root_rows now) }
+{}
+
+/// What a stop leaves of a vault that was served is found sound by whoever opens it next: no folder stands in the place of either of
+/// the journal's files, and a batch that the journal holds can be done again. So is a new vault. It does nothing.
+pub fn a_stopped_vault_is_soundly_found()
+    ensures stopped { StoppedVaultsAreSound }
+    ensures new { NewVaultsAreSound }
 {}
 
 /// Where the words ask for a demonstration, the program's ending is that it was held, or that memory ran out. It does nothing.

@@ -11,6 +11,7 @@ use Rattle.deeds.specs.Deeds.{PlainDeed, DoesAll, in_order}
 use Rattle.pending_files.specs.Laid.{laid, CanWait, outline, LookAlike}
 use Rattle.pending_files.proofs.Laying.{same_kinds}
 use Rattle.chunk_journal.specs.Journal.{IsQuiet, IsAlike, IsBeforeOrAfter, AnyMoment, HasCommitted}
+use Rattle.chunk_journal.proofs.Gate.{shut_reopens}
 
 -- ---- a flush
 
@@ -33,7 +34,7 @@ quiet_moment l quiet = λ after does. record {
       let none : length l.calls - m ≡ 0 = omega arith in
       let here : IsImage l image = subst (λ (n : ℕ). IsImage (record { start = l.start; calls = drop n l.calls }) image) none is in
       let same : image ≡ now l = quiet.steady.durable image here in
-      subst (IsBeforeOrAfter (now l) after) (sym same) (now l, inl (quiet.closed, refl), inl (same_alike (now l) (now l) refl), quiet.no_folder);
+      subst (IsBeforeOrAfter (now l) after) (sym same) (now l, inl (quiet.closed, refl), inl (same_alike (now l) (now l) refl), shut_reopens (now l) quiet.closed quiet.no_folder);
 }
 
 pub nothing_moved : (log : Option Log) (ds : List PlainDeed) → ds ≡ [] → Told log IsQuiet → Changes log log (AnyMoment ds)

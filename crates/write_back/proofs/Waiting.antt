@@ -1,5 +1,5 @@
 -- Changes that wait over a log that may be told.
-use Rattle.std.proofs.Common.{◌≡◌, ℕ, ◌<◌, ◌^◌, List, [], length, Option, Some, None, sym, ap, ◌∙◌, subst}
+use Rattle.std.proofs.Common.{◌≡◌, ℕ, ◌<◌, ◌^◌, List, length, Option, Some, None, sym, ap, ◌∙◌, subst}
 use Rattle.outside.specs.Calls.{Told}
 use Rattle.outside.specs.Disk.{Disk, Path, Node, node_at, file}
 use Rattle.outside.specs.Changes.{bytes_or_none}
