@@ -10,13 +10,17 @@ use Rattle.stop_history.proofs.Trees.{recovering_is_sound, stops_are_sound}
 use Rattle.store_history.specs.Store.{IsSaidFrom, shows_under}
 use Rattle.vault_make.specs.Draws.{NewSecrets}
 use Rattle.vault_make.specs.Vault.{top_name, IsNewVault}
-use Rattle.vault_top.specs.Stopped.{NewVaultsAreSound, StoppedVaultsAreSound}
+use Rattle.vault_top.specs.Stopped.{NewVaultsAreSound, StoppedVaultsAreSound, UnopenedVaultsAreSound}
 
 pub stopped_vaults_are_sound : StoppedVaultsAreSound
 stopped_vaults_are_sound keys rows origin entries before after log stops is opened from m since within image here tree =
     stops_are_sound (shows_under before.log keys) rows entries _ _ image tree
     (subst (λ (o : Option Log). Told o (λ (l : Log). (opened : ℕ) → IsSaidFrom before.log origin opened → StopsRecover (shows_under before.log keys) opened rows entries l)) is stops.recover
     opened from m since within image here)
+
+pub unopened_vaults_are_sound : UnopenedVaultsAreSound
+unopened_vaults_are_sound keys rows old new recovers found m since within image here tree =
+    stops_are_sound (shows_under (Some old) keys) rows [] _ _ image tree (recovers.whole rows found m since within image here)
 
 -- ---- new vaults
 

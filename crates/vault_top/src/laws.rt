@@ -11,7 +11,7 @@ ghost use Rattle.vault_top.specs.Ending.{Ending, HasReason};
 ghost use Rattle.vault_words.specs.Jobs.{Demonstration, demo};
 ghost use Rattle.vault_top.specs.Words.{Ask, AreRefused};
 ghost use Rattle.vault_top.specs.Sound.{IsSound, IsSoundRun, IsSoundToMake, IsFaultless, IsServedOrFull, IsMadeOrFull, IsHeldOrFull, IsBadOrFull, SomeRandomFailed, HasServedSoundly};
-ghost use Rattle.vault_top.specs.Stopped.{NewVaultsAreSound, StoppedVaultsAreSound};
+ghost use Rattle.vault_top.specs.Stopped.{NewVaultsAreSound, StoppedVaultsAreSound, UnopenedVaultsAreSound};
 
 use outside::{Entropy, Folder, Listener};
 
@@ -54,9 +54,11 @@ pub fn a_new_vault_is_its_root()
 {}
 
 /// What a stop leaves of a vault that was served is found sound by whoever opens it next: no folder stands in the place of either of
-/// the journal's files, and a batch that the journal holds can be done again. So is a new vault. It does nothing.
+/// the journal's files, and a batch that the journal holds can be done again. So is what an opening leaves that failed, and a new vault.
+/// It does nothing.
 pub fn a_stopped_vault_is_soundly_found()
     ensures stopped { StoppedVaultsAreSound }
+    ensures unopened { UnopenedVaultsAreSound }
     ensures new { NewVaultsAreSound }
 {}
 
