@@ -22,6 +22,11 @@ in_own d host F path none (inl e) = ap (get d) e ∙ none
 in_own d host F path none (inr (inl e)) = ap (get d) e ∙ nothing _ (λ y f. some_there _ _ (host.parents (host_entry F text_dirid) (subst IsSome (sym f) refl)) none)
 in_own d host F path none (inr (inr e)) = absurd e
 
+-- so it is of a node that is that directory
+own_gone : (s : Sealing) (d : Disk) → IsTree d → (x : Node) → ((t : List ℕ) → x ≡ Dir t → get d (host_folder (s.folder_of t)) ≡ None) → (identifier : List ℕ) → ◌≡◌ {A = Option Node} (Some x) (Some (Dir identifier))
+    → (path : HostPath) → In path (host_folder (s.folder_of identifier) ∷ host_entry (s.folder_of identifier) text_dirid ∷ []) → get d path ≡ None
+own_gone s d host x own identifier same path at = let x_is : x ≡ Dir identifier = cc in in_own d host (s.folder_of identifier) path (own identifier x_is) at
+
 -- at a place where nothing is, neither is anything of the node that is said to stand there
 gone_at : (s : Sealing) (d : Disk) → IsTree d → (i n j m : List ℕ) (long z : Bool) (x : Node) (path : HostPath) → i ≡ j → n ≡ m → z ≡ long
     → get d (host_entry (s.folder_of i) (entry_text s long (s.seal i n))) ≡ None → In path (paths_at (place_of s j m z) x) → get d path ≡ None
@@ -112,10 +117,7 @@ module _ (s : Sealing) (d : Disk) (tree : Tree) (p : Path) (i n : List ℕ) (x :
   more_from path (inr of) = by_path (path_cases (n ∷ p) of.at)
     where
       by_path : ((same_path (n ∷ p) of.at ≡ true) × (n ∷ p ≡ of.at)) ⊎ ((same_path (n ∷ p) of.at ≡ false) × (n ∷ p ≢ of.at)) → IsOfTree s tree path ⊎ (get d path ≡ None)
-      by_path (inl e) =
-          let w : ◌≡◌ {A = Option Node} (Some x) (Some (Dir of.identifier)) = sym it ∙ ap (get more.nodes) e.1 ∙ of.there in
-          let x_is : x ≡ Dir of.identifier = cc in
-          inr (in_own d is.host (s.folder_of of.identifier) path (own of.identifier x_is) of.is)
+      by_path (inl e) = inr (own_gone s d is.host x own of.identifier (sym it ∙ ap (get more.nodes) e.1 ∙ of.there) path of.is)
       by_path (inr e) = inl (inr (record { at = of.at; identifier = of.identifier; there = sym (off of.at e.1) ∙ of.there; is = of.is }))
 
 module _ (s : Sealing) (tree : Tree) (p : Path) (n : List ℕ) where
@@ -177,10 +179,7 @@ module _ (s : Sealing) (after : Disk) (tree : Tree) (p : Path) (i n : List ℕ) 
   less_to path (inr of) = by_path (path_cases (n ∷ p) of.at)
     where
       by_path : ((same_path (n ∷ p) of.at ≡ true) × (n ∷ p ≡ of.at)) ⊎ ((same_path (n ∷ p) of.at ≡ false) × (n ∷ p ≢ of.at)) → IsOfTree s fewer path ⊎ (get after path ≡ None)
-      by_path (inl e) =
-          let w : ◌≡◌ {A = Option Node} (Some x) (Some (Dir of.identifier)) = sym there ∙ ap (get tree.nodes) e.1 ∙ of.there in
-          let x_is : x ≡ Dir of.identifier = cc in
-          inr (in_own after host (s.folder_of of.identifier) path (own of.identifier x_is) of.is)
+      by_path (inl e) = inr (own_gone s after host x own of.identifier (sym there ∙ ap (get tree.nodes) e.1 ∙ of.there) path of.is)
       by_path (inr e) = inl (inr (record { at = of.at; identifier = of.identifier; there = stays of.at e.1 ∙ of.there; is = of.is }))
 
 module _ (s : Sealing) (d : Disk) (tree : Tree) (p : Path) (i n k : List ℕ) (long : Bool) (is : IsTreeOf s d tree) (apart : n ≢ k) (parent : get tree.nodes p ≡ Some (Dir i))
