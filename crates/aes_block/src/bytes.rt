@@ -3,7 +3,7 @@
 ghost use Rattle.std.specs.Prelude.{◌≡◌, ◌≤◌, ◌↔◌, IsTrue, length};
 ghost use Rattle.aes_block.specs.Bytes.{xor_bytes};
 
-/// Xors bytes onto `target`, place by place. Those behind the length of `target` are not used.
+/// Xors bytes onto `target`, place by place. Those past the length of `target` are not used.
 #[inline(always)]
 pub fn xor_onto(target: &mut [u8], bytes: &[u8])
     requires { length target.old ≤ length bytes.now }
@@ -14,8 +14,8 @@ pub fn xor_onto(target: &mut [u8], bytes: &[u8])
     }
 }
 
-/// Whether two byte strings are the same. Where their lengths agree, all bytes of both are read
-/// whatever they are, so that the time taken doesn't tell where the first that differ are. The
+/// Whether two byte strings are the same. If their lengths agree, all bytes of both are read
+/// whatever they are, so that the time taken doesn't reveal where the first that differ are. The
 /// lengths are no secret.
 pub fn bytes_equal(a: &[u8], b: &[u8]) -> bool
     ensures { IsTrue result ↔ (a.now ≡ b.now) }

@@ -36,7 +36,7 @@ front_deed d f x y good_d good_f e =
     let same = some_is (d, x) (f, y) (sym (deed_again d x good_d) ∙ ap deed_at e ∙ deed_again f y good_f) in
     (ap (λ (p : PlainDeed × List ℕ). p.0) same, ap (λ (p : PlainDeed × List ℕ). p.1) same)
 
--- what is left behind deeds that begin the bytes of others
+-- what is left after deeds that begin the bytes of others
 pub record IsFrontOf (front ds : List PlainDeed) (rest : List ℕ) : Type 0 where
   pub others : List PlainDeed
   pub long : length front + length others ≡ length ds
@@ -124,7 +124,7 @@ not_bad : (disk to : Disk) (at : ℕ) → RecoversTo disk to → IsBadBehindGate
 not_bad disk to at (inl (closed, same)) bad = closed_not_bad disk at closed bad
 not_bad disk to at (inr (ds, held, run)) bad = held_not_bad disk to ds at held run bad
 
--- what recovers to a disk isn't damaged, where no folder stands where the first journal is made
+-- what recovers to a disk isn't damaged, if no folder is where the first journal is made
 pub recovers_undamaged : (disk to : Disk) (at : ℕ) → RecoversTo disk to → (IsFolder disk new_file → ⊥) → IsDamagedAt disk at → ⊥
 recovers_undamaged disk to at recovers none (inl (inl journal, place)) = no_journal_folder disk to recovers journal
 recovers_undamaged disk to at recovers none (inl (inr beside, place)) = none beside
@@ -186,7 +186,7 @@ read_head d path head bytes n at long here read =
       long = long;
     }
 
-take_fits : (k : ℕ) (bytes : List ℕ) → ((i : ℕ) → get_or bytes i 0 < 256) → (i : ℕ) → get_or (take k bytes) i 0 < 256
+pub take_fits : (k : ℕ) (bytes : List ℕ) → ((i : ℕ) → get_or bytes i 0 < 256) → (i : ℕ) → get_or (take k bytes) i 0 < 256
 take_fits k bytes fits i =
     elim (cases_lt i k) [
       | inl lt ↦ rw (get_or-take k bytes i 0 lt) (fits i)
@@ -239,7 +239,7 @@ pub cut_unheld : (d : Disk) (bytes : List ℕ) (at : ℕ) → node_at d journal_
 cut_unheld d bytes at here cut deeds held =
     held_whole deeds held.1 held.0 (subst IsShort (one_file (node_at d journal_file) bytes (held_bytes deeds held.1) here held.2) cut.short)
 
--- ---- what is read behind it
+-- ---- what is read after it
 
 gate_front : (bytes : List ℕ) → get_or bytes 0 0 ≡ 1 → (tail : List ℕ) × (bytes ≡ 1 ∷ tail)
 gate_front [] open_gate = absurd (let e : 0 ≡ 1 = open_gate in omega (arith, e))
@@ -251,7 +251,7 @@ long_of bytes len whole is = elim (cases_lt (length bytes) (9 + said_len bytes))
   | inr le ↦ omega (arith, le, is)
 ]
 
--- the batch that was read stands behind the gate
+-- the batch that was read follows the gate
 pub holds : (d : Disk) (len : ℕ) (text : List ℕ) (ds : List PlainDeed) (s : Says len d) → IsBatch ds → text ≡ spelled ds → text ≡ take len (drop 9 s.bytes) → length text ≡ len → HoldsBatch d ds
 holds d len text ds s batch is read count =
     let front = gate_front s.bytes s.gate in
@@ -298,17 +298,17 @@ unread_unheld d len at text s read bad deeds held =
     let same : s.bytes ≡ held_bytes deeds held.1 = one_file (node_at d journal_file) s.bytes (held_bytes deeds held.1) s.here held.2 in
     whole_not_bad deeds is.fault held.0 (subst (λ (l : List ℕ). IsBadAt l is.fault) (ap batch_bytes same ∙ held_batch_is deeds held.1 held.0) is.bad)
 
--- the place of a fault is within the bytes, or right behind the count
+-- the place of a fault is within the bytes, or right after the count
 pub fault_within : (bytes : List ℕ) (at : ℕ) → IsBadAt bytes at → at ≤ max 4 (length bytes)
 fault_within bytes at (inl few) = omega (arith, few.1)
 fault_within bytes at (inr (inl bad)) = omega (arith, bad.place, ap (λ (l : List ℕ). length l) bad.parts, length-append (spelled_deeds bad.front) bad.rest, length-drop 4 bytes)
 fault_within bytes at (inr (inr over)) = omega (arith, over.place, ap (λ (l : List ℕ). length l) over.parts, length-append (spelled_deeds over.front) over.rest, length-drop 4 bytes)
 
--- what a reading of n bytes from behind the length says
+-- what a reading of n bytes from after the length says
 abbrev pub HasReadBehind : Path → List ℕ → ℕ → ℕ → Disk → Type 0
 HasReadBehind path out room n d = (was : List ℕ) × (node_at d path ≡ Some (file was)) × (n ≡ min room (length was - 9)) × (take n out ≡ take n (drop 9 was))
 
--- a buffer that was filled to its end has the bytes behind the length
+-- a buffer that was filled to its end has the bytes after the length
 pub filled : (d : Disk) (path : Path) (out rest text : List ℕ) (room n len : ℕ) (s : Says len d) → path ≡ journal_file → HasReadBehind path out room n d
     → text ≡ take len (out ++ rest) → length out ≡ len → n ≡ len → text ≡ take len (drop 9 s.bytes)
 filled d path out rest text room n len s at read is long full =

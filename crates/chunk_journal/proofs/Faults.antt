@@ -9,12 +9,12 @@ use Rattle.outside.specs.Images.{Log}
 use Rattle.outside.specs.Changes.{IsFree}
 use Rattle.chunk_journal.specs.Journal.{journal_file, IsClosed}
 
--- what can be done is unfit only where nothing is told
+-- what can be done is unfit only if nothing is told
 pub fit_rose : (log : Option Log) (a b : ℕ) (P : Log → Type 0) → Told log P → IsUnfit log a b P → Rose a b
 fit_rose None a b P can unfit = unfit
 fit_rose (Some l) a b P can unfit = absurd (unfit can)
 
--- a step that could be made failed only where the count rose
+-- a step that could be made failed only if the count rose
 pub err_cause : {T : Type 0} (error : FolderErr) (log : Option Log) (a b : ℕ) (P : Log → Type 0) (F : Type 0) → Told log P
     → HasCause a b (IsErrOf {T = T} (Err error) errors.Failed) → (IsErrOf {T = T} (Err error) errors.Unfit → IsUnfit log a b P) → (IsErrOf {T = T} (Err error) errors.Memory → ⊥) → HasCause a b F
 err_cause errors.Failed log a b P F can cause unfit memory = record { later = cause.later; rose = λ _. cause.rose refl }
@@ -26,7 +26,7 @@ sync_cause errors.Failed a b F cause unfit memory = record { later = cause.later
 sync_cause errors.Unfit a b F cause unfit memory = absurd (unfit refl)
 sync_cause errors.Memory a b F cause unfit memory = absurd (memory refl)
 
--- where no folder stands, a file can be put
+-- if no folder is there, a file can be put
 pub free_put : (o : Option Node) → (o ≡ Some folder → ⊥) → IsNone o ⊎ ((bytes : List ℕ) × (o ≡ Some (file bytes)))
 free_put None none = inl refl
 free_put (Some folder) none = absurd (none refl)

@@ -87,7 +87,7 @@ rewritten at bytes was old new is (inr (inr set)) = record {
   rest = λ q ne. at_disk q set.2 ∙ set_there old journal_file set.0 q ne;
 }
 
--- a write of the gate leaves what stands behind it
+-- a write of the gate leaves what follows it
 gate_torn : (new : ℕ) (old : ℕ) (tail now : List ℕ) → IsTorn 0 (length (new ∷ [])) (old ∷ tail) now → (gate : ℕ) × (now ≡ gate ∷ tail)
 gate_torn new old tail [] torn = absurd (omega (arith, torn.no_shorter))
 gate_torn new old tail (gate ∷ xs) torn = let e : xs ≡ tail = torn.after in (gate, λ i. gate ∷ e i)
@@ -109,7 +109,7 @@ with_old None (Some y) P T p t = absurd p
 with_old (Some x) None P T p t = absurd p
 with_old (Some x) (Some y) P T p t = (p, t)
 
--- deeds that can be done fail only where the count rose
+-- deeds that can be done fail only if the count rose
 pub deeds_cause : (ds : List PlainDeed) (error : DeedErr) (log : Option Log) (a b : ℕ) (F : Type 0) → Told log (λ l. (after : Disk) × DoesAll (in_order ds) (now l) after)
     → HasCause a b (IsErrOf {T = Unit {0}} (Err error) errors.Failed) → IfUnfit error (λ index. IsRefusal log a b (IsRefusedAt ds index)) → HasCause a b F
 deeds_cause ds errors.Failed log a b F can cause unfit = record { later = cause.later; rose = λ _. cause.rose refl }
@@ -135,7 +135,7 @@ module _ (bs : List PlainDeed) (batch : IsBatch bs) (repeatable : IsRepeatable b
   un : Unnamed new_file (in_order bs)
   un = unnamed_ordered new_file bs repeatable.beside_new
 
-  -- the batch stands behind the closed gate
+  -- the batch follows the closed gate
   pub record IsStaged (old new : Log) : Type 0 where
     pub at_start : IsReady old
     pub any : AnyMoment bs old new
@@ -169,7 +169,7 @@ module _ (bs : List PlainDeed) (batch : IsBatch bs) (repeatable : IsRepeatable b
   no_folders : (old : Log) → IsReady old → (IsFolder (now old) journal_file → ⊥) × (IsFolder (now old) new_file → ⊥)
   no_folders old rest = (is_no_folder _ _ rest.here, rest.no_folder)
 
-  -- the batch stands behind the closed gate
+  -- the batch follows the closed gate
   pub staged_leaves : (old new : Log) → IsReady old → KeepsShut old new → AnyMoment bs old new
   staged_leaves old new ready keeps = λ after run. weaker old new (IsShutBeside (now old)) (IsBeforeOrAfter (now old) after)
       (λ c b. (c, inl (inr (b.bytes, b.here, b.shut), refl), inl (λ q ne nm. b.alike q ne), shut_reopens c (inr (b.bytes, b.here, b.shut)) (λ is. ready.no_folder (sym (b.alike new_file files_apart) ∙ is)))) keeps

@@ -6,3 +6,5 @@ pub mod Commits
 pub mod Damage
 pub mod Openings
 pub mod Found
+pub mod Undamaged
+pub mod Whole

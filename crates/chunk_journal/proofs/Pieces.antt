@@ -1,4 +1,4 @@
--- The batch that is written behind the closed gate, piece by piece.
+-- The batch that is written after the closed gate, piece by piece.
 use Rattle.std.proofs.Common.{◌≡◌, ℕ, suc, ◌+◌, List, [], ◌∷◌, ◌++◌, length, take, drop, get_or, Option, Some, None, refl, sym, ap, subst, ◌∙◌, inl, inr, arith, length-append}
 use Rattle.std.proofs.lemmas.List.{take_at}
 use Rattle.outside.specs.Disk.{Disk, file, IsTree}
@@ -18,7 +18,7 @@ same_first k [] (y ∷ b) e = absurd cc
 same_first k (x ∷ a) [] e = absurd cc
 same_first k (x ∷ a) (y ∷ b) e = cc
 
--- a part of a write behind the gate leaves it shut
+-- a part of a write after the gate leaves it shut
 shut_part : (at : ℕ) (bytes : List ℕ) (d b c : Disk) → IsShutBeside d b → IsPartOf (Write journal_file (1 + at) bytes) b c → IsShutBeside d c
 shut_part at bytes d b c beside part =
     let w = rewritten (1 + at) bytes beside.bytes b c beside.here part in

@@ -17,18 +17,18 @@ IsClosed disk = (node_at disk journal_file ≡ None) ⊎ ((bytes : List ℕ) × 
 abbrev pub HoldsBatch : Disk → List PlainDeed → Type 0
 HoldsBatch disk deeds = IsBatch deeds × (rest : List ℕ) × (node_at disk journal_file ≡ Some (file (1 ∷ behind_gate deeds ++ rest)))
 
--- there is no such batch: the gate isn't open, or the bytes behind it are none
+-- there is no such batch: the gate isn't open, or the bytes after it are none
 abbrev pub IsUnheld : Disk → Type 0
 IsUnheld disk = (deeds : List PlainDeed) → HoldsBatch disk deeds → ⊥
 
 abbrev pub RecoversTo : Disk → Disk → Type 0
 RecoversTo image disk = (IsClosed image × (disk ≡ image)) ⊎ ((deeds : List PlainDeed) × HoldsBatch image deeds × DoesAll (in_order deeds) image disk)
 
--- the same where the batch may not fit the image: it is applied up to the first call whose condition fails
+-- the same if the batch may not fit the image: it is applied up to the first call whose condition fails
 abbrev pub Recovered : Disk → Disk → Type 0
 Recovered image disk = (IsUnheld image × (disk ≡ image)) ⊎ ((deeds : List PlainDeed) × HoldsBatch image deeds × Applies (in_order deeds) image disk)
 
--- the batch of a disk, if it holds one, can be done again, and no folder stands where the first journal is made
+-- the batch of a disk, if it holds one, can be done again, and no folder is where the first journal is made
 pub record IsReopenable (disk : Disk) : Type 0 where
   pub repeatable : (deeds : List PlainDeed) → HoldsBatch disk deeds → IsRepeatable deeds
   pub no_folder : IsFolder disk new_file → ⊥
@@ -41,7 +41,7 @@ IsAlike a b = IsAlikeBut journal_file new_file a b
 abbrev pub IsBeforeOrAfter : Disk → Disk → Disk → Type 0
 IsBeforeOrAfter before after image = (disk : Disk) × RecoversTo image disk × (IsAlike before disk ⊎ IsAlike after disk) × IsReopenable image
 
--- all is on the disk, no journal is open, and no folder stands where the first one is made
+-- all is on the disk, no journal is open, and no folder is where the first one is made
 pub record IsQuiet (log : Log) : Type 0 where
   pub steady : IsSteady log
   pub closed : IsClosed (now log)
@@ -77,7 +77,7 @@ pub record IsFound (deeds : List PlainDeed) (log : Log) : Type 0 where
   pub open_gate : HoldsBatch (now log) deeds
   pub no_folder : IsFolder (now log) new_file → ⊥
 
--- the same where its batch may not fit
+-- the same if its batch may not fit
 abbrev pub RecoveredLike : Disk → Disk → Type 0
 RecoveredLike after image = (disk : Disk) × Recovered image disk × IsAlike after disk × IsReopenable image
 

@@ -1,5 +1,5 @@
 -- Opening a folder whose journal a stop may have left: which journals are damaged, and where, and what an opening owes.
-use Rattle.std.specs.Prelude.{◌≡◌, ◌⊎◌, ⊤, ℕ, ◌+◌, ◌<◌, List, length, take, drop, get_or, Option, None, Some}
+use Rattle.std.specs.Prelude.{◌≡◌, ◌⊎◌, ⊤, ℕ, ◌+◌, ◌<◌, ◌^◌, List, length, take, drop, get_or, Option, None, Some}
 use Rattle.std.specs.Int.{w64, from_be_bytes}
 use Rattle.outside.specs.Disk.{Disk, file, node_at, IsFolder}
 use Rattle.outside.specs.Images.{Log, Synced, adds, now, IsImage, IsSteady, LeavesOnly}
@@ -7,7 +7,7 @@ use Rattle.deeds.specs.Deeds.{PlainDeed, DoesAll, IsRefusedAt, LogGoesOn, in_ord
 use Rattle.deeds.specs.Grammar.{IsBadAt, spelled_deeds}
 use Rattle.chunk_journal.specs.declared.fault.JournalErr.{JournalErr}
 use Rattle.chunk_journal.specs.declared.fault.JournalErr.TheVariants.{Device, JournalDamaged, Memory}
-use Rattle.chunk_journal.specs.Journal.{journal_file, new_file, HoldsBatch, RecoversTo, Recovered, IsAlike, IsQuiet, IsFound, IsRepeatable, StaysRecovered}
+use Rattle.chunk_journal.specs.Journal.{journal_file, new_file, HoldsBatch, RecoversTo, Recovered, IsAlike, IsQuiet, IsFound, IsRepeatable, IsReopenable, StaysRecovered}
 
 -- ---- the bytes of a journal whose gate is open
 
@@ -15,7 +15,7 @@ use Rattle.chunk_journal.specs.Journal.{journal_file, new_file, HoldsBatch, Reco
 abbrev pub said_len : List ℕ → ℕ
 said_len bytes = from_be_bytes w64 (take 8 (drop 1 bytes))
 
--- so many bytes behind the gate and the length
+-- so many bytes after the gate and the length
 abbrev pub batch_bytes : List ℕ → List ℕ
 batch_bytes bytes = take (said_len bytes) (drop 9 bytes)
 
@@ -25,7 +25,7 @@ IsShort bytes = (length bytes < 9) ⊎ (length bytes < 9 + said_len bytes)
 
 -- ---- damage, and its place
 
--- a folder stands where the journal is, or where the first one is made
+-- a folder is where the journal is, or where the first one is made
 abbrev pub HasFolder : Disk → Type 0
 HasFolder disk = IsFolder disk journal_file ⊎ IsFolder disk new_file
 
@@ -49,7 +49,7 @@ pub record IsUnfitAt (disk : Disk) (at : ℕ) : Type 0 where
   pub refused : IsRefusedAt deeds index disk
   pub place : at ≡ 13 + length (spelled_deeds (take index deeds))
 
--- no folder stands there, the gate is open, and what is behind it can't be done
+-- no folder is there, the gate is open, and what is after it can't be done
 pub record IsBadBehindGate (disk : Disk) (at : ℕ) : Type 0 where
   pub no_folder : HasFolder disk → ⊥
   pub bytes : List ℕ
@@ -70,6 +70,15 @@ pub record LeavesFolder (disk : Disk) (at : ℕ) : Type 0 where
   pub folder : HasFolder after
   pub place : at ≡ 0
 
+-- the journal of a disk isn't damaged, and can be opened again
+pub record IsOpenable (disk : Disk) : Type 0 where
+  pub undamaged : (at : ℕ) → IsDamagedAt disk at → ⊥
+  pub again : IsReopenable disk
+
+-- the journal's file, if one is there, has bytes, and fewer than 2^64 of them
+abbrev pub HasFileBytes : Disk → Type 0
+HasFileBytes disk = (bytes : List ℕ) → node_at disk journal_file ≡ Some (file bytes) → (length bytes < 2 ^ 64) × ((i : ℕ) → get_or bytes i 0 < 256)
+
 -- P of the place of the damage that an error names
 abbrev pub IfDamaged : JournalErr → (ℕ → Type 0) → Type 0
 IfDamaged Device P = ⊤
@@ -78,8 +87,8 @@ IfDamaged Memory P = ⊤
 
 -- ---- what an opening owes
 
--- The sync that it begins with leaves nothing that a stop couldn't have left before. Nothing else is done where there is no
--- batch to be done; and where its deeds can be repeated, each image at each moment since recovers to what the disk that was
+-- The sync that it begins with leaves nothing that a stop couldn't have left before. Nothing else is done if there is no
+-- batch to be done; and if its deeds can be repeated, each image at each moment since recovers to what the disk that was
 -- found recovers to. The folder's calls go on from those before.
 pub record IsOpening (old new : Log) : Type 0 where
   pub grown : LogGoesOn old new
@@ -100,7 +109,7 @@ pub record HasOpened (old new : Log) : Type 0 where
   pub alike : IsAlike disk (now new)
   pub undamaged : (at : ℕ) → IsDamagedAt (now old) at → ⊥
 
--- What it was refused for is left: where no folder stands in the places of the journal's files, reads give what the disk before recovers to, its deeds
+-- What it was refused for is left: if no folder is in the places of the journal's files, reads give what the disk before recovers to, its deeds
 -- applied up to the first call whose condition fails.
 abbrev pub IsLeftApplied : Log → Log → Type 0
 IsLeftApplied old new = (HasFolder (now old) → ⊥) → Recovered (now old) (now new)

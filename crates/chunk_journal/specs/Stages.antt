@@ -1,4 +1,4 @@
--- The stages of a commit, up to the batch that stands behind the closed gate.
+-- The stages of a commit, up to the batch that follows the closed gate.
 use Rattle.std.specs.Prelude.{◌≡◌, ◌≢◌, ℕ, List, ◌∷◌, ◌++◌, get_or, Some}
 use Rattle.outside.specs.Disk.{Disk, Path, file, node_at}
 use Rattle.outside.specs.Images.{Log, now, LeavesOnly, IsSteady}
@@ -17,7 +17,7 @@ pub record IsShutBeside (disk image : Disk) : Type 0 where
 abbrev pub KeepsShut : Log → Log → Type 0
 KeepsShut old new = LeavesOnly old new (IsShutBeside (now old))
 
--- these bytes stand behind the closed gate, and all else is as it was
+-- these bytes follow the closed gate, and all else is as it was
 pub record HasFront (front : List ℕ) (disk new : Disk) : Type 0 where
   pub gate : ℕ
   pub shut : gate ≢ 1

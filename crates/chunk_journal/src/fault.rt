@@ -21,10 +21,10 @@ pub enum JournalErr {
     /// The folder failed: its count of faults rose in this call.
     #[error("the folder failed")]
     Device,
-    /// The journal is damaged at this offset in its file: 0 where a folder is at `served.journal` or
-    /// `served.journal.new`, before or after the batch; else the first of these: the file's length where it ends before its
-    /// batch does, 9 where the count of deeds doesn't fit, the first deed outside the grammar, the first byte behind the
-    /// last deed, the first deed in the order of doing that the folder doesn't fit.
+    /// The journal is damaged at this offset in its file: 0 if a folder is at `served.journal` or `served.journal.new`,
+    /// before or after the batch; else the first of these: the file's length if it ends before its batch does, 9 if the
+    /// count of deeds doesn't fit, the first deed outside the grammar, the first byte after the last deed, the first deed
+    /// in the order of doing that the folder doesn't fit.
     #[error("the journal is damaged at byte {0}")]
     JournalDamaged(u64),
     /// Memory ran out.

@@ -52,8 +52,8 @@ impl<D: Reads> Reads for Journal<D> {
 }
 
 impl<D: Folder> Journal<D> {
-    /// Opens the journal of a folder: syncs, does the batch behind an open gate, if one is there, and closes the gate. A
-    /// refusal hands the folder back. Where it is that a deed doesn't fit the folder, the deeds before it are done, and of a
+    /// Opens the journal of a folder: syncs, does the batch after an open gate, if one is there, and closes the gate. A
+    /// refusal hands the folder back. If it is that a deed doesn't fit the folder, the deeds before it are done, and of a
     /// `Reshape` the writes before the call that doesn't fit, and the gate is open still.
     pub fn open(alloc: Global, mut folder: D) -> Result<Journal<D>, Refused<D, JournalErr>>
         ensures opened { IfOk result (λ journal. Changes (D.log folder) (D.log journal) HasOpened) }
@@ -73,8 +73,8 @@ impl<D: Folder> Journal<D> {
     }
 
     /// Commits a batch, each of whose deeds can be done in the order of doing: it is done wholly or not at all, whenever a
-    /// stop comes. It takes no memory. After `Device`, which says that the folder's count of faults rose in this call, the
-    /// folder is to be opened again.
+    /// stop happens. It takes no memory. After `Device`, which says that the folder's count of faults rose in this call,
+    /// the folder is to be opened again.
     pub fn commit(&mut self, deeds: &[Deed]) -> Result<(), Device>
         requires quiet { Told (D.log self.old) IsQuiet }
         requires batch { IsBatch (plains deeds.now) }

@@ -1,4 +1,5 @@
-//! A write-ahead journal in a folder: a batch of deeds is done wholly or not at all, whenever a stop comes.
+//! A write-ahead journal in a folder: a batch of deeds is done wholly or not at all, whenever a stop
+//! happens.
 //!
 //! ```text
 //! let mut journal = Journal::open(alloc, folder)?; // does what a stop left behind an open gate
@@ -8,11 +9,12 @@
 //! ```
 //!
 //! The file `served.journal`: gate\[1\], length\[8\], and that many bytes of a batch; what follows is ignored. The gate is open
-//! exactly as 0x01. A commit puts the batch behind the closed gate, opens the gate, does the deeds phase by phase and closes
-//! the gate, with a sync after each. The first journal is made at `served.journal.new` and moved to its place. Opening does
-//! what is left of an open gate's batch, or says at which byte the journal is damaged.
+//! exactly as 0x01. A commit puts the batch after the closed gate, opens the gate, does the deeds phase by phase and closes the
+//! gate, with a sync after each. The first journal is made at `served.journal.new` and moved to its place. Opening does what is
+//! left of an open gate's batch, or says at which byte the journal is damaged.
 //!
-//! Laws: `recovering_is_undamaged`, `recovering_is_unique` and `opening_stays_found`, which do nothing.
+//! Laws: `recovering_is_undamaged`, `undamaged_recovers`, `recovering_is_unique`, `opening_stays_found` and
+//! `journals_stay_undamaged`, which do nothing.
 #![tactic(auto)]
 
 mod fault;
@@ -24,13 +26,13 @@ mod running;
 mod stage;
 mod steps;
 
-ghost use Rattle.std.specs.Prelude.{◌≡◌, ℕ, List};
+ghost use Rattle.std.specs.Prelude.{◌≡◌, ◌⊎◌, ℕ, List};
 ghost use Rattle.outside.specs.Disk.{Disk, IsFolder};
-ghost use Rattle.outside.specs.Images.{Log, Synced, adds, now, LeavesOnly};
-ghost use Rattle.deeds.specs.Deeds.{PlainDeed};
-ghost use Rattle.chunk_journal.specs.Journal.{new_file, HoldsBatch, RecoversTo, RecoversLike, Recovered, IsAlike, IsReopenable};
-ghost use Rattle.chunk_journal.specs.Opening.{IsDamagedAt, IsOpening, StaysOpening, HasOpened};
-ghost use Rattle.chunk_journal.specs.Commits.{StaysFound, StaysAsFound};
+ghost use Rattle.outside.specs.Images.{Log, Synced, adds, now, IsImage, LeavesOnly};
+ghost use Rattle.deeds.specs.Deeds.{PlainDeed, DoesAll, in_order};
+ghost use Rattle.chunk_journal.specs.Journal.{new_file, HoldsBatch, RecoversTo, RecoversLike, Recovered, IsAlike, IsReopenable, AnyMoment};
+ghost use Rattle.chunk_journal.specs.Opening.{IsDamagedAt, LeavesFolder, HasFileBytes, IsOpenable, IsOpening, StaysOpening, HasOpened};
+ghost use Rattle.chunk_journal.specs.Commits.{StaysFound, StaysAsFound, StaysOpenable};
 
 pub use fault::{Device, JournalErr};
 pub use journal::Journal;
@@ -41,7 +43,14 @@ pub fn recovering_is_undamaged()
     ensures { (image disk : Disk) (at : ℕ) → RecoversTo image disk → (IsFolder image new_file → ⊥) → IsDamagedAt image at → ⊥ }
 {}
 
-/// An image holds one batch alone, and recovers to one disk alone, also where its batch may not fit; where it fits, to the same. It does nothing.
+/// What isn't damaged recovers to some disk, if the journal's file, where one is there, has bytes and a file's length: that it
+/// recovers to none is absurd. It does nothing.
+pub fn undamaged_recovers()
+    ensures { (disk : Disk) → HasFileBytes disk → ((at : ℕ) → IsDamagedAt disk at → ⊥)
+        → ((found : Disk) → RecoversTo disk found → ⊥) → ⊥ }
+{}
+
+/// An image holds one batch alone, and recovers to one disk alone, even if its batch may not fit; if it fits, to the same. It does nothing.
 pub fn recovering_is_unique()
     ensures batch { (disk : Disk) (one other : List PlainDeed) → HoldsBatch disk one → HoldsBatch disk other → one ≡ other }
     ensures disk { (image one other : Disk) → RecoversTo image one → RecoversTo image other → one ≡ other }
@@ -49,12 +58,26 @@ pub fn recovering_is_unique()
     ensures whole { (image disk : Disk) → RecoversTo image disk → Recovered image disk }
 {}
 
-/// Where the disk that an opening finds is reopenable, each image since its first sync recovers to what that disk recovers to,
-/// and the calls go on from there; where it ended well, what reads give is that. It does nothing.
+/// If the disk that an opening finds is reopenable, each image since its first sync recovers to what that disk recovers to,
+/// and the calls go on from there; if it ended well, what reads give is that. It does nothing.
 pub fn opening_stays_found()
     ensures stays { (old new : Log) → StaysOpening old new → IsReopenable (now old) → StaysFound old new }
     ensures applied { (old new : Log) → StaysOpening old new → IsReopenable (now old) → StaysAsFound old new }
     ensures later { (old new : Log) (found : Disk) → IsOpening old new → IsReopenable (now old) → RecoversTo (now old) found
         → LeavesOnly (adds old Synced) new (RecoversLike found) }
     ensures opened { (old new : Log) (found : Disk) → HasOpened old new → RecoversTo (now old) found → IsAlike found (now new) }
+{}
+
+/// Where no disk that a stop may leave as an opening begins has a damaged journal, and each can be opened again, it is so at each
+/// moment of the opening, however that ends; and from its first sync on where it is so of what reads gave. So it is at each moment of
+/// a commit. Of such a disk no opening answers that the journal is damaged, however often they are stopped. What recovers and can be
+/// opened again is one. It does nothing.
+pub fn journals_stay_undamaged()
+    ensures opening { (old new : Log) → StaysOpening old new → ((image : Disk) → IsImage old image → IsOpenable image)
+        → LeavesOnly old new IsOpenable }
+    ensures since { (old new : Log) → StaysOpening old new → IsOpenable (now old) → StaysOpenable old new }
+    ensures commit { (deeds : List PlainDeed) (old new : Log) (after : Disk) → AnyMoment deeds old new
+        → DoesAll (in_order deeds) (now old) after → LeavesOnly old new IsOpenable }
+    ensures answer { (disk : Disk) (at : ℕ) → IsOpenable disk → IsDamagedAt disk at ⊎ LeavesFolder disk at → ⊥ }
+    ensures recovers { (image disk : Disk) → RecoversTo image disk → IsReopenable image → IsOpenable image }
 {}

@@ -13,13 +13,13 @@ use outside::{Kind, Reads};
 use std::alloc::Global;
 use vault_path::VaultPath;
 
-/// How many bytes the gate and the length have.
+// How many bytes the gate and the length have.
 const HEAD_LEN: usize = 9;
 
 /// The offset of the batch.
 pub const BATCH: u64 = 9;
 
-/// The journal's length in bytes, where it is there.
+/// The journal's length in bytes, if it is there.
 pub fn journal_len<D: Reads>(
     folder: &mut D,
     journal: &VaultPath,
@@ -42,7 +42,7 @@ pub fn journal_len<D: Reads>(
     }
 }
 
-/// The length that stands behind a gate.
+// The length that follows a gate.
 fn len_in(head: &[u8; 9]) -> u64
     ensures len { result ≡ said_len head.now }
     ensures bytes { (i : ℕ) → get_or head.now i 0 < 256 }
@@ -53,7 +53,7 @@ fn len_in(head: &[u8; 9]) -> u64
     ])
 }
 
-/// How many bytes the batch of a journal of `len` bytes has, where its gate is open.
+// How many bytes the batch of a journal of `len` bytes has, if its gate is open.
 fn batch_len<D: Reads>(
     folder: &mut D,
     journal: &VaultPath,
@@ -80,7 +80,7 @@ fn batch_len<D: Reads>(
     Ok(Some(said))
 }
 
-/// The batch of so many bytes that stands behind an open gate.
+// The batch of so many bytes that follows an open gate.
 fn held_batch<D: Reads>(
     alloc: Global,
     folder: &mut D,
@@ -109,7 +109,7 @@ fn held_batch<D: Reads>(
     }
 }
 
-/// The batch behind the gate, where that is open.
+/// The batch after the gate, if that is open.
 pub fn open_batch<D: Reads>(
     alloc: Global,
     folder: &mut D,

@@ -18,7 +18,7 @@ use outside::Folder;
 use std::alloc::Global;
 use vault_path::VaultPath;
 
-/// Begins an opening: after the sync all is on the disk, and no stop leaves what it couldn't have left before.
+// Begins an opening: after the sync all is on the disk, and no stop leaves what it couldn't have left before.
 fn settle<D: Folder>(folder: &mut D) -> Result<(), Device>
     ensures synced { OnOk result (Changes (D.log folder.old) (D.log folder.new) (λ old new. new ≡ adds old Synced)) }
     ensures steady { OnOk result (Changes (D.log folder.old) (D.log folder.new) (λ old new. IsSteady new)) }
@@ -30,7 +30,7 @@ fn settle<D: Folder>(folder: &mut D) -> Result<(), Device>
     Ok(())
 }
 
-/// Does the deeds of a batch, up to the first that the folder doesn't fit.
+// Does the deeds of a batch, up to the first that the folder doesn't fit.
 fn redo_deeds<D: Folder>(folder: &mut D, deeds: &[Deed]) -> Result<(), JournalErr>
     requires batch { IsBatch (plains deeds.now) }
     requires steady { Told (D.log folder.old) IsSteady }
@@ -55,7 +55,7 @@ fn redo_deeds<D: Folder>(folder: &mut D, deeds: &[Deed]) -> Result<(), JournalEr
     }
 }
 
-/// Closes the gate, where a journal is there.
+// Closes the gate, if a journal is there.
 fn close<D: Folder>(
     folder: &mut D,
     journal: &VaultPath,
@@ -78,7 +78,7 @@ fn close<D: Folder>(
     Ok(())
 }
 
-/// Does the batch of a journal that was found open, and closes its gate.
+// Does the batch of a journal that was found open, and closes its gate.
 fn redo<D: Folder>(
     folder: &mut D,
     journal: &VaultPath,
@@ -103,7 +103,7 @@ fn redo<D: Folder>(
     Ok(())
 }
 
-/// Recovers a folder: what stands behind an open gate is done, and the gate is closed.
+/// Recovers a folder: what follows an open gate is done, and the gate is closed.
 pub fn recover<D: Folder>(alloc: Global, folder: &mut D) -> Result<(), JournalErr>
     ensures opened { OnOk result (Changes (D.log folder.old) (D.log folder.new) HasOpened) }
     ensures opening { OnOk result (Changes (D.log folder.old) (D.log folder.new) IsOpening) }

@@ -29,8 +29,8 @@ pub fn do_deeds<D: Folder>(folder: &mut D, deeds: &[Deed]) -> Result<(), Device>
     do_batch(folder, deeds).map_err(|_| Device)
 }
 
-/// Commits a batch to a journal that is there: the batch is put behind the closed gate, the gate is opened, the deeds are
-/// done, and the gate is closed.
+// Commits a batch to a journal that is there: the batch is put after the closed gate, the gate is opened, the deeds are
+// done, and the gate is closed.
 fn commit_ready<D: Folder>(
     folder: &mut D,
     journal: &VaultPath,
@@ -52,7 +52,7 @@ fn commit_ready<D: Folder>(
     Ok(())
 }
 
-/// Whether the journal is there, with a gate.
+// Whether the journal is there, with a gate.
 fn has_gate<D: Folder>(folder: &mut D, journal: &VaultPath) -> Result<bool, Device>
     requires { journal.now ≡ journal_file }
     ensures gate { IfOk result (λ found. Told (D.log folder.old) (λ log. IsTrue found → HasGate (now log))) }
@@ -65,7 +65,7 @@ fn has_gate<D: Folder>(folder: &mut D, journal: &VaultPath) -> Result<bool, Devi
     }
 }
 
-/// Sees to it that the journal is there.
+// Sees to it that the journal is there.
 fn make_ready<D: Folder>(folder: &mut D, journal: &VaultPath) -> Result<(), Device>
     requires journal { journal.now ≡ journal_file }
     requires quiet { Told (D.log folder.old) IsQuiet }
@@ -80,8 +80,8 @@ fn make_ready<D: Folder>(folder: &mut D, journal: &VaultPath) -> Result<(), Devi
     Ok(())
 }
 
-/// Commits a batch: it is done wholly or not at all, whenever a stop comes. It takes no memory. After `Device` the folder is
-/// to be opened again.
+/// Commits a batch: it is done wholly or not at all, whenever a stop happens. It takes no memory. After `Device` the folder
+/// is to be opened again.
 pub fn commit<D: Folder>(folder: &mut D, deeds: &[Deed]) -> Result<(), Device>
     requires quiet { Told (D.log folder.old) IsQuiet }
     requires batch { IsBatch (plains deeds.now) }

@@ -12,10 +12,10 @@ use deeds::{Deed, spelled_len, write_batch};
 use outside::Folder;
 use vault_path::VaultPath;
 
-/// As many bytes are written at once.
+// As many bytes are written at once.
 const PIECE_LEN: usize = 65536;
 
-/// Writes the batch behind the closed gate, piece by piece.
+// Writes the batch after the closed gate, piece by piece.
 fn write_pieces<D: Folder>(
     folder: &mut D,
     journal: &VaultPath,
@@ -39,7 +39,7 @@ fn write_pieces<D: Folder>(
     Ok(())
 }
 
-/// Puts the batch behind the closed gate, and syncs.
+/// Puts the batch after the closed gate, and syncs.
 pub fn stage<D: Folder>(folder: &mut D, journal: &VaultPath, deeds: &[Deed]) -> Result<(), Device>
     requires journal { journal.now ≡ journal_file }
     requires batch { IsBatch (plains deeds.now) }

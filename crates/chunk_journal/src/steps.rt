@@ -16,7 +16,7 @@ pub const CLOSED: u8 = 0;
 /// The offset of the gate.
 pub const GATE: u64 = 0;
 
-/// The offset of what stands behind the gate.
+/// The offset of what follows the gate.
 pub const BEHIND_GATE: u64 = 1;
 
 /// Writes bytes over those of a file, and syncs.

@@ -341,7 +341,7 @@ tree_written first others twice number i foreign x new numbered is same =
     ap (λ (l : List KeptNode). tree_of first l twice) (written_is others i foreign x new is same)
     ∙ ap (λ (n : ℕ). with_foreign (tree_of first others twice) n foreign) (sym numbered)
 
--- the node at an index behind the root
+-- the node at an index after the root
 pub node_read : (tree : KeptTree) (first : KeptNode) (others : List KeptNode) (twice : Bool) (number i : ℕ) (x : KeptNode) → tree_of first others twice ≡ tree → number < length tree.nodes
     → 1 ≤ number → i ≡ number - 1 → x ≡ get_or others i x → slice_get others i ≡ Some x
 node_read tree first others twice number i x is inside low at there =

@@ -5,7 +5,7 @@ use Rattle.std.proofs.lemmas.Bool.{cond-true, cond-false}
 use Rattle.clear_tree.specs.Walk.{Path, same_path, Sealing, Folders, Node, File, Link, Dir, Bad, look, node, below, node_at}
 use Rattle.clear_tree.proofs.Paths.{path_cases, child_apart, same_path-apart}
 
--- a node below x agrees where it agrees for each identifier that x may have
+-- a node below x agrees if it agrees for each identifier that x may have
 pub below_agree : (s : Sealing) (v v' : Folders) (o o' : List ℕ → Path) (p p' : Path) (m : List ℕ) (x : Option Node) →
     ((j : List ℕ) → x ≡ Some (Dir j) → node s v' o' p' (look s v' j m) ≡ node s v o p (look s v j m)) →
     below s v' o' p' m x ≡ below s v o p m x

@@ -68,7 +68,7 @@ module _ (s : Sealing) (v v' : Folders) (o : List ℕ → Path) (n i t : List �
       go (inl (b, e)) = absurd (h e)
       go (inr (b, e)) = cond-false (same_path (n ∷ p) q) _ _ b
 
-  -- a claim of before stands, and its owner is as before
+  -- a claim of before holds, and its owner is as before
   kept : (q : Path) (f : List ℕ) → claimed s (node_at s v o q) ≡ Some f → (owner' f ≡ o f) × (claimed s (node_at s v' owner' q) ≡ Some f)
   kept q f h = (
     owner_other f (λ e. fresh q (h ∙ ap (λ (z : List ℕ). Some z) e)),
@@ -104,7 +104,7 @@ module _ (s : Sealing) (v v' : Folders) (o : List ℕ → Path) (n i t : List �
       first_by q f (inl (e, ef)) = subst (λ (z : Path). is_gt (walk_cmp z q) ≡ false) (sym (ap owner' ef ∙ owner_new ∙ e)) (walk_not_after q)
       first_by q f (inr h) = subst (λ (z : Path). is_gt (walk_cmp z q) ≡ false) (sym (kept q f h).0) (own.first q f h)
 
--- an empty directory removed, where no folder is named twice
+-- an empty directory removed, if no folder is named twice
 module _ (s : Sealing) (v v' : Folders) (o : List ℕ → Path) (n i t : List ℕ) (p : Path)
     (own : IsOwner s v o) (at_p : node_at s v o p ≡ Some (Dir i)) (named : is_name n (s.open_name i (s.seal i n)) ≡ true)
     (changed : ChangedAt v v' (s.folder_of i) (s.seal i n)) (folders : (g : List ℕ) → g ≢ s.folder_of t → v'.present g ≡ v.present g)

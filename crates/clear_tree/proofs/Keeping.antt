@@ -1,4 +1,4 @@
--- What is kept of a disk tells its rows.
+-- What is kept of a disk determines its rows.
 use Rattle.std.specs.Prelude.{T}
 use Rattle.std.proofs.Common.{◌≡◌, ◌≢◌, ℕ, zero, suc, ◌+◌, Bool, true, false, cond, ◌&&◌, List, [], ◌∷◌, length, map, Option, Some, None, refl, sym, ap, ◌∙◌, subst, arith, slice_get}
 use Rattle.std.specs.declared.cmp.Ordering.{Ordering}
@@ -244,7 +244,7 @@ module _ (s : Sealing) (d : Disk) (tree : KeptTree) (is : IsKept s d tree) where
   same_some : {A : Type 0} (x y : A) → Some x ≡ Some y → x ≡ y
   same_some x y h = cc
 
-  -- where a file of an entry stands, by the node of its directory
+  -- where a file of an entry is, by the node of its directory
   abbrev file_in : List ℕ → List ℕ → Option Node → List (List ℕ)
   file_in folder n y = file_path (long_in s d y n) folder (entry_in s d y n)
 

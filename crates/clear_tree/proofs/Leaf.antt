@@ -38,7 +38,7 @@ module _ (s : Sealing) (v v' : Folders) (o : List ℕ → Path) (n i : List ℕ)
   pub leaf_owner : IsOwner s v' o
   leaf_owner = same_owner s v v' o own leaf_claims
 
--- a file or link under a new name in its directory, where directories may be Bad: as removed and made again
+-- a file or link under a new name in its directory, if directories may be Bad: as removed and made again
 module _ (s : Sealing) (v v' : Folders) (o : List ℕ → Path) (n k i : List ℕ) (p : Path) (e : Kind)
     (own : IsOwner s v o) (at_p : node_at s v o p ≡ Some (Dir i)) (apart : n ≢ k)
     (named : is_name n (s.open_name i (s.seal i n)) ≡ true) (named_new : is_name k (s.open_name i (s.seal i k)) ≡ true)

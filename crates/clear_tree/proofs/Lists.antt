@@ -31,7 +31,7 @@ ascending_append {A} R (x ∷ xs) ys a b h = ((λ y k. go y (in_cases y xs ys k)
     go y (inl k) = a.0 y k
     go y (inr k) = h x y (inl refl) k
 
--- in an ascending list what stands left of a place is before what stands there
+-- in an ascending list what is left of a place is before what is there
 pub ascending_split : {A : Type 0} (R : A → A → Ordering) (xs ys : List A) → Ascending R (xs ++ ys) → (x y : A) → In x xs → In y ys → R x y ≡ Less
 ascending_split R [] ys a x y h k = absurd h
 ascending_split R (z ∷ xs) ys a x y (inl e) k = subst (λ w. R w y ≡ Less) (sym e) (a.0 y (in_right y xs ys k))

@@ -21,7 +21,7 @@ some_or : (o : Option Path) (b : Bool) (p : Path) → is_some (cond b (Some p) N
 some_or o true p = refl
 some_or o false p = refl
 
--- with a row more a folder is named where it was, or by this row
+-- with a row more a folder is named if it was, or by this row
 claims-push : (s : Sealing) (f : List ℕ) (rows : List Row) (r : Row) →
     is_some (first_claim s f (rows ++ r ∷ [])) ≡ (is_some (first_claim s f rows) || claims_test (claimed s (Some r.1)) f)
 claims-push s f rows r = go (first_claim s f rows) refl
@@ -198,7 +198,7 @@ module _ (s : Sealing) (d : Disk) (rows : List Row) (turns : ℕ) (tree : KeptTr
 -- ---- a node as it was found
 
 module _ (s : Sealing) (keeps : KeepsIdentifiers s) where
-  -- what is kept of a text is an identifier just where the text is, and then all of it is kept
+  -- what is kept of a text is an identifier just if the text is, and then all of it is kept
   kept_whole : (t : List ℕ) → s.valid_id t ≡ true → kept_text t ≡ t
   kept_whole t h = let l : length t < text_limit = keeps t h in take_all text_limit t (omega (arith, l))
 
@@ -327,7 +327,7 @@ module _ (s : Sealing) (keeps : KeepsIdentifiers s) where
         × (IsTrue (names_again s claims (ShownText z)) ↔ NamedAgain s rows (found.name ∷ q, x))
         × ((f : List ℕ) → with_claims s claims (ShownText z) f ≡ (claims f || claims_test (claimed s (Some x)) f))) (sym h) (new_text t)
 
-    -- a node as it was found is kept behind the others
+    -- a node as it was found is kept after the others
     pub found_more : (is : IsFound s d i found) → AreLoaded s d (rows ++ row_of s (folders_of s d) rows (found.name ∷ q) is.kind) turns
         (with_found s present claims parent tree found) (with_claims s claims found.shown)
     found_more is =

@@ -81,7 +81,7 @@ module _ (nodes : List KeptNode) (ordered : AreInOrder nodes) where
     index_none (Ok i) within found = tt
     index_none (Err i) within found = λ index node is. apart i index node found is
 
-  -- ---- behind a name
+  -- ---- after a name
 
   past_place : (parent : ℕ) (last : List ℕ) (a b : Place) → place_cmp a b ≡ Less → is_gt (place_cmp a (parent, last)) ≡ true → is_gt (place_cmp b (parent, last)) ≡ true
   past_place parent last a b less past =

@@ -48,7 +48,7 @@ one_dir s v o own q p j i hq hp e =
     let h : node_at s v o q ≡ node_at s v o p = ap (node_at s v o) eq in
     (eq, cc)
 
--- two nodes' entries are apart where their paths are
+-- two nodes' entries are apart if their paths are
 pub entry_apart : (s : Sealing) (v : Folders) (o : List ℕ → Path) → IsOwner s v o → (q p : Path) (m n j i : List ℕ) →
     is_name n (s.open_name i (s.seal i n)) ≡ true →
     node_at s v o q ≡ Some (Dir j) → node_at s v o p ≡ Some (Dir i) → m ∷ q ≢ n ∷ p →
@@ -61,7 +61,7 @@ entry_apart s v o own q p m n j i named hq hp ne tm ef et =
     let d : m ≡ n = cc in
     ne (ap₂ (λ (x : List ℕ) (y : Path). x ∷ y) d one.0)
 
--- an entry is looked up alike in both where what its place shows is the same
+-- an entry is looked up alike in both if what its place shows is the same
 pub look_by : (s : Sealing) (v v' : Folders) (m j : List ℕ) →
     (is_name m (s.open_name j (s.seal j m)) ≡ true → v'.seen (s.folder_of j) (s.seal j m) ≡ v.seen (s.folder_of j) (s.seal j m)) →
     look s v' j m ≡ look s v j m
@@ -96,7 +96,7 @@ named_claim s v o p t h = go (is_good s v o p t)
     go true = refl
     go false = cond-true (s.valid_id t) _ _ h
 
--- where the same paths name the same folders, the owners stay
+-- if the same paths name the same folders, the owners stay
 pub same_owner : (s : Sealing) (v v' : Folders) (o : List ℕ → Path) → IsOwner s v o →
     ((q : Path) → claimed s (node_at s v' o q) ≡ claimed s (node_at s v o q)) → IsOwner s v' o
 same_owner s v v' o own same = record {
@@ -104,7 +104,7 @@ same_owner s v v' o own same = record {
   first = λ q f h. own.first q f (sym (same q) ∙ h);
 }
 
--- the node of an entry, where it has no folder or what the walk asks of its folder agrees
+-- the node of an entry, if it has no folder or what the walk asks of its folder agrees
 pub node_agree : (s : Sealing) (v v' : Folders) (o o' : List ℕ → Path) (p p' : Path) (e : Option Kind) →
     ((t : List ℕ) → e ≡ Some (Named t) → s.valid_id t ≡ true → (v'.present (s.folder_of t) ≡ v.present (s.folder_of t)) × (same_path (o' (s.folder_of t)) p' ≡ same_path (o (s.folder_of t)) p)) →
     node s v' o' p' e ≡ node s v o p e

@@ -210,7 +210,7 @@ module _ (s : Sealing) (v : Folders) where
           came r (inl h) = came2 r (in_cases r acc (row_of s v acc (e.0 ∷ q) e.1) h)
           came r (inr h) = inr h
 
--- what stands once some rows are done and some wait
+-- what is once some rows are done and some wait
 module _ (s : Sealing) (v : Folders) where
   pub record Walked (done todo : List Row) : Type 0 where
     pub sound : Sound s v (done ++ todo)

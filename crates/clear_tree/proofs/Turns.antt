@@ -422,7 +422,7 @@ is_folder_there None h = absurd (true≢false (sym h))
 is_folder_there (Some Folder) h = refl
 is_folder_there (Some (Bytes b)) h = absurd (true≢false (sym h))
 
--- the folder of each directory is there, where the root's is
+-- the folder of each directory is there, if the root's is
 pub folder_present : (s : Sealing) (d : Disk) (done todo : List Row) → IsWalk s (folders_of s d) done todo → IsFolder d (host_folder (s.folder_of [])) → (q : Path) (i : List ℕ) → In (q, Dir i) (done ++ todo) →
     IsFolder d (host_folder (s.folder_of i))
 unfolding node_at

@@ -34,7 +34,7 @@ pub record IsShowable (name : List ℕ) (what : KeptWhat) : Type 0 where
 
 -- ---- the order of nodes
 
--- where a node stands: its parent's number and its name
+-- where a node is: its parent's number and its name
 abbrev pub Place : Type 0
 Place = ℕ × List ℕ
 
@@ -45,7 +45,7 @@ place_of node = (node.parent, node.name)
 abbrev pub place_cmp : Place → Place → Ordering
 place_cmp a b = ordering_then (nat_cmp a.0 b.0) (slice_cmp nat_cmp a.1 b.1)
 
--- the place stands in this directory behind the name, or in a directory of a higher number; behind no name all of the directory stand
+-- the place is in this directory after the name, or in a directory of a higher number; without a name, all of the directory are
 abbrev pub is_past : ℕ → Option (List ℕ) → Place → Bool
 is_past parent None place = nat_le parent place.0
 is_past parent (Some last) place = is_gt (place_cmp place (parent, last))
@@ -73,7 +73,7 @@ root_alone folder = record { nodes = root_node folder ∷ []; twice = false }
 abbrev pub with_node : KeptTree → KeptNode → KeptTree
 with_node tree node = record { nodes = tree.nodes ++ node ∷ []; twice = tree.twice }
 
--- a node can be the next one of a tree: it is in one of its directories, and stands behind the last node, if that isn't the root
+-- a node can be the next one of a tree: it is in one of its directories, and follows the last node, if that isn't the root
 pub record FitsBehind (tree : KeptTree) (node : KeptNode) : Type 0 where
   pub inside : IsSome (parent_folder tree node)
   pub behind : (last : KeptNode) → node_of tree (length tree.nodes - 1) ≡ Some last → length tree.nodes - 1 ≢ root
@@ -110,7 +110,7 @@ with_twice tree twice = record { nodes = tree.nodes; twice = twice }
 
 -- ---- what holds of a tree that is built so
 
--- a node at an index behind the root: its parent is a directory before it
+-- a node at an index after the root: its parent is a directory before it
 pub record HasParent (first : KeptNode) (others : List KeptNode) (index : ℕ) (node : KeptNode) : Type 0 where
   pub before : node.parent ≤ index
   pub folder : IsSome (option_and_then (λ (parent : KeptNode). folder_in parent.what) (slice_get (first ∷ others) node.parent))

@@ -37,7 +37,7 @@ pub record KeptTree : Type 0 where
 
 -- ---- what is kept of a disk
 
--- of a `dir.c9r` no more is kept than tells whether it is an identifier, which has at most 1,000 bytes
+-- of a `dir.c9r` no more is kept than shows whether it is an identifier, which has at most 1,000 bytes
 abbrev pub text_limit : ℕ
 text_limit = 1001
 
@@ -162,7 +162,7 @@ abbrev pub file_path : Bool → List ℕ → List ℕ → List (List ℕ)
 file_path false folder entry = host_entry folder entry
 file_path true folder entry = host_inner folder entry text_contents
 
--- where the host file of a file or a link stands, in the folder of its parent
+-- where the host file of a file or a link is, in the folder of its parent
 abbrev pub path_in : KeptNode → What → List ℕ → Option (List (List ℕ))
 path_in node (KeptFile size) folder = Some (file_path node.long folder node.entry)
 path_in node (KeptLink size) folder = Some (host_inner folder node.entry text_symlink)
@@ -172,7 +172,7 @@ path_in node (KeptBad text) folder = None
 abbrev pub parent_folder : KeptTree → KeptNode → Option (List ℕ)
 parent_folder tree node = option_and_then (λ parent. folder_in parent.what) (node_of tree node.parent)
 
--- where the host file of the node of a number stands, if it is a file or a link
+-- where the host file of the node of a number is, if it is a file or a link
 abbrev pub path_of : KeptTree → ℕ → Option (List (List ℕ))
 path_of tree number = option_and_then (λ node. option_and_then (path_in node node.what) (parent_folder tree node)) (node_of tree number)
 
@@ -211,12 +211,12 @@ pub record IsNamed (tree : KeptTree) (parent : ℕ) (name : List ℕ) (number : 
   pub child : IsChild tree parent number node
   pub named : node.name ≡ name
 
--- a name stands behind another in the order of the names' bytes; behind none each one does
+-- a name follows another in the order of the names' bytes; after none each one does
 abbrev pub IsBehind : Option (List ℕ) → List ℕ → Type 0
 IsBehind None name = Unit {0}
 IsBehind (Some last) name = slice_cmp nat_cmp name last ≡ Greater
 
--- the first of a directory's nodes whose name stands behind this one
+-- the first of a directory's nodes whose name follows this one
 pub record IsNext (tree : KeptTree) (parent : ℕ) (last : Option (List ℕ)) (number : ℕ) : Type 0 where
   pub node : KeptNode
   pub child : IsChild tree parent number node
@@ -224,7 +224,7 @@ pub record IsNext (tree : KeptTree) (parent : ℕ) (last : Option (List ℕ)) (n
   pub first : (other : ℕ) (node' : KeptNode) → IsChild tree parent other node' → IsBehind last node'.name → other ≢ number
       → slice_cmp nat_cmp node.name node'.name ≡ Less
 
--- no node of the directory stands behind this name
+-- no node of the directory follows this name
 abbrev pub IsNoNext : KeptTree → ℕ → Option (List ℕ) → Type 0
 IsNoNext tree parent last = (other : ℕ) (node : KeptNode) → IsChild tree parent other node → IsBehind last node.name → ⊥
 
@@ -246,7 +246,7 @@ pub record IsTree (tree : KeptTree) : Type 0 where
 
 -- ---- laws
 
--- What is kept of a disk tells the rows that the disk stands for.
+-- What is kept of a disk determines the rows that the disk stands for.
 pub record TellsRows (s : Sealing) (d : Disk) (tree : KeptTree) : Type 0 where
   pub contents : ℕ → Content
   pub are : AreContents s d tree contents

@@ -32,7 +32,7 @@ abbrev pub IsKeptAt : Sealing → Disk → List Row → Path → KeptNode → Ty
 IsKeptAt s d rows [] node = IsKeptRoot node
 IsKeptAt s d rows (n ∷ q) node = IsKeptBelow s d rows n q node
 
--- The node of a row. Whether its folder has foreign entries is told once its turn was.
+-- The node of a row. Whether its folder has foreign entries is known once its turn was.
 pub record IsKeptRow (s : Sealing) (d : Disk) (rows : List Row) (turns number : ℕ) (row : Row) (node : KeptNode) : Type 0 where
   pub what : node.what ≡ what_of s row.1
   pub place : IsKeptAt s d rows row.0 node
@@ -136,7 +136,7 @@ AreShown s d i [] (e ∷ es) = ⊥
 AreShown s d i (f ∷ found) [] = ⊥
 AreShown s d i (f ∷ found) (e ∷ es) = ((is : IsFound s d i f) × (e ≡ (f.name, is.kind))) × AreShown s d i found es
 
--- nodes that were found in the directory of a row are kept behind what is kept of these rows
+-- nodes that were found in the directory of a row are kept after what is kept of these rows
 pub record AreAdded (s : Sealing) (d : Disk) (rows : List Row) (turns : ℕ) (above : Path) (identifier : List ℕ) (found : List Found) (tree : KeptTree) (claims : List ℕ → Bool) : Type 0 where
   pub entries : List (List ℕ × Kind)
   pub shown : AreShown s d identifier found entries

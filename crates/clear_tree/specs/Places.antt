@@ -60,7 +60,7 @@ known (Some t) b = text_dir
 known None (Some b) = text_symlink
 known None None = text_contents
 
--- a long node folder counts where its name.c9s holds the text
+-- a long node folder counts if its name.c9s holds the text
 abbrev pub kind_where : Bool → Kind → Option Kind
 kind_where true k = Some k
 kind_where false k = None

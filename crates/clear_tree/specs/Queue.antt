@@ -53,7 +53,7 @@ AreEntriesOf s v (Link c) es = es ≡ []
 AreEntriesOf s v (Bad t) es = es ≡ []
 
 -- A walk with a queue, from the root on: the rows that are done, and those that wait. A turn takes the first row that waits, and the rows of
--- its entries wait behind the others.
+-- its entries wait after the others.
 pub data IsWalk (s : Sealing) (v : Folders) : List Row → List Row → Type 0 where
   Begun : IsWalk s v [] (([], Dir []) ∷ [])
   Turned : (done todo : List Row) (r : Row) (es : List (List ℕ × Kind)) → AreEntriesOf s v r.1 es → IsWalk s v done (r ∷ todo) →

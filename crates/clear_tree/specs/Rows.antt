@@ -23,7 +23,7 @@ content_in s (Link b) = s.content b
 content_in s (Dir i) = chunks true []
 content_in s (Bad t) = chunks true []
 
--- how many paths of a list stand before this one
+-- how many paths of a list are before this one
 abbrev pub number_of : List (Path × Node) → Path → ℕ
 number_of [] p = 0
 number_of (e ∷ es) p = if same_path e.0 p then 0 else suc (number_of es p)
@@ -64,7 +64,7 @@ rows_of s now nodes marks = record {
   named_twice = marks.twice;
 }
 
--- The rows that a disk stands for, unlocked at this second. There are none where the root's folder is absent. The owner of a folder is the
+-- The rows that a disk stands for, unlocked at this second. There are none if the root's folder is absent. The owner of a folder is the
 -- first path in the walk's order whose node names it.
 pub record IsClear (s : Sealing) (d : Disk) (now : ℕ) (rows : Rows) : Type 0 where
   pub owner : List ℕ → Path

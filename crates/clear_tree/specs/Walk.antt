@@ -55,11 +55,11 @@ abbrev pub is_name : List ℕ → Option (List ℕ) → Bool
 is_name n None = false
 is_name n (Some m) = bytes_eq m n
 
--- the entry of the directory of identifier i that is named n: where n's sealed text opens to n again
+-- the entry of the directory of identifier i that is named n: if n's sealed text opens to n again
 abbrev pub look : Sealing → Folders → List ℕ → List ℕ → Option Kind
 look s v i n = cond (is_name n (s.open_name i (s.seal i n))) (v.seen (s.folder_of i) (s.seal i n)) None
 
--- a directory's node is good where its text is a valid identifier, its folder is there, and the folder's owner is this path
+-- a directory's node is good if its text is a valid identifier, its folder is there, and the folder's owner is this path
 abbrev pub is_good : Sealing → Folders → (List ℕ → Path) → Path → List ℕ → Bool
 is_good s v owner p text = s.valid_id text && (v.present (s.folder_of text) && same_path (owner (s.folder_of text)) p)
 

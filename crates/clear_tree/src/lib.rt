@@ -8,7 +8,7 @@
 //! let host = tree.path(number)?;
 //! ```
 //!
-//! Its functions that stand alone are laws: they do nothing, and their clauses hold.
+//! Its free functions are laws: they do nothing, and their clauses hold.
 #![tactic(auto)]
 
 mod host_paths;
@@ -36,8 +36,8 @@ pub fn rows_are_determined()
     ensures some { EmptyVaultIsClear }
 {}
 
-/// A change in one directory's folder changes one place of the tree: where the text of one name shows another file or
-/// link, or none; where it becomes that of a new directory; and where a directory without children goes. It does nothing.
+/// A change in one directory's folder changes one place of the tree: if the text of one name shows another file or link,
+/// or none; if it becomes that of a new directory; and if a directory without children goes. It does nothing.
 pub fn one_place_changes()
     ensures leaf { OnePlaceChanges }
     ensures made { OneDirectoryIsMade }
@@ -50,7 +50,7 @@ pub fn walk_is_exact()
     ensures goes_on { WalkGoesOn }
 {}
 
-/// What is kept of a disk tells the rows that the disk stands for. It does nothing.
+/// What is kept of a disk determines the rows that the disk stands for. It does nothing.
 pub fn keeping_tells_rows()
     ensures { KeepingTellsRows }
 {}

@@ -191,7 +191,7 @@ impl Node {
         self.what = What::File { size };
     }
 
-    /// How its place stands to that of a name in a directory.
+    /// How its place compares to that of a name in a directory.
     pub(crate) fn place_cmp(&self, parent: u64, name: &[u8]) -> Ordering
         ensures { result ≡ place_cmp (place_of self.now) (parent, name.now) }
     {
@@ -200,7 +200,7 @@ impl Node {
             .then(self.name.as_bytes().cmp(&name))
     }
 
-    /// Whether it stands behind a name in a directory, or in a directory of a higher number.
+    /// Whether it follows a name in a directory, or in a directory of a higher number.
     pub(crate) fn is_past(&self, parent: u64, last: Option<&[u8]>) -> bool
         ensures { result ≡ is_past parent (option_copied last.entry) (place_of self.now) }
     {

@@ -58,7 +58,7 @@ impl Tree {
         })
     }
 
-    /// Puts a node behind the last one. It stays as it is where memory runs out.
+    /// Puts a node after the last one. It stays as it is if memory runs out.
     pub fn push(&mut self, node: Node) -> Result<(), AllocError>
         requires { FitsBehind self.old node }
         ensures pushed { OnOk result (self.new ≡ with_node self.old node) }
@@ -135,7 +135,7 @@ impl Tree {
         Some(index as u64 + 1)
     }
 
-    /// The number of the first node of a directory behind a name, or of its first node. O(log n).
+    /// The number of the first node of a directory after a name, or of its first node. O(log n).
     pub fn next_after(&self, parent: u64, last: Option<&[u8]>) -> Option<u64>
         ensures next { IfSome result (λ number. IsNext self.now parent (option_copied last.entry) number) }
         ensures none { IfNone result (IsNoNext self.now parent (option_copied last.entry)) }
@@ -149,7 +149,7 @@ impl Tree {
         }
     }
 
-    /// Where the host file of a file or a link stands. It takes no memory.
+    /// Where the host file of a file or a link is. It takes no memory.
     pub fn path(&self, number: u64) -> Option<VaultPath>
         ensures { result ≡ path_of self.now number }
     {
@@ -186,7 +186,7 @@ fn index_of(nodes: &[Node], parent: u64, name: &[u8]) -> Option<usize>
         .ok()
 }
 
-// The place of the first node behind a name of a directory, or in a directory of a higher number.
+// The place of the first node after a name of a directory, or in a directory of a higher number.
 fn first_past(nodes: &[Node], parent: u64, last: Option<&[u8]>) -> usize
     requires { AreInOrder nodes.now }
     ensures before { (index : ℕ) (node : KeptNode) → index < result → slice_get nodes.now index ≡ Some node

@@ -35,7 +35,7 @@ header_told contents path keys n room new head is_room whole all gives e =
     told_then contents (λ d. (bytes : List ℕ) → HasHeader d path bytes → take 68 bytes ≡ new) (λ d. (bytes : List ℕ) → HasHeader d path bytes → header_opens keys (take 68 bytes) ≡ head)
     (header_read contents path n room new is_room whole all gives) (λ d same bytes is. ap (header_opens keys) (same bytes is) ∙ e)
 
--- the error of a read of a host file, where nothing is told
+-- the error of a read of a host file, if nothing is told
 pub untold_fault : {T : Type 0} (contents : Option Disk) (e : FolderErr) (before now : ℕ) (P : Disk → Type 0) → HasCause before now (IsErrOf {T = T} (Err e) folder_errs.Failed)
     → (IsErrOf {T = T} (Err e) folder_errs.Unfit → IsUnfit contents before now P) → (IsErrOf {T = T} (Err e) folder_errs.Memory → ⊥) → RoseUntold contents before now
 untold_fault (Some disk) e before now P cause unfit memory = tt

@@ -66,7 +66,7 @@ chunks_read at count first chunks n bytes front some is meets counted read index
     ∙ part_of_front (32796 * (index - at / 32768)) 32796 (32796 * chunks) (drop (68 + 32796 * first) bytes) (omega arith)
     ∙ ap (take 32796) (drop-drop (32796 * (index - at / 32768)) (68 + 32796 * first) bytes ∙ ap (λ (k : ℕ). drop k bytes) place)
 
--- the first chunk of a slice of a content stands within its host file
+-- the first chunk of a slice of a content lies within its host file
 pub place_within : (size n at : ℕ) → clear_length size ≡ Some n → at < n → 68 + 32796 * (at / 32768) ≤ size
 place_within size n at sized inside = by_test (is_bad_size size) sized
   where
@@ -76,6 +76,6 @@ place_within size n at sized inside = by_test (is_bad_size size) sized
         let len : size - 68 - 28 * ((size - 68 + 32795) / 32796) ≡ n = same_Some (size - 68 - 28 * ((size - 68 + 32795) / 32796)) n e in
         omega arith
 
--- where a slice has a byte there is room for a header
+-- if a slice has a byte there is room for a header
 pub header_within : (size n at : ℕ) → clear_length size ≡ Some n → at < n → 68 ≤ size
 header_within size n at sized inside = let h = place_within size n at sized inside in omega arith

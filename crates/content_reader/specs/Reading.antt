@@ -10,7 +10,7 @@ use Rattle.file_chunks.specs.File.{IsKey, clear_length, sealed_at}
 use Rattle.content_reader.specs.declared.error.ReadErr.{ReadErr}
 use Rattle.content_reader.specs.declared.error.ReadErr.TheVariants.{Device, Damaged}
 
--- the bytes from a place on, at most so many, where the size is good and each of them opens
+-- the bytes from a place on, at most so many, if the size is good and each of them opens
 abbrev pub read_of : Content → ℕ → ℕ → Option (List ℕ)
 read_of bad_size at most = None
 read_of (chunks opens cells) at most = slice_of (chunks opens cells) at most
@@ -20,13 +20,13 @@ pub record IsFileOf (disk : Disk) (path : Path) (size : ℕ) (bytes : List ℕ) 
   pub there : node_at disk path ≡ Some (file bytes)
   pub long : length bytes ≡ size
 
--- A step that looks for something ends with it, or with damage where there is none, or with the folder's fault.
+-- A step that looks for something ends with it, or with damage if there is none, or with the folder's fault.
 abbrev pub Ends : {A : Type 0} → Option A → ℕ → ℕ → Result A ReadErr → Type 0
 Ends found before now (Ok a) = found ≡ Some a
 Ends found before now (Err Damaged) = found ≡ None
 Ends found before now (Err Device) = Rose before now
 
--- where nothing is told, a fault comes only where the count rose
+-- if nothing is told, a fault is answered only if the count rose
 abbrev pub RoseUntold : Option Disk → ℕ → ℕ → Type 0
 RoseUntold None before now = Rose before now
 RoseUntold (Some disk) before now = ⊤

@@ -27,7 +27,7 @@ pub struct Slice {
     pub count: u32,
 }
 
-/// Where a content file's sealed bytes stand, and how many they are.
+/// Where a content file's sealed bytes are, and how many they are.
 #[derive(Debug, Drop)]
 pub struct SealedFile {
     pub path: VaultPath,

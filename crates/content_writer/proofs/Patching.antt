@@ -3,9 +3,9 @@ use Rattle.std.proofs.Common.{◌≡◌, ℕ, ◌+◌, ◌-◌, ◌<◌, ◌≤�
 use Rattle.std.proofs.Math.Seq.{take-append-add}
 use Rattle.std.proofs.lemmas.Bool.{cases_lt}
 use Rattle.std.proofs.lemmas.List.{append_assoc, append-nil, length-replicate, take_all, take-take, take-append-le, take-append-drop, drop-take, drop_all, replicate-append-replicate}
-use Rattle.content_changes.specs.Laws.{patched}
+use Rattle.content_laws.specs.Laws.{patched}
 
--- no elements behind a front
+-- no elements after a front
 no_more : {A : Type 0} (n m : ℕ) (xs ys : List A) → n ≡ 0 → length ys ≤ m → take n xs ≡ drop m ys
 no_more n m xs ys none past = ap (λ (k : ℕ). take k xs) none ∙ sym (drop_all m ys past)
 
@@ -30,7 +30,7 @@ filled-front old at short far =
     ∙ ap (take 32768) (sym (append_assoc old (replicate (32768 - length old) 0) (replicate (at - 32768) 0)))
     ∙ take-append-le 32768 (filled old 32768) (replicate (at - 32768) 0) (omega (arith, length-filled old 32768))
 
--- what is written of the bytes, and from where, where what is past a chunk is left out
+-- what is written of the bytes, and from where, if what is past a chunk is left out
 module _ (old : List ℕ) (at : ℕ) (bytes : List ℕ) (short : length old ≤ 32768) (from : ℕ) (is_from : from ≡ min at 32768) (part : List ℕ)
     (is_part : part ≡ take (min (length bytes) (32768 - from)) bytes) where
   long : length part ≡ min (length bytes) (32768 - from)
@@ -42,7 +42,7 @@ module _ (old : List ℕ) (at : ℕ) (bytes : List ℕ) (short : length old ≤ 
   length-front : length (take from (filled old from) ++ part) ≡ from + length part
   length-front = length-append (take from (filled old from)) part ∙ omega (arith, length-take from (filled old from), length-filled old from)
 
-  -- behind a chunk there is nothing
+  -- after a chunk there is nothing
   whole_part : (rest : List ℕ) → 32768 - from ≤ length bytes → take (32768 - from) (bytes ++ rest) ≡ part
   whole_part rest more =
       let all : min (length bytes) (32768 - from) ≡ 32768 - from = omega arith in
@@ -104,7 +104,7 @@ module _ (clear : List ℕ) (count at : ℕ) (bytes : List ℕ) (room : length c
   held : length (take count clear) ≡ count
   held = omega (arith, length-take count clear)
 
-  -- what stands behind the new bytes
+  -- what follows the new bytes
   behind : (filled_room : List ℕ) → filled_room ≡ filled (take count clear) from ++ drop (max count from) clear
       → take (max count (from + length part) - (from + length part)) (drop (from + length part) filled_room) ≡ drop (from + length part) (take count clear)
   behind filled_room is = elim (cases_lt (from + length part) count) [

@@ -1,4 +1,4 @@
--- Sealed chunks one behind the other, and one more.
+-- Sealed chunks one after the other, and one more.
 use Rattle.std.proofs.Common.{◌≡◌, ℕ, zero, suc, ◌+◌, ◌*◌, ◌/◌, ◌%◌, ◌<◌, ◌≤◌, min, List, [], ◌∷◌, ◌++◌, length, take, drop, map, get_or, refl, sym, ap, subst, ◌∙◌, arith, inl, inr, length-take, length-drop, length-append}
 use Rattle.std.specs.List.{range_with_len}
 use Rattle.std.specs.Fork.{slice_chunk}
@@ -39,7 +39,7 @@ same_chunk k i xs ys long inside =
     ap (take 32796) (drop-append-le (i * 32796) xs ys (omega arith))
     ∙ take-append-le 32796 (drop (i * 32796) xs) ys (omega (arith, length-drop (i * 32796) xs))
 
--- one more chunk behind full ones
+-- one more chunk after full ones
 pub chunks_of-pushed : (k : ℕ) (xs ys : List ℕ) → length xs ≡ 32796 * k → 0 < length ys → length ys ≤ 32796 → chunks_of 32796 (xs ++ ys) ≡ chunks_of 32796 xs ++ ys ∷ []
 chunks_of-pushed k xs ys long some short =
     let all : length (xs ++ ys) / 32796 + min 1 (length (xs ++ ys) % 32796) ≡ k + 1 = omega (arith, length-append xs ys) in
@@ -58,7 +58,7 @@ module _ (room : List ℕ) (used : ℕ) (old : List (List ℕ)) (is : chunks_of 
       let all : length (take used room) ≡ 32796 * length (chunks_of 32796 (take used room)) = length-full (take used room) (subst AreFull (sym is) full) in
       omega (arith, all, ap length is, length-take used room)
 
-  -- one more, where bytes were put behind the front
+  -- one more, if bytes were put after the front
   pub pushed_in : (n size : ℕ) (out rest more : List ℕ) → 0 < n → n ≤ 32796 → n ≤ length out → used + n ≤ size
       → chunks_of 32796 (take (used + n) (take size ((take used room ++ (out ++ rest)) ++ more))) ≡ old ++ take n out ∷ []
   pushed_in n size out rest more some short there within =

@@ -9,9 +9,9 @@ use Rattle.tree_model.specs.Rows.{Content}
 use Rattle.tree_model.specs.Contents.{sealed_chunk, written}
 use Rattle.file_chunks.specs.Header.{Head}
 use Rattle.file_chunks.specs.File.{chunk_count, clear_length, content_of}
-use Rattle.content_changes.specs.Rewriting.{Rewriting, AreSealed, CanPutChunks, sealed_size}
-use Rattle.content_changes.specs.Laws.{IsOpened, AreChunksOf, IsMet, IsWrite, IsRewritten, after_write}
-use Rattle.content_changes.proofs.Sizes.{IsGood, is_good, IsGrown, grown, is_put}
+use Rattle.content_laws.specs.Rewriting.{Rewriting, AreSealed, CanPutChunks, sealed_size}
+use Rattle.content_laws.specs.Laws.{IsOpened, AreChunksOf, IsMet, IsWrite, IsRewritten, after_write}
+use Rattle.content_laws.proofs.Sizes.{IsGood, is_good, IsGrown, grown, is_put}
 use Rattle.content_writer.specs.Sealed.{IsPuttable}
 use Rattle.content_writer.specs.Sealing.{IsOpenFile, OfOpen, Writing, length_after, AreLong, AreSealedTo, IsLost}
 use Rattle.content_writer.proofs.SealedRuns.{counted_to}

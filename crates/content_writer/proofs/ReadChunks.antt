@@ -1,4 +1,4 @@
--- What the reads of a chunk and of a header tell.
+-- What the reads of a chunk and of a header say.
 use Rattle.std.proofs.Common.{◌≡◌, ℕ, ◌+◌, ◌-◌, ◌*◌, min, List, length, take, drop, Option, Some, sym, ap, ◌∙◌, arith, length-drop}
 use Rattle.outside.specs.Disk.{Disk, Path, node_at, file}
 use Rattle.outside.specs.Calls.{Told}

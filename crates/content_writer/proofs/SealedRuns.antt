@@ -9,9 +9,9 @@ use Rattle.tree_model.specs.Rows.{good}
 use Rattle.tree_model.specs.Contents.{sealed_chunk}
 use Rattle.file_chunks.specs.Header.{Head}
 use Rattle.file_chunks.specs.File.{content_of}
-use Rattle.content_changes.specs.Rewriting.{IsSealed, AreSealed}
-use Rattle.content_changes.specs.Laws.{AreChunksOf, after_write}
-use Rattle.content_changes.proofs.Putting.{counted}
+use Rattle.content_laws.specs.Rewriting.{IsSealed, AreSealed}
+use Rattle.content_laws.specs.Laws.{AreChunksOf, after_write}
+use Rattle.content_laws.proofs.Putting.{counted}
 use Rattle.content_writer.specs.Sealed.{AreFull, nonces_of}
 use Rattle.content_writer.specs.Sealing.{IsPushed, Writing, length_after, HasSealed, AreLong, AreSealedTo}
 

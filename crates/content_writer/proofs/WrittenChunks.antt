@@ -8,7 +8,7 @@ use Rattle.tree_model.specs.Rows.{good}
 use Rattle.tree_model.specs.Contents.{sealed_chunk}
 use Rattle.file_chunks.specs.Chunk.{chunk_opens}
 use Rattle.file_chunks.specs.File.{content_of, sealed_at}
-use Rattle.content_changes.specs.Laws.{IsOpened, IsPartlyKept, after_write, patched_at}
+use Rattle.content_laws.specs.Laws.{IsOpened, IsPartlyKept, after_write, patched_at}
 use Rattle.content_reader.proofs.Spans.{take_min}
 use Rattle.content_writer.specs.Sealing.{IsOldPlaintext, IsDamagedChunk, IsPushed, Writing, length_after, IsWrittenChunk, IsLostChunk, HasSealed}
 use Rattle.content_writer.proofs.Patching.{length-patched}

@@ -4,7 +4,7 @@ use Rattle.std.specs.Int.{div_ceil}
 use Rattle.std.specs.List.{range_with_len, flat_map}
 use Rattle.std.specs.Fork.{slice_chunk}
 use Rattle.file_chunks.specs.declared.size.TheConstants.{NONCE_LENGTH, SEALED_LENGTH}
-use Rattle.content_changes.specs.Rewriting.{Rewriting, CanPutChunks}
+use Rattle.content_laws.specs.Rewriting.{Rewriting, CanPutChunks}
 use Rattle.content_writer.specs.declared.sealed.TheConstants.{CHUNK_LIMIT}
 
 -- bytes cut into pieces of a size, the last of which may be shorter

@@ -9,12 +9,12 @@ use Rattle.file_chunks.specs.Header.{Head}
 use Rattle.file_chunks.specs.Chunk.{chunk_opens}
 use Rattle.file_chunks.specs.File.{content_of, sealed_at}
 use Rattle.file_chunks.specs.declared.size.TheConstants.{CHUNK_LENGTH, NONCE_LENGTH, SEALING_LENGTH}
-use Rattle.content_changes.specs.Rewriting.{IsSealed, AreSealed}
-use Rattle.content_changes.specs.Laws.{IsOpened, IsMet, AreChunksOf, after_write}
+use Rattle.content_laws.specs.Rewriting.{IsSealed, AreSealed}
+use Rattle.content_laws.specs.Laws.{IsOpened, IsMet, AreChunksOf, after_write}
 use Rattle.content_writer.specs.declared.opening.OpenFile.{OpenFile}
 use Rattle.content_writer.specs.declared.writing.Write.{Write}
 
--- The folder failed in a read of a file: its count of faults rose, or, where it tells, no file is at the path.
+-- The folder failed in a read of a file: its count of faults rose, or, if it tells, no file is at the path.
 abbrev pub HasFaulted : Option Disk → Path → ℕ → ℕ → Type 0
 HasFaulted None path before now = Rose before now
 HasFaulted (Some disk) path before now = IsFile disk path → Rose before now
@@ -39,7 +39,7 @@ pub record IsOpenedChunk (head : Head) (index : ℕ) (bytes plaintext : List ℕ
   pub opens : chunk_opens head index (sealed_at bytes index) ≡ Some plaintext
   pub long : length plaintext + SEALING_LENGTH ≡ length (sealed_at bytes index)
 
--- the plaintext of the chunk of an index of an open file; behind the end of the content it is empty
+-- the plaintext of the chunk of an index of an open file; past the end of the content it is empty
 pub record IsOldPlaintext (contents : Option Disk) (path : Path) (head : Head) (n index : ℕ) (plaintext : List ℕ) : Type 0 where
   pub long : length plaintext ≡ min CHUNK_LENGTH (n - CHUNK_LENGTH * index)
   pub opens : CHUNK_LENGTH * index < n → OfOpen contents path head n (λ _ bytes. chunk_opens head index (sealed_at bytes index) ≡ Some plaintext)
@@ -49,7 +49,7 @@ pub record IsDamagedChunk (contents : Option Disk) (path : Path) (head : Head) (
   pub inside : CHUNK_LENGTH * index < n
   pub closed : OfOpen contents path head n (λ _ bytes. chunk_opens head index (sealed_at bytes index) ≡ None)
 
--- a plaintext was sealed as the chunk of an index behind the others, under a nonce that was drawn
+-- a plaintext was sealed as the chunk of an index after the others, under a nonce that was drawn
 pub record IsPushed (head : Head) (index : ℕ) (plaintext : List ℕ) (old new : List (List ℕ)) (drawn drawn' : Option (List ℕ)) : Type 0 where
   pub sealed : List ℕ
   pub pushed : new ≡ old ++ sealed ∷ []
@@ -90,7 +90,7 @@ IsWrittenChunk w index plaintext =
 abbrev pub IsLostChunk : Writing → ℕ → Type 0
 IsLostChunk w index = OfOpen w.contents w.path w.head w.length (λ keys bytes. sealed_chunk (after_write (content_of keys bytes) w.at w.input) index ≡ None)
 
--- the chunk of an index was sealed, as it is afterwards, behind the others
+-- the chunk of an index was sealed, as it is afterwards, after the others
 pub record HasSealed (w : Writing) (index : ℕ) (old new : List (List ℕ)) (drawn drawn' : Option (List ℕ)) : Type 0 where
   pub plaintext : List ℕ
   pub long : length plaintext ≡ min CHUNK_LENGTH (length_after w - CHUNK_LENGTH * index)

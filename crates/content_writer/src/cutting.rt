@@ -4,7 +4,7 @@ ghost use Rattle.outside.specs.Images.{disk_in};
 ghost use Rattle.tree_model.specs.Contents.{resized};
 ghost use Rattle.tree_model.specs.Step.{file_limit};
 ghost use Rattle.file_chunks.specs.File.{clear_length, content_of};
-ghost use Rattle.content_changes.specs.Laws.{IsRewritten, cut_by};
+ghost use Rattle.content_laws.specs.Laws.{IsRewritten, cut_by};
 ghost use Rattle.content_writer.specs.Sealed.{IsPuttable, nonces_of};
 ghost use Rattle.content_writer.specs.Sealing.{HasFaulted, OfOpen};
 
@@ -12,7 +12,7 @@ use crate::error::WriteErr;
 use crate::opening::{OpenFile, fetch};
 use crate::plaintext::Plaintext;
 use crate::sealed::SealedChunks;
-use content_changes::{cut_chunk, resized_content};
+use content_laws::{cut_chunk, resized_content};
 use file_chunks::CHUNK_LENGTH;
 use outside::{Entropy, Reads};
 use vault_path::VaultPath;

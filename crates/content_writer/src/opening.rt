@@ -3,7 +3,7 @@ ghost use Rattle.outside.specs.Calls.{Told};
 ghost use Rattle.outside.specs.Images.{disk_in};
 ghost use Rattle.file_chunks.specs.File.{clear_length};
 ghost use Rattle.content_reader.specs.Reading.{IsFileOf};
-ghost use Rattle.content_changes.specs.Laws.{IsOpened, IsUnopened};
+ghost use Rattle.content_laws.specs.Laws.{IsOpened, IsUnopened};
 ghost use Rattle.content_writer.specs.Sealing.{HasFaulted, IsOldPlaintext, IsDamagedChunk};
 
 use crate::error::WriteErr;
@@ -21,7 +21,8 @@ pub(crate) struct OpenFile {
     pub(crate) length: u64,
 }
 
-/// Opens a host file whose size a content has. `Damaged` comes where its header doesn't open, or isn't there whole.
+/// Opens a host file whose size a content has. `Damaged` is returned if its header doesn't open, or isn't there
+/// whole.
 pub(crate) fn open_file<R: Reads>(
     folder: &mut R,
     keys: &VaultKeys,
@@ -50,8 +51,8 @@ pub(crate) fn open_file<R: Reads>(
     Ok(OpenFile { header, length })
 }
 
-/// Fetches the plaintext of the chunk of an index of an open file; behind the end of its content there is none. `Damaged` comes where the
-/// chunk doesn't open, or isn't there whole; `plaintext` may hold anything after an error.
+/// Fetches the plaintext of the chunk of an index of an open file; past the end of its content there is none. `Damaged` is returned if
+/// the chunk doesn't open, or isn't there whole; `plaintext` may hold anything after an error.
 pub(crate) fn fetch<R: Reads>(
     folder: &mut R,
     path: &VaultPath,

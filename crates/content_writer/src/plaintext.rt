@@ -4,7 +4,7 @@ ghost use Rattle.outside.specs.Disk.{node_at, file};
 ghost use Rattle.outside.specs.Images.{disk_in};
 ghost use Rattle.file_chunks.specs.Chunk.{chunk_opens};
 ghost use Rattle.file_chunks.specs.File.{sealed_at};
-ghost use Rattle.content_changes.specs.Laws.{patched};
+ghost use Rattle.content_laws.specs.Laws.{patched};
 ghost use Rattle.content_writer.specs.Sealing.{HasFaulted, IsOpenedChunk};
 
 use crate::error::WriteErr;
@@ -58,7 +58,8 @@ impl Plaintext {
         self.count = 0;
     }
 
-    /// Opens the chunk of an index of a host file. `Damaged` comes where it doesn't open; it may hold anything after an error.
+    /// Opens the chunk of an index of a host file. `Damaged` is returned if it doesn't open; it may hold anything after an
+    /// error.
     pub(crate) fn open<R: Reads>(
         &mut self,
         folder: &mut R,
@@ -102,7 +103,7 @@ impl Plaintext {
     }
 }
 
-// Fills the bytes from an index up to another with zeros, where there are any.
+// Fills the bytes from an index up to another with zeros, if there are any.
 fn fill_gap(bytes: &mut [u8], from: usize, to: usize)
     requires { (from ≤ length bytes.old) × (to ≤ length bytes.old) }
     ensures { bytes.new ≡ take from bytes.old ++ replicate (to - from) 0 ++ drop (max from to) bytes.old }

@@ -11,7 +11,7 @@ use std::marker::Model;
 /// The most chunks of one change.
 pub(crate) const CHUNK_LIMIT: usize = 36;
 
-/// Room for 36 sealed chunks that follow one another, one behind the other. Clauses see a list of them.
+/// Room for 36 sealed chunks that follow one another, one after the other. Clauses see a list of them.
 #[derive(Drop)]
 pub(crate) struct SealedChunks {
     bytes: Vec<u8>,
@@ -54,7 +54,7 @@ impl SealedChunks {
         self.used = 0;
     }
 
-    /// Seals a plaintext as the chunk of an index behind the others, which are full: draws its nonce. After `Failed` nothing is drawn.
+    /// Seals a plaintext as the chunk of an index after the others, which are full: draws its nonce. After `Failed` nothing is drawn.
     pub(crate) fn push<E: Entropy>(
         &mut self,
         header: &Header,

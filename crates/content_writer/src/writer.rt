@@ -5,8 +5,8 @@ ghost use Rattle.tree_model.specs.Asked.{write_limit};
 ghost use Rattle.tree_model.specs.Contents.{written, resized};
 ghost use Rattle.tree_model.specs.Step.{file_limit, gap_limit};
 ghost use Rattle.file_chunks.specs.File.{clear_length, content_of};
-ghost use Rattle.content_changes.specs.Rewriting.{sealed_size};
-ghost use Rattle.content_changes.specs.Laws.{IsRewritten};
+ghost use Rattle.content_laws.specs.Rewriting.{sealed_size};
+ghost use Rattle.content_laws.specs.Laws.{IsRewritten};
 ghost use Rattle.content_reader.specs.Reading.{IsFileOf};
 ghost use Rattle.content_writer.specs.Sealed.{IsPuttable, chunks_of, nonces_of};
 ghost use Rattle.content_writer.specs.Sealing.{HasFaulted, GoesOn, OfOpen};
@@ -17,7 +17,7 @@ use crate::opening::{OpenFile, open_file};
 use crate::plaintext::Plaintext;
 use crate::sealed::SealedChunks;
 use crate::writing::{Write, seal_written};
-use content_changes::{resized_content, unopened_content, written_content};
+use content_laws::{resized_content, unopened_content, written_content};
 use content_reader::SealedFile;
 use file_chunks::{CHUNK_LENGTH, HEADER_LENGTH, SEALED_LENGTH, SEALING_LENGTH, reads_are_slices};
 use outside::{Entropy, Reads};
@@ -36,7 +36,7 @@ pub struct ContentWriter {
 }
 
 impl Model for ContentWriter {
-    ghost use Rattle.content_changes.specs.Rewriting.{Rewriting};
+    ghost use Rattle.content_laws.specs.Rewriting.{Rewriting};
 
     ghost Value = { Rewriting };
 
@@ -61,7 +61,7 @@ impl ContentWriter {
         self.first
     }
 
-    /// The sealed chunks, one behind the other, each of 32,796 bytes but the last, which may be shorter.
+    /// The sealed chunks, one after the other, each of 32,796 bytes but the last, which may be shorter.
     pub fn sealed(&self) -> &[u8]
         ensures { chunks_of SEALED_LENGTH result.now ≡ self.now.sealed }
     {
@@ -79,8 +79,8 @@ impl ContentWriter {
     /// bytes before them is filled with zeros. Only the header and the chunks that keep a byte are read, and nothing of the folder
     /// changes. A nonce is drawn for each chunk. It takes no memory. After an error the writer may hold anything.
     ///
-    /// `Damaged` comes where the header or a chunk that keeps a byte doesn't open; `Device` where the folder failed; `Random` where
-    /// a draw did.
+    /// `Damaged` is returned if the header or a chunk that keeps a byte doesn't open; `Device` if the folder failed; `Random` if a
+    /// draw did.
     pub fn seal_write<R: Reads, E: Entropy>(
         &mut self,
         folder: &mut R,
@@ -146,7 +146,7 @@ impl ContentWriter {
         reads_are_slices();
         let content = open_file(folder, keys, file)?;
         if content.length < len {
-            // Growth is a write of its last zero, behind a gap.
+            // Growth is a write of its last zero, after a gap.
             let write = Write {
                 at: len - 1,
                 input: &[0],

@@ -3,7 +3,7 @@ ghost use Rattle.std.specs.Int.{div_ceil};
 ghost use Rattle.outside.specs.Calls.{Rose, Changes, Extends};
 ghost use Rattle.outside.specs.Images.{disk_in};
 ghost use Rattle.tree_model.specs.Step.{file_limit};
-ghost use Rattle.content_changes.specs.Laws.{IsMet};
+ghost use Rattle.content_laws.specs.Laws.{IsMet};
 ghost use Rattle.content_writer.specs.Sealed.{AreFull, nonces_of};
 ghost use Rattle.content_writer.specs.Sealing.{HasFaulted, GoesOn, writing_of, HasSealed, AreSealedTo, IsLostChunk, IsLost};
 
@@ -11,7 +11,7 @@ use crate::error::WriteErr;
 use crate::opening::{OpenFile, fetch};
 use crate::plaintext::Plaintext;
 use crate::sealed::{CHUNK_LIMIT, SealedChunks};
-use content_changes::written_chunk;
+use content_laws::written_chunk;
 use file_chunks::CHUNK_LENGTH;
 use outside::{Entropy, Reads};
 use vault_path::VaultPath;
@@ -59,7 +59,7 @@ pub(crate) fn seal_written<R: Reads, E: Entropy>(
     Ok(())
 }
 
-// Seals the chunk of an index that a write meets behind the others. Where the write replaces it whole, the old one isn't read.
+// Seals the chunk of an index that a write meets after the others. If the write replaces it whole, the old one isn't read.
 fn seal_one<R: Reads, E: Entropy>(
     folder: &mut R,
     path: &VaultPath,

@@ -96,7 +96,7 @@ far_then (x ∷ xs) ys part a b run far = inl (run.0, run.1, xs ++ part, far_the
 pub applied_then : (xs ys : List PlainDeed) (a b c : Disk) → DoesAll xs a b → Applies ys b c → Applies (xs ++ ys) a c
 applied_then xs ys a b c run more = record { part = xs ++ more.part; far = far_then xs ys more.part a b run more.far; does = does_then xs more.part a b c run more.does }
 
--- what breaks off goes no further, whatever comes behind it
+-- what breaks off goes no further, whatever follows it
 far_front : (xs ys part : List PlainDeed) (a c : Disk) → DoesAll part a c → GoesAsFar xs a part → (DoesAll xs a c → ⊥) → GoesAsFar (xs ++ ys) a part
 far_front [] ys part a c run far never = absurd (never (subst (λ (l : List PlainDeed). DoesAll l a c) far run))
 far_front (x ∷ xs) ys part a c run (inl far) never =
@@ -129,7 +129,7 @@ stopped_then xs ys a b c run stopped = record {
       stopped.cannot after (subst (λ (d : Disk). DoesAll ys d after) (same_run xs (now a) split.0 (now b) split.1 run) split.2);
 }
 
--- nothing behind one that breaks off is done
+-- nothing after one that breaks off is done
 pub stopped_at : (x : PlainDeed) (ys : List PlainDeed) (a c : Log) → HasBrokenOff x a c → HasStopped (x ∷ ys) a c
 stopped_at x ys a c off = record {
   applied = record { part = off.part; far = inr off.off; does = off.does };
@@ -270,7 +270,7 @@ applied_again xs part old new image far does tree apart amid =
     let again = again_amid part old new image does tree alone amid in
     (again.0, record { part = part; far = again_far xs old new image again.0 part far does again.1 again.2 alone amid.each; does = again.1 }, again.2)
 
--- ---- one deed, where it is told
+-- ---- one deed, if it is told
 
 pub did_keeps : (x : PlainDeed) (change : Change) → ((d : Disk) → CanDo change d → Does x d (done change d)) → (a b : Option Log) → Changes a b (HasDone change) → Changes a b (KeepsStill x)
 did_keeps x change does a b did = changed_by a b (HasDone change) (KeepsStill x) (λ old new h cannot. absurd (cannot (done change (now old)) (does (now old) h.0))) did
@@ -285,7 +285,7 @@ broke_keeps x change does a b broke = changed_by a b (HasBroken change) (KeepsSt
 pub same_keeps : (x : PlainDeed) (a b : Option Log) → b ≡ a → Changes a b (KeepsStill x)
 same_keeps x a b same = unchanged a b (KeepsStill x) same (λ l cannot. refl)
 
--- of a deed of which nothing is done where it can't be done whole
+-- of a deed of which nothing is done if it can't be done whole
 pub still_refused : (x : PlainDeed) → ((d : Disk) (part : List PlainDeed) → IsDoneOf x d part → part ≡ []) → (a b : Option Log) → Changes a b (KeepsStill x) → Changes a b (StaysRefused x)
 still_refused x none a b keeps = changed_by a b (KeepsStill x) (StaysRefused x)
     (λ old new still part off. subst (λ (l : List PlainDeed). StaysAmid l old new) (sym (none (now old) part off.1)) (subst (StaysAmid [] old) (sym (still off.0)) (all_still [] old))) keeps
@@ -318,7 +318,7 @@ one_stopped phase d is a b off =
 
 -- ---- deeds of a phase
 
--- a deed between those before it and those behind
+-- a deed between those before it and those after
 pub around : (phase : Phase) (ds : List PlainDeed) (i : ℕ) (d : PlainDeed) → drop i ds ≡ d ∷ drop (suc i) ds
     → of_phase phase ds ≡ of_phase phase (take i ds) ++ (of_phase phase (d ∷ []) ++ of_phase phase (drop (suc i) ds))
 around phase ds i d here =

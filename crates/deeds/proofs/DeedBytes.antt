@@ -7,7 +7,7 @@ use Rattle.deeds.specs.Grammar.{spelled_path, spelled_bytes, spelled_deed, rise_
 use Rattle.deeds.specs.Reading.{◌>>=◌, number_at, path_at, string_at, ranges_at, make_dir_at, put_at, rename_at, remove_at, remove_dir_at, reshape_at, deed_by, deed_at}
 use Rattle.deeds.proofs.Fields.{IsBytes, IsBytes-rest, bind_some, guard_some, some_is, Takes, Takes-then, wide64, number_takes, number_again, path_takes, path_again, string_takes, string_again, spelled_ranges, ranges_take, ranges_again}
 
--- the kind stands in front
+-- the kind is in front
 abbrev Follows : ℕ → List ℕ → PlainDeed × List ℕ → Type 0
 Follows kind bytes x = Takes (kind ∷ bytes) (spelled_deed x.0) x.1 × IsDeed x.0
 

@@ -32,7 +32,7 @@ broke_goes_on change old new (inr broke) = goes_by_one (Broke change broke.0) ol
 pub leaves_go_on : (old new : Log) (P : Disk → Type 0) → LeavesOnly old new P → LogGoesOn old new
 leaves_go_on old new P all = record { start = all.start; later = all.later }
 
--- ---- the same where it is told
+-- ---- the same if it is told
 
 pub still_grown : (a b : Option Log) → b ≡ a → Changes a b LogGoesOn
 still_grown a b same = unchanged a b LogGoesOn same goes_nowhere

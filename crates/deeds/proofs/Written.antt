@@ -36,7 +36,7 @@ range_in r (s ∷ front) rest = inr (range_in r front rest)
 
 -- ---- what is written so far
 
--- of a file these ranges; where there is none no call was made
+-- of a file these ranges; if there is none no call was made
 pub record HasWritten (p : Path) (front : Ranges) (old new : Log) : Type 0 where
   pub into : (was : List ℕ) → node_at (now old) p ≡ Some (file was) → CanWrite front was × (now new ≡ set_at (now old) p (Some (file (written front was))))
   pub none : (IsFile (now old) p → ⊥) → new ≡ old
@@ -55,7 +55,7 @@ nothing_written p log = record {
 written_here : (p : Path) (front : Ranges) (old mid : Log) (was : List ℕ) → HasWritten p front old mid → node_at (now old) p ≡ Some (file was) → node_at (now mid) p ≡ Some (file (written front was))
 written_here p front old mid was so_far here = ap (λ (d : Disk). node_at d p) (so_far.into was here).1 ∙ set_here (now old) p (Some (file (written front was))) p refl
 
--- a file is there, if one is where calls were made
+-- a file was there before the calls, if one is there after them
 was_file : (p : Path) (front : Ranges) (old mid : Log) → HasWritten p front old mid → IsFile (now mid) p → (IsFile (now old) p → ⊥) → ⊥
 was_file p front old mid so_far is never = never (subst (λ (l : Log). IsFile (now l) p) (so_far.none never) is)
 
@@ -119,7 +119,7 @@ module _ (p : Path) (len : ℕ) (all front : Ranges) (r : ℕ × List ℕ) (rest
     none = λ never. absurd (was_file p front old mid so_far (did.0.0, did.0.1) never);
   }
 
--- ---- the cut behind all of them
+-- ---- the cut after all of them
 
 module _ (p : Path) (len : ℕ) (all : Ranges) (old mid : Log) (so_far : HasWritten p all old mid) where
   no_cut : (part : List PlainDeed) → CanDo (SetLen p len) (now mid) → BreaksOff (Reshapes p len all) (now old) part → ⊥
@@ -202,7 +202,7 @@ cut_off p len all old mid new so_far (inl same) cannot = subst (HasBrokenOff (Re
         (λ (le : len ≤ length (written all was)). absurd (cannot (written all was, here, le)))
         (cases_lt (length (written all was)) len)
 
--- where it is told
+-- if it is told
 pub off_told : (a b c : Option Log) (fb fc : ℕ) (P : Log → Log → Type 0) (Q : Log → Log → Type 0) (Can : Log → Type 0) (R : Log → Log → Type 0) → ((x y z : Log) → P x y → Q y z → (Can y → ⊥) → R x z)
     → Changes a b P → Changes b c Q → IsUnfit b fb fc Can → Changes a c R
 off_told None None None fb fc P Q Can R f p q unfit = tt

@@ -8,8 +8,8 @@ use Rattle.deeds.specs.Deeds.{PlainDeed, MakesDir, Puts, Renames, Removes, Remov
 
 -- ---- of a reshaping
 
--- These ranges are written in order, and the call behind them can't be made: a write that begins behind the file's end, or behind all of them the
--- cut to a length that the file doesn't have.
+-- These ranges are written in order, and the call after them can't be made: a write that begins past the file's end, or after all of them the cut
+-- to a length that the file doesn't have.
 abbrev pub StopsBehind : ℕ → Ranges → List ℕ → Ranges → Type 0
 StopsBehind len [] bytes made = (length bytes < len) × (made ≡ [])
 StopsBehind len (r ∷ rs) bytes made =
@@ -53,7 +53,7 @@ pub record Applies (deeds : List PlainDeed) (old new : Disk) : Type 0 where
 
 -- ---- on a log
 
--- Whatever is done of them that way: where reads and images were amid its application, all that a stop might have left since is, too.
+-- Whatever is done of them that way: if reads and images were amid its application, all that a stop might have left since is, too.
 abbrev pub StaysApplied : List PlainDeed → Log → Log → Type 0
 StaysApplied deeds old new = (part : List PlainDeed) → GoesAsFar deeds (now old) part → StaysAmid part old new
 
@@ -61,7 +61,7 @@ StaysApplied deeds old new = (part : List PlainDeed) → GoesAsFar deeds (now ol
 abbrev pub StaysRefused : PlainDeed → Log → Log → Type 0
 StaysRefused deed old new = (part : List PlainDeed) → BreaksOff deed (now old) part → StaysAmid part old new
 
--- where it can't be done, no call is made
+-- if it can't be done, no call is made
 abbrev pub KeepsStill : PlainDeed → Log → Log → Type 0
 KeepsStill deed old new = ((after : Disk) → Does deed (now old) after → ⊥) → new ≡ old
 

@@ -103,7 +103,7 @@ IsOneOf deed (other ∷ others) = (deed ≡ other) ⊎ IsOneOf deed others
 
 -- ---- what a stop may leave while they are done on a disk
 
--- what is at a deed's own paths is what stood there, what the deed leaves, or something on the way
+-- what is at a deed's own paths is what was there, what the deed leaves, or something on the way
 abbrev pub OnTheWay : PlainDeed → Disk → Disk → Type 0
 OnTheWay (MakesDir path) disk image = (node_at image path ≡ node_at disk path) ⊎ (node_at image path ≡ Some folder)
 OnTheWay (Puts path bytes) disk image = (node_at image path ≡ node_at disk path) ⊎ IsFree (node_at image path)
@@ -136,7 +136,7 @@ IsAlikeBut j n a b = (q : Path) → q ≢ j → q ≢ n → node_at b q ≡ node
 abbrev pub AllOneOf : List PlainDeed → List PlainDeed → Type 0
 AllOneOf some deeds = (deed : PlainDeed) → IsOneOf deed some → IsOneOf deed deeds
 
--- Whatever batch they are of: where reads and images were amid its application, all that a stop might have left since is, too.
+-- Whatever batch they are of: if reads and images were amid its application, all that a stop might have left since is, too.
 abbrev pub StaysAmid : List PlainDeed → Log → Log → Type 0
 StaysAmid some old new =
     (deeds : List PlainDeed) (base : Disk) → AreApart deeds → AllOneOf some deeds
@@ -207,7 +207,7 @@ pub record IsRefusedAt (deeds : List PlainDeed) (index : ℕ) (disk : Disk) : Ty
   pub before : DoesAll (before_phase phase deeds) disk between
   pub refused : IsRefusedIn phase deeds index between
 
--- a deed was refused: P of the disk where it is told, and elsewhere the count rose
+-- a deed was refused: P of the disk if it is told, and else the count rose
 abbrev pub IsRefusal : Option Log → ℕ → ℕ → (Disk → Type 0) → Type 0
 IsRefusal None before after P = Rose before after
 IsRefusal (Some log) before after P = P (now log)

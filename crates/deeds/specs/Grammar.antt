@@ -47,7 +47,7 @@ spelled_deeds deeds = spelled_all spelled_deed deeds
 abbrev pub spelled : List PlainDeed → List ℕ
 spelled deeds = to_be_bytes w32 (length deeds) ++ spelled_deeds deeds
 
--- what stands behind the journal's gate: length[8], and the batch
+-- what follows the journal's gate: length[8], and the batch
 abbrev pub behind_gate : List PlainDeed → List ℕ
 behind_gate deeds = to_be_bytes w64 (length (spelled deeds)) ++ spelled deeds
 
@@ -91,7 +91,7 @@ pub record IsBatch (deeds : List PlainDeed) : Type 0 where
 
 -- ---- where bytes leave the grammar
 
--- behind good deeds, fewer than the count, no deed begins at this place of the batch
+-- after good deeds, fewer than the count, no deed begins at this place of the batch
 pub record IsBadDeed (count : ℕ) (deeds : List ℕ) (at : ℕ) : Type 0 where
   pub front : List PlainDeed
   pub rest : List ℕ
@@ -101,7 +101,7 @@ pub record IsBadDeed (count : ℕ) (deeds : List ℕ) (at : ℕ) : Type 0 where
   pub place : at ≡ 4 + length (spelled_deeds front)
   pub bad : (deed : PlainDeed) (tail : List ℕ) → IsDeed deed → rest ≡ spelled_deed deed ++ tail → ⊥
 
--- behind as many good deeds as the count says, bytes are left at this place of the batch
+-- after as many good deeds as the count says, bytes are left at this place of the batch
 pub record IsLeftOver (count : ℕ) (deeds : List ℕ) (at : ℕ) : Type 0 where
   pub front : List PlainDeed
   pub rest : List ℕ
@@ -114,8 +114,8 @@ pub record IsLeftOver (count : ℕ) (deeds : List ℕ) (at : ℕ) : Type 0 where
 abbrev pub count_of : List ℕ → ℕ
 count_of bytes = from_be_bytes w32 (take 4 bytes)
 
--- the first place outside of the grammar: 0 where the count doesn't fit, that of the first deed that is none, or that of the
--- first byte behind the last deed
+-- the first place outside of the grammar: 0 if the count doesn't fit, that of the first deed that is none, or that of the
+-- first byte after the last deed
 abbrev pub IsBadAt : List ℕ → ℕ → Type 0
 IsBadAt bytes at =
     ((length bytes < 4) × (at ≡ 0))

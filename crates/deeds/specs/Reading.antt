@@ -1,4 +1,4 @@
--- Reading the fields of a deed from left to right: the value and the bytes behind it, or none where they aren't in the grammar.
+-- Reading the fields of a deed from left to right: the value and the bytes after it, or none if they aren't in the grammar.
 use Rattle.std.specs.Prelude.{◌≡◌, ℕ, zero, suc, List, [], ◌∷◌, length, take, drop, Option, Some, None, Result, Ok, Err, ◌&&◌, nat_lt, nat_le, ◌==◌, if◌then◌else◌}
 use Rattle.std.specs.Int.{Width, w32, w64, byte_len, from_be_bytes}
 use Rattle.vault_path.specs.Parts.{is_part}

@@ -8,7 +8,7 @@ pub record IsWindow (from : ℕ) (text : List ℕ) (window : Window) (out : List
   pub used : window.used ≡ min (length out) (length text - from)
   pub filled : take window.used out ≡ take (length out) (drop from text)
 
--- whatever was passed before, these bytes are passed behind it
+-- whatever was passed before, these bytes are passed after it
 pub record Passes (bytes : List ℕ) (old new : Window) (before after : List ℕ) : Type 0 where
   pub room : length after ≡ length before
   pub passed : (from : ℕ) (text : List ℕ) → IsWindow from text old before → IsWindow from (text ++ bytes) new after

@@ -16,7 +16,8 @@ use crate::writing::{pass_deeds, spelled_len};
 use outside::Folder;
 use std::alloc::Global;
 
-/// How many bytes of a batch come before the deed at an index, or behind the last one where there is none.
+/// How many bytes of a batch precede the deed at an index, or the place after the last one if there is
+/// none.
 pub fn len_before(deeds: &[Deed], index: usize) -> usize
     requires { IsBatch (plains deeds.now) }
     ensures count { result ≡ 4 + length (spelled_deeds (take index (plains deeds.now))) }
@@ -25,7 +26,7 @@ pub fn len_before(deeds: &[Deed], index: usize) -> usize
     spelled_len(&deeds[..index.min(deeds.len())])
 }
 
-/// Fills `out` with the bytes that stand behind the journal's gate, from byte `from` of them on: the batch's length and the
+/// Fills `out` with the bytes that follow the journal's gate, from byte `from` of them on: the batch's length and the
 /// batch. Gives the number of bytes, as many as there are and `out` has room for. It takes no memory.
 pub fn write_batch(deeds: &[Deed], from: usize, out: &mut [u8]) -> usize
     requires { IsBatch (plains deeds.now) }
@@ -41,7 +42,7 @@ pub fn write_batch(deeds: &[Deed], from: usize, out: &mut [u8]) -> usize
     window.used
 }
 
-/// The deeds behind the count, and the bytes behind them.
+// The deeds after the count, and the bytes after them.
 fn deeds_of(alloc: Global, count: u32, bytes: &[u8]) -> Result<(Vec<Deed>, &[u8]), BatchErr>
     ensures found { IfOk result (λ x. (bytes.now ≡ spelled_deeds (plains x.0.items) ++ x.1.now)
         × (length (plains x.0.items) ≡ count) × AllByRecursion IsDeed (plains x.0.items)) }

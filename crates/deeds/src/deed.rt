@@ -14,7 +14,7 @@ use vault_path::VaultPath;
 /// A change of a folder that a batch names.
 #[derive(Debug, Drop)]
 pub enum Deed {
-    /// Makes a folder where there is none yet.
+    /// Makes a folder if there is none yet.
     MakeDir(VaultPath),
     /// Puts a file with these bytes.
     Put(VaultPath, Vec<u8>),
@@ -43,7 +43,7 @@ impl Deed {
     }
 }
 
-/// Whether nothing is at `from` and something is at `to`.
+// Whether nothing is at `from` and something is at `to`.
 fn is_moved<F: Reads>(folder: &mut F, from: &VaultPath, to: &VaultPath) -> Result<bool, FolderErr>
     ensures moved { IfOk result (λ moved. Told (F.log folder.old) (λ log. IsTrue moved ↔ IsDoneAlready (Renames from.now to.now) (now log))) }
     ensures log { F.log folder.new ≡ F.log folder.old }
@@ -56,7 +56,7 @@ fn is_moved<F: Reads>(folder: &mut F, from: &VaultPath, to: &VaultPath) -> Resul
     Ok(gone && there)
 }
 
-/// Makes a folder.
+// Makes a folder.
 fn do_make_dir<F: Folder>(folder: &mut F, path: &VaultPath) -> Result<(), FolderErr>
     ensures done { OnOk result (Changes (F.log folder.old) (F.log folder.new) (λ old new. Does (MakesDir path.now) (now old) (now new))) }
     ensures amid { Changes (F.log folder.old) (F.log folder.new) (StaysAmid (MakesDir path.now ∷ [])) }
@@ -71,7 +71,7 @@ fn do_make_dir<F: Folder>(folder: &mut F, path: &VaultPath) -> Result<(), Folder
     Ok(())
 }
 
-/// Puts a file.
+// Puts a file.
 fn do_put<F: Folder>(folder: &mut F, path: &VaultPath, bytes: &[u8]) -> Result<(), FolderErr>
     ensures done { OnOk result (Changes (F.log folder.old) (F.log folder.new) (λ old new. Does (Puts path.now bytes.now) (now old) (now new))) }
     ensures amid { Changes (F.log folder.old) (F.log folder.new) (StaysAmid (Puts path.now bytes.now ∷ [])) }
@@ -86,7 +86,7 @@ fn do_put<F: Folder>(folder: &mut F, path: &VaultPath, bytes: &[u8]) -> Result<(
     Ok(())
 }
 
-/// Removes a file.
+// Removes a file.
 fn do_remove<F: Folder>(folder: &mut F, path: &VaultPath) -> Result<(), FolderErr>
     ensures done { OnOk result (Changes (F.log folder.old) (F.log folder.new) (λ old new. Does (Removes path.now) (now old) (now new))) }
     ensures amid { Changes (F.log folder.old) (F.log folder.new) (StaysAmid (Removes path.now ∷ [])) }
@@ -101,7 +101,7 @@ fn do_remove<F: Folder>(folder: &mut F, path: &VaultPath) -> Result<(), FolderEr
     Ok(())
 }
 
-/// Removes a folder.
+// Removes a folder.
 fn do_remove_dir<F: Folder>(folder: &mut F, path: &VaultPath) -> Result<(), FolderErr>
     ensures done { OnOk result (Changes (F.log folder.old) (F.log folder.new) (λ old new. Does (RemovesDir path.now) (now old) (now new))) }
     ensures amid { Changes (F.log folder.old) (F.log folder.new) (StaysAmid (RemovesDir path.now ∷ [])) }
@@ -116,7 +116,7 @@ fn do_remove_dir<F: Folder>(folder: &mut F, path: &VaultPath) -> Result<(), Fold
     Ok(())
 }
 
-/// Moves a file that wasn't moved already.
+// Moves a file that wasn't moved already.
 fn do_rename<F: Folder>(folder: &mut F, from: &VaultPath, to: &VaultPath) -> Result<(), FolderErr>
     ensures done { OnOk result (Changes (F.log folder.old) (F.log folder.new) (λ old new. Does (Renames from.now to.now) (now old) (now new))) }
     ensures amid { Changes (F.log folder.old) (F.log folder.new) (StaysAmid (Renames from.now to.now ∷ [])) }
@@ -134,7 +134,7 @@ fn do_rename<F: Folder>(folder: &mut F, from: &VaultPath, to: &VaultPath) -> Res
     Ok(())
 }
 
-/// Does a deed. Where a file was moved already, nothing is done.
+/// Does a deed. If a file was moved already, nothing is done.
 pub fn do_deed<F: Folder>(folder: &mut F, deed: &Deed) -> Result<(), FolderErr>
     requires { IsWithin (plain deed.now) }
     ensures done { OnOk result (Changes (F.log folder.old) (F.log folder.new) (λ old new. Does (plain deed.now) (now old) (now new))) }
@@ -157,7 +157,7 @@ pub fn do_deed<F: Folder>(folder: &mut F, deed: &Deed) -> Result<(), FolderErr>
     }
 }
 
-/// Does the deeds of a phase in order, up to the first that isn't done.
+// Does the deeds of a phase in order, up to the first that isn't done.
 fn do_deeds<F: Folder>(folder: &mut F, deeds: &[Deed], phase: Phase) -> Result<(), DeedErr>
     requires within { AreWithin (plains deeds.now) }
     ensures done { OnOk result (Changes (F.log folder.old) (F.log folder.new) (λ old new. DoesAll (of_phase phase (plains deeds.now)) (now old) (now new))) }
@@ -174,7 +174,7 @@ fn do_deeds<F: Folder>(folder: &mut F, deeds: &[Deed], phase: Phase) -> Result<(
     Ok(())
 }
 
-/// Does a deed where it is of the phase, and names its index where it is refused.
+// Does a deed if it is of the phase, and names its index if it is refused.
 fn do_at<F: Folder>(folder: &mut F, deed: &Deed, index: usize, phase: Phase) -> Result<(), DeedErr>
     requires { IsWithin (plain deed.now) }
     ensures done { OnOk result (Changes (F.log folder.old) (F.log folder.new) (λ old new. DoesAll (of_phase phase (plain deed.now ∷ [])) (now old) (now new))) }

@@ -4,7 +4,7 @@ use thiserror::Error;
 /// Why bytes are no batch.
 #[derive(Clone, Copy, Debug, PartialEq, Eq, Error)]
 pub enum BatchErr {
-    /// The offset of the first deed that isn't in the grammar, or of the first byte behind the last deed; 0 where the count
+    /// The offset of the first deed that isn't in the grammar, or of the first byte after the last deed; 0 if the count
     /// doesn't fit.
     #[error("no batch from byte {0} on")]
     Bad(usize),

@@ -75,7 +75,7 @@ pub fn doing_beside()
         → (after : Disk) × DoesAll deeds other after × IsAlikeBut (one ∷ []) (two ∷ []) new after }
 {}
 
-/// Deeds that are done up to the first call whose condition fails leave one disk, and where all of them can be done, what doing them leaves. Done so
+/// Deeds that are done up to the first call whose condition fails leave one disk, and if all of them can be done, what doing them leaves. Done so
 /// again on any disk amid what was done of them, they leave the same. It does nothing.
 pub fn applying_again()
     ensures one { (deeds : List PlainDeed) (old new other : Disk) → Applies deeds old new → Applies deeds old other → new ≡ other }

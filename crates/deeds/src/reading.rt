@@ -102,7 +102,7 @@ fn short_of(bytes: &[u8]) -> Result<(&[u8], &[u8]), ReadErr>
     bytes_of(rest, len as usize)
 }
 
-/// The path of this many parts, at most 6.
+// The path of this many parts, at most 6.
 fn parts_of(count: u8, bytes: &[u8]) -> Result<(VaultPath, &[u8]), ReadErr>
     requires { count ≤ 6 }
     ensures { Gives (λ x. (x.0, x.1.now)) result (items_at part_at count bytes.now) }
@@ -168,7 +168,7 @@ fn ranges_of(alloc: Global, bytes: &[u8]) -> Result<(Vec<Range>, &[u8]), ReadErr
     some_ranges_of(alloc, count, rest)
 }
 
-/// Whether the range begins at `from` or later, and ends within the length.
+// Whether the range begins at `from` or later, and ends within the length.
 fn is_next(range: &Range, from: u64, len: u64) -> bool
     ensures { result ≡ (nat_le from range.now.at && nat_le (range.now.at + length range.now.bytes.items) len) }
 {
@@ -263,7 +263,7 @@ fn deed_by_kind(alloc: Global, kind: u8, bytes: &[u8]) -> Result<(Deed, &[u8]), 
     }
 }
 
-/// The deed at the front, and the bytes behind it.
+/// The deed at the front, and the bytes after it.
 #[tactic(auto, unfolding(crate::specs::Reading::deed_at))]
 pub fn deed_of(alloc: Global, bytes: &[u8]) -> Result<(Deed, &[u8]), ReadErr>
     ensures { Gives (λ x. (plain x.0, x.1.now)) result (deed_at bytes.now) }

@@ -34,7 +34,7 @@ pub fn is_repeatable(deeds: &[Deed]) -> bool
     all_apart(deeds) && is_unnamed(&journal_path(), deeds) && is_unnamed(&new_path(), deeds)
 }
 
-/// Whether no path is named by two of the deeds.
+// Whether no path is named by two of the deeds.
 fn all_apart(deeds: &[Deed]) -> bool
     ensures { IsTrue result ↔ AreApart (plains deeds.now) }
 {
@@ -46,7 +46,7 @@ fn all_apart(deeds: &[Deed]) -> bool
     true
 }
 
-/// Whether a deed names no path of the others.
+// Whether a deed names no path of the others.
 fn is_apart_from(deed: &Deed, others: &[Deed]) -> bool
     ensures { IsTrue result ↔ ApartFrom (plain deed.now) (plains others.now) }
 {
@@ -58,7 +58,7 @@ fn is_apart_from(deed: &Deed, others: &[Deed]) -> bool
     true
 }
 
-/// Whether none of the deeds names the path.
+// Whether none of the deeds names the path.
 fn is_unnamed(path: &VaultPath, deeds: &[Deed]) -> bool
     ensures { IsTrue result ↔ Unnamed path.now (plains deeds.now) }
 {
@@ -70,7 +70,7 @@ fn is_unnamed(path: &VaultPath, deeds: &[Deed]) -> bool
     true
 }
 
-/// Whether two deeds name different paths.
+// Whether two deeds name different paths.
 fn are_apart(one: &Deed, other: &Deed) -> bool
     ensures { IsTrue result
         ↔ (NoneIn (names (plain one.now)) (names (plain other.now)) × NoneIn (names (plain other.now)) (names (plain one.now))) }
@@ -85,7 +85,7 @@ fn are_apart(one: &Deed, other: &Deed) -> bool
     }
 }
 
-/// Whether a deed doesn't name the path.
+// Whether a deed doesn't name the path.
 fn is_beside(path: &VaultPath, deed: &Deed) -> bool
     ensures { IsTrue result ↔ NotIn path.now (names (plain deed.now)) }
 {
@@ -99,7 +99,7 @@ fn is_beside(path: &VaultPath, deed: &Deed) -> bool
     }
 }
 
-/// Whether two paths differ.
+// Whether two paths differ.
 fn differ(one: &VaultPath, other: &VaultPath) -> bool
     ensures { IsTrue result ↔ (one.now ≢ other.now) }
 {

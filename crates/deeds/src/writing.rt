@@ -64,7 +64,7 @@ fn pass_ranges(window: &mut Window, out: &mut [u8], ranges: &[Range])
     }
 }
 
-/// Passes a kind and one path.
+// Passes a kind and one path.
 fn pass_named(window: &mut Window, out: &mut [u8], kind: u8, path: &VaultPath)
     requires fits { window.old.used ≤ length out.old }
     ensures passes { Passes (kind ∷ spelled_path path.now) window.old window.new out.old out.new }
@@ -139,7 +139,7 @@ pub fn spelled_len(deeds: &[Deed]) -> usize
     requires { IsBatch (plains deeds.now) }
     ensures { result ≡ length (spelled (plains deeds.now)) }
 {
-    // a window that begins behind all of them passes them by
+    // a window that begins after all of them passes them by
     let mut window = Window {
         skip: usize::MAX,
         used: 0,

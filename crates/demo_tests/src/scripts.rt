@@ -2,7 +2,7 @@
 
 ghost use Rattle.std.specs.Prelude.{◌<◌};
 
-use demo_work::{script, stream_seed};
+use demonstration::{script, stream_seed};
 use sha2::{Digest, Sha256};
 use std::alloc::{AllocError, Global};
 use std::process::Abort;
@@ -15,7 +15,7 @@ fn hex_of(alloc: Global, client: u32, requests: u32) -> Result<String, AllocErro
     hex::encode(alloc, sent.as_slice())
 }
 
-/// A script's length and SHA-256.
+// A script's length and SHA-256.
 fn hash_of(
     alloc: Global,
     seed: u64,

@@ -1,6 +1,6 @@
 //! Summaries.
 
-use demo_work::{DemoRow, summary};
+use demonstration::{DemoRow, summary};
 use sha2::{Digest, Sha256};
 use std::alloc::{AllocError, Global};
 use std::process::Abort;

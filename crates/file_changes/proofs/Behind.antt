@@ -1,4 +1,4 @@
--- What waits before and behind a change of a file's content that waits too.
+-- What waits before and after a change of a file's content that waits too.
 use Rattle.std.proofs.Common.{◌≡◌, ◌≤◌, ℕ, List, [], length, map, Option, Some, None, IsSome, Result, Ok, Err, OnOk, refl, sym, ap, ◌∙◌, subst, inl, inr, arith}
 use Rattle.std.specs.Int.{div_ceil}
 use Rattle.std.specs.Option.{option_map}
@@ -21,17 +21,17 @@ use Rattle.tree_model.specs.Rows.{Content}
 use Rattle.tree_model.specs.Asked.{PlainRequest}
 use Rattle.tree_model.specs.Step.{Answer}
 use Rattle.clear_tree.specs.Walk.{Sealing}
-use Rattle.directory_scan.specs.Format.{sealing_of}
+use Rattle.tree_loading.specs.Format.{sealing_of}
 use Rattle.live_tree.specs.Held.{HeldTree, path_of}
-use Rattle.held_changes.specs.Writing.{IsRewritten}
-use Rattle.content_changes.specs.Rewriting.{Rewriting, rewritten}
-use Rattle.content_deeds.specs.Deeds.{rewriting_in}
+use Rattle.live_tree_laws.specs.Writing.{IsRewritten}
+use Rattle.content_laws.specs.Rewriting.{Rewriting, rewritten}
+use Rattle.write_back.specs.Deeds.{rewriting_in}
 use Rattle.content_writer.specs.Sealed.{nonces_of}
 use Rattle.write_back.specs.Shown.{HasFile}
 use Rattle.node_changes.specs.Changed.{StandsOn, IsStepAnswer, IsLate}
 use Rattle.node_changes.specs.Within.{AreWithin}
 use Rattle.node_changes.proofs.Beside.{stands_beside}
-use Rattle.change_plans.specs.Files.{IsFileOf}
+use Rattle.request_checks.specs.Files.{IsFileOf}
 use Rattle.file_changes.specs.Held.{rewritten_tree, RowsAreRewritten}
 use Rattle.file_changes.specs.Steps.{ChangesContent}
 use Rattle.file_changes.specs.Files.{IsSealedFor, IsSealedIn}
@@ -48,7 +48,7 @@ pub record IsReadyOver (waiting : List PlainDeed) (path : HostPath) (len : ℕ) 
   pub waits : CanWait waiting (now log)
   pub there : HasFile waiting path len (now log)
 
--- A change of such a host file waits besides: what waited before may have been committed, and over what waited behind that the file is
+-- A change of such a host file waits besides: what waited before may have been committed, and over what waited after that the file is
 -- rewritten, and nothing else.
 pub record IsPutBehind (path : HostPath) (len : ℕ) (rewriting : Rewriting) (waiting waiting' : List PlainDeed) (old new : Log) : Type 0 where
   pub middle : List PlainDeed
@@ -161,7 +161,7 @@ ready_after waiting middle path len inside old new flushed ready =
       };
     }
 
--- such a host file, once what waits is done behind a flush
+-- such a host file, once what waits is done after a flush
 pub told_file_behind : (waiting middle : List PlainDeed) (path : HostPath) (len : ℕ) → IsInside path → (old new : Option Log) → Told old (IsReadyOver waiting path len)
     → Changes old new (MayBeFlushed waiting middle) → Told new (λ (l : Log). HasFile middle path len (now l))
 told_file_behind waiting middle path len inside old new ready flushed =
@@ -193,9 +193,9 @@ flushed_after (Ok x) waiting waiting' before after none committed any =
 pub chunk_count_is : (bytes : List ℕ) (size : ℕ) → length (map (slice_chunk bytes size) (range_with_len 0 (div_ceil (length bytes) size))) ≡ div_ceil (length bytes) size
 chunk_count_is bytes size = length-map (range_with_len 0 (div_ceil (length bytes) size)) (slice_chunk bytes size) ∙ length-range_with_len 0 (div_ceil (length bytes) size)
 
--- ---- a change is put behind it
+-- ---- a change is put after it
 
--- what is known of a put, by what is told of the calls before and behind it
+-- what is known of a put, by what is told of the calls before and after it
 pub put_behind : (path : HostPath) (len : ℕ) (r r' : Rewriting) (waiting middle waiting' : List PlainDeed) (old new new' : Option Log) → r' ≡ r → new' ≡ new
     → Changes old new (MayBeFlushed waiting middle) → waiting' ≡ rewriting_in path len r' middle → Told new' (λ (l : Log). CanWait waiting' (now l))
     → Told new (λ (l : Log). (bytes : List ℕ) → thing_at (laid middle (now l)) path ≡ Some (host_file bytes) → IsRewritten (laid middle (now l)) (laid waiting' (now l)) path (rewritten bytes r'))

@@ -1,13 +1,13 @@
--- Where the host file of a file stands in memory.
+-- Where the host file of a file is in memory.
 use Rattle.std.proofs.Common.{◌≡◌, ◌≢◌, ℕ, List, Option, Some, None, IsSome, refl, sym, ap, ◌∙◌, subst, true≢false}
 use Rattle.std.specs.Option.{option_and_then}
 use Rattle.tree_model.specs.Rows.{root}
 use Rattle.clear_tree.specs.Kept.{What, folder_in, path_in, file_path, size_in}
 use Rattle.live_tree.specs.Held.{HeldNode, HeldTree, node_of, parent_folder, path_of, size_of, IsTree}
-use Rattle.held_changes.proofs.Paths.{one_held}
+use Rattle.live_tree_laws.proofs.Paths.{one_held}
 use Rattle.node_changes.proofs.Nodes.{above_there}
 use Rattle.clear_tree.specs.Built.{IsFile}
-use Rattle.change_plans.specs.Files.{IsFileOf}
+use Rattle.request_checks.specs.Files.{IsFileOf}
 use Rattle.file_changes.specs.Held.{IsHeldFile}
 
 -- a file isn't the root

@@ -5,8 +5,8 @@ use Rattle.outside.specs.Disk.{Disk, Path as HostPath}
 use Rattle.outside.specs.Images.{Log, now}
 use Rattle.outside.proofs.Told.{told_then}
 use Rattle.deeds.specs.Deeds.{PlainDeed, DoesAll, in_order}
-use Rattle.content_changes.specs.Rewriting.{Rewriting}
-use Rattle.content_deeds.specs.Deeds.{deeds_of, DeedsRewrite}
+use Rattle.content_laws.specs.Rewriting.{Rewriting}
+use Rattle.write_back.specs.Deeds.{deeds_of, DeedsRewrite}
 use Rattle.content_writer.specs.Sealed.{IsPuttable}
 use Rattle.pending_files.specs.Pending.{IsInside}
 use Rattle.file_changes.specs.Files.{HasFileFor}

@@ -10,33 +10,33 @@ use Rattle.tree_model.specs.Step.{Answer, Stepped, set_row, step, stepped, with_
 use Rattle.clear_tree.specs.Walk.{Sealing, Node, File, Link, Dir, Bad}
 use Rattle.clear_tree.specs.Kept.{What, KeptFile, what_of}
 use Rattle.clear_tree.specs.Kept.{content_of as content_by}
-use Rattle.directory_scan.specs.Format.{sealing_of}
+use Rattle.tree_loading.specs.Format.{sealing_of}
 use Rattle.file_chunks.specs.File.{content_of}
-use Rattle.tree_changes.specs.Trees.{Tree, IsTreeOf}
-use Rattle.tree_changes.specs.Deeds.{place_of}
+use Rattle.tree_deed_laws.specs.Trees.{Tree, IsTreeOf}
+use Rattle.tree_deed_laws.specs.Deeds.{place_of}
 use Rattle.live_tree.specs.Held.{HeldTree, live_row, live_rows, path_of}
 use Rattle.live_tree.specs.Changes.{touched, wrapped, AgreeBut}
-use Rattle.held_changes.specs.Holds.{IsAt, Holds}
-use Rattle.held_changes.specs.Found.{HasBytes}
-use Rattle.held_changes.specs.Writing.{with_file, file_at}
-use Rattle.held_changes.specs.Writing.{IsRewritten as HasOtherBytes}
-use Rattle.held_changes.proofs.Contents.{writing_keeps_contents, dating_keeps_contents}
-use Rattle.held_changes.proofs.Files.{nodes_have_bytes, files_stand_at_places}
-use Rattle.held_changes.proofs.Numbers.{nodes_have_rows}
-use Rattle.held_changes.proofs.Rewriting.{contents_change}
-use Rattle.stray_entries.specs.Strays.{KeepsStrays}
-use Rattle.stray_entries.proofs.Laws.{rewritten_file_keeps}
-use Rattle.held_changes.proofs.Writing.{writing_holds, dating_holds}
+use Rattle.live_tree_laws.specs.Holds.{IsAt, Holds}
+use Rattle.live_tree_laws.specs.Found.{HasBytes}
+use Rattle.live_tree_laws.specs.Writing.{with_file, file_at}
+use Rattle.live_tree_laws.specs.Writing.{IsRewritten as HasOtherBytes}
+use Rattle.live_tree_laws.proofs.Contents.{writing_keeps_contents, dating_keeps_contents}
+use Rattle.live_tree_laws.proofs.Files.{nodes_have_bytes, files_stand_at_places}
+use Rattle.live_tree_laws.proofs.Numbers.{nodes_have_rows}
+use Rattle.live_tree_laws.proofs.Rewriting.{contents_change}
+use Rattle.live_tree_laws.specs.Strays.{KeepsStrays}
+use Rattle.live_tree_laws.proofs.Laws.{rewritten_file_keeps}
+use Rattle.live_tree_laws.proofs.Writing.{writing_holds, dating_holds}
 use Rattle.name_places.proofs.Lowest.{writing_keeps, dating_keeps}
-use Rattle.content_changes.specs.Rewriting.{Rewriting, rewritten}
-use Rattle.content_changes.specs.Laws.{IsRewritten}
+use Rattle.content_laws.specs.Rewriting.{Rewriting, rewritten}
+use Rattle.content_laws.specs.Laws.{IsRewritten}
 use Rattle.content_reader.specs.Reading.{IsFileOf as IsHostFileOf}
-use Rattle.content_deeds.specs.Deeds.{DeedsRewrite, Rewrites}
+use Rattle.write_back.specs.Deeds.{DeedsRewrite, Rewrites}
 use Rattle.content_writer.specs.Sealed.{IsPuttable}
 use Rattle.pending_files.specs.Pending.{IsInside}
 use Rattle.node_changes.specs.Changed.{StandsOn, ShowsRows}
 use Rattle.node_changes.proofs.Nodes.{IsBelow, is_below}
-use Rattle.change_plans.specs.Files.{IsFileOf}
+use Rattle.request_checks.specs.Files.{IsFileOf}
 use Rattle.file_changes.specs.Files.{HasFileFor, IsSealedFor}
 use Rattle.file_changes.specs.Held.{rewritten_tree, RowsAreRewritten}
 use Rattle.file_changes.specs.Steps.{dated, IsContentStep}

@@ -14,21 +14,21 @@ use Rattle.tree_model.specs.Rows.{Content}
 use Rattle.tree_model.specs.Asked.{PlainRequest}
 use Rattle.tree_model.specs.Step.{Answer, refuses, step}
 use Rattle.clear_tree.specs.Walk.{Sealing}
-use Rattle.directory_scan.specs.Format.{sealing_of}
+use Rattle.tree_loading.specs.Format.{sealing_of}
 use Rattle.file_chunks.specs.File.{content_of}
 use Rattle.live_tree.specs.Held.{HeldTree, live_rows, path_of}
-use Rattle.content_changes.specs.Rewriting.{Rewriting}
+use Rattle.content_laws.specs.Rewriting.{Rewriting}
 use Rattle.content_reader.specs.Reading.{IsFileOf as IsHostFileOf}
 use Rattle.content_writer.specs.declared.error.WriteErr.{WriteErr}
 use Rattle.content_writer.specs.declared.error.WriteErr.TheVariants as write_errs
 use Rattle.content_writer.specs.Sealed.{IsPuttable, nonces_of}
 use Rattle.content_writer.specs.Sealing.{HasFaulted}
-use Rattle.content_deeds.specs.Deeds.{deeds_of, DeedsRewrite, Rewrites}
+use Rattle.write_back.specs.Deeds.{deeds_of, DeedsRewrite, Rewrites}
 use Rattle.pending_files.specs.Pending.{IsInside}
 use Rattle.node_changes.specs.Changed.{StandsOn, IsAtRest, MakesStep, ShowsRows, IsStepAnswer, IsLate, HasChanged, MayHaveChanged, MayRefuse}
 use Rattle.node_changes.specs.Causes.{RefusalCause}
 use Rattle.file_changes.specs.Causes.{ContentCause, write_refusal}
-use Rattle.change_plans.specs.Files.{IsFileOf}
+use Rattle.request_checks.specs.Files.{IsFileOf}
 use Rattle.file_changes.specs.Files.{HasFileFor, IsSealedFor, IsSealedIn}
 use Rattle.file_changes.specs.Held.{rewritten_tree, RowsAreRewritten}
 use Rattle.file_changes.specs.Rewritten.{DrawsNonces, HasRewritten, MayHaveRewritten}

@@ -7,8 +7,8 @@ use Rattle.pending_files.specs.Pending.{cut_in, is_at, put_in, without}
 use Rattle.clear_tree.specs.Places.{host_inner, text_symlink}
 use Rattle.clear_tree.specs.Kept.{KeptNode, What, KeptFile, KeptLink, KeptDir, KeptBad, file_path, path_in}
 use Rattle.live_tree.specs.Held.{HeldNode, HeldTree, node_of, parent_folder, path_of}
-use Rattle.content_changes.specs.Rewriting.{Rewriting, place_of_chunk}
-use Rattle.content_deeds.specs.Deeds.{chunks_in, longer, puts_or_cut, rewriting_in}
+use Rattle.content_laws.specs.Rewriting.{Rewriting, place_of_chunk}
+use Rattle.write_back.specs.Deeds.{chunks_in, longer, puts_or_cut, rewriting_in}
 use Rattle.node_changes.specs.Within.{IsWithin, AreWithin}
 use Rattle.node_changes.proofs.Within.{in_data, within_both}
 
@@ -58,6 +58,6 @@ module _ (path : HostPath) (within : IsWithin path) where
   any size len first [] deeds all = cut size deeds all
   any size len first (x ∷ more) deeds all = chunks size len first (x ∷ more) deeds all
 
-  -- a change of the file that waits behind others
+  -- a change of the file that waits after others
   pub rewriting_within : (len : ℕ) (r : Rewriting) (deeds : List PlainDeed) → AreWithin deeds → AreWithin (rewriting_in path len r deeds)
   rewriting_within len r deeds all = any r.size len r.first r.sealed deeds all

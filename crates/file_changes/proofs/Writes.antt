@@ -10,13 +10,13 @@ use Rattle.tree_model.specs.Asked.{write, count}
 use Rattle.tree_model.specs.Step.{Stepped, early, file_limit, gap_limit, growth_refusal, is_bad_size, refuses, says, set_row, step, stepped, with_content, write_refusal, write_step}
 use Rattle.tree_model.proofs.Steps.{step_worked}
 use Rattle.clear_tree.specs.Kept.{What, kind_of}
-use Rattle.directory_scan.specs.Format.{sealing_of}
+use Rattle.tree_loading.specs.Format.{sealing_of}
 use Rattle.file_chunks.specs.File.{content_of, clear_length, IsKey}
 use Rattle.file_chunks.proofs.Contents.{good_content, length-content}
 use Rattle.live_tree.specs.Held.{HeldTree, live_row, live_rows}
-use Rattle.held_changes.proofs.Numbers.{nodes_have_rows}
+use Rattle.live_tree_laws.proofs.Numbers.{nodes_have_rows}
 use Rattle.node_changes.specs.Changed.{StandsOn}
-use Rattle.change_plans.specs.Files.{IsWritable}
+use Rattle.request_checks.specs.Files.{IsWritable}
 use Rattle.file_changes.specs.Steps.{IsContentStep, ChangesContent}
 use Rattle.file_changes.proofs.Standing.{old, old_long, content_of_row}
 

@@ -11,7 +11,8 @@ write_refusal write_errs.Damaged = refusals.Damaged
 write_refusal write_errs.Device = refusals.DeviceFault
 write_refusal write_errs.Random = refusals.RandomFault
 
--- no others come: the file is damaged, or there is a fault, given what says that the folder failed and that the random source did
+-- there are no others: the file is damaged, or there is a fault, given what says that the folder failed and that the random
+-- source did
 abbrev pub ContentCause : Type 0 → Type 0 → Refusal → Type 0
 ContentCause folder entropy refusals.Damaged = ⊤
 ContentCause folder entropy refusals.DeviceFault = folder

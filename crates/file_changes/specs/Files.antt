@@ -7,8 +7,8 @@ use Rattle.siv_mode.specs.Keys.{KeyPair}
 use Rattle.tree_model.specs.Rows.{Content}
 use Rattle.file_chunks.specs.File.{content_of}
 use Rattle.content_reader.specs.Reading.{IsFileOf as IsHostFileOf}
-use Rattle.content_changes.specs.Rewriting.{Rewriting, CanPut}
-use Rattle.content_changes.specs.Laws.{IsRewritten}
+use Rattle.content_laws.specs.Rewriting.{Rewriting, CanPut}
+use Rattle.content_laws.specs.Laws.{IsRewritten}
 
 -- a host file at a path can be rewritten so
 pub record HasFileFor (d : Disk) (path : HostPath) (r : Rewriting) : Type 0 where

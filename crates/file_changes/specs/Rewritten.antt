@@ -8,9 +8,9 @@ use Rattle.tree_model.specs.Asked.{PlainRequest}
 use Rattle.tree_model.specs.Step.{Answer}
 use Rattle.clear_tree.specs.Walk.{Sealing}
 use Rattle.live_tree.specs.Held.{HeldTree}
-use Rattle.content_changes.specs.Rewriting.{Rewriting}
+use Rattle.content_laws.specs.Rewriting.{Rewriting}
 use Rattle.content_writer.specs.Sealed.{nonces_of}
-use Rattle.content_deeds.specs.Deeds.{deeds_of}
+use Rattle.write_back.specs.Deeds.{deeds_of}
 use Rattle.node_changes.specs.Changed.{HasChanged, MayHaveChanged}
 
 -- The deeds rewrite a host file in chunks whose nonces were drawn for them, one after the other, and nothing else was drawn.

@@ -16,7 +16,7 @@ dated None row = row
 dated (Some modified) row = record row { modified = modified }
 
 -- With these contents the step of a request gives the file of a number the content that a change makes of its own, besides an mtime, if one
--- is given, and this answer; where the change makes none of it, the step refuses it as damaged.
+-- is given, and this answer; if the change makes none of it, the step refuses it as damaged.
 pub record IsContentStep (live : HeldTree) (number : ℕ) (change : Content → Option Content) (modified : Option ℕ) (second : ℕ) (request : PlainRequest) (answer : Answer) (contents : ℕ → Content) : Type 0 where
   pub row : Row
   pub there : row_of (live_rows contents live) number ≡ Some row
@@ -25,7 +25,7 @@ pub record IsContentStep (live : HeldTree) (number : ℕ) (change : Content → 
       → step (live_rows contents live) request second ≡ stepped (set_row (live_rows contents live) (dated modified (with_content row content second))) answer
   pub damaged : change row.content ≡ None → (step (live_rows contents live) request second).answer ≡ refuses refusals.Damaged
 
--- the same with all contents that the tree may stand on
+-- the same with all contents that the tree may be on
 abbrev pub ChangesContent : Sealing → HeldTree → List (List ℕ × ℕ) → ℕ → (Content → Option Content) → Option ℕ → ℕ → PlainRequest → Answer → Type 0
 ChangesContent s live claims number change modified second request answer =
     (d : Disk) (contents : ℕ → Content) → StandsOn s d live claims contents → IsContentStep live number change modified second request answer contents

@@ -11,12 +11,12 @@ use Rattle.tree_model.specs.Asked.{PlainRequest}
 use Rattle.tree_model.specs.Step.{Answer, step}
 use Rattle.clear_tree.specs.Walk.{Sealing}
 use Rattle.live_tree.specs.Held.{HeldTree, live_rows}
-use Rattle.content_changes.specs.Rewriting.{Rewriting}
-use Rattle.content_deeds.specs.Deeds.{rewriting_in}
+use Rattle.content_laws.specs.Rewriting.{Rewriting}
+use Rattle.write_back.specs.Deeds.{rewriting_in}
 use Rattle.content_writer.specs.Sealed.{nonces_of}
 use Rattle.node_changes.specs.Changed.{IsLate, IsStepAnswer, ShowsRows, StandsOn}
 use Rattle.node_changes.specs.Within.{AreWithin}
-use Rattle.stray_entries.specs.Strays.{KeepsStrays}
+use Rattle.live_tree_laws.specs.Strays.{KeepsStrays}
 
 -- the journal is quiet, what waits can be done, and the tree in memory is that of the disk once it is
 pub record IsAtRestOver (s : Sealing) (live : HeldTree) (claims : List (List ℕ × ℕ)) (waiting : List PlainDeed) (log : Log) : Type 0 where

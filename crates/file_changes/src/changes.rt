@@ -4,12 +4,12 @@ ghost use Rattle.outside.specs.Calls.{Changes, Rose, Told};
 ghost use Rattle.outside.specs.Images.{disk_in};
 ghost use Rattle.tree_model.specs.Asked.{PlainRequest, write, count, write_limit};
 ghost use Rattle.tree_model.specs.Step.{Answer, says};
-ghost use Rattle.directory_scan.specs.Format.{sealing_of};
+ghost use Rattle.tree_loading.specs.Format.{sealing_of};
 ghost use Rattle.content_writer.specs.Sealing.{GoesOn};
 ghost use Rattle.node_changes.specs.Changed.{IsAtRest, HasChanged, MayHaveChanged, MayRefuse};
 ghost use Rattle.node_changes.specs.Causes.{ErrCause, IfBroken, IfRefused, IsUnchanged};
 ghost use Rattle.file_changes.specs.Causes.{ContentCause, write_refusal};
-ghost use Rattle.change_plans.specs.Files.{IsResizable, IsWritable};
+ghost use Rattle.request_checks.specs.Files.{IsResizable, IsWritable};
 ghost use Rattle.file_changes.specs.Rewritten.{HasRewritten, MayHaveRewritten};
 ghost use Rattle.file_changes.specs.Steps.{IsResizing};
 ghost use Rattle.file_changes.specs.Waiting.{HasPut, HasWritten, IsAtRestOver, IsNotFlushed};
@@ -18,21 +18,20 @@ ghost use Rattle.pending_files.specs.Laid.{laid_log};
 use crate::file::sealed_file;
 use crate::room::FileChanges;
 use chunk_journal::Journal;
-use content_deeds::deeds_rewrite;
 use content_writer::WriteErr;
 use node_changes::{ChangeErr, VaultTree};
 use outside::{Entropy, Folder};
 use tree_model::Refusal;
-use write_back::WriteBack;
+use write_back::{WriteBack, deeds_rewrite};
 
 impl FileChanges {
     /// Writes 1 to 65,537 bytes into the file of a number from byte `at` on, at a second since 1970-01-01. A gap of at most
     /// 1,048,576 bytes between the file's end and `at` is filled with zeros, and the file has at most 2^40 bytes afterwards. What is
-    /// written waits; where there is no room for it, what waited before is committed. It takes no memory.
+    /// written waits; if there is no room for it, what waited before is committed. It takes no memory.
     ///
-    /// It is refused as `Damaged` where the file's header or a chunk that keeps a byte doesn't open, as `DeviceFault` where the
-    /// folder failed in a read, as `RandomFault` where the random source failed. After `Broken`, which is of what waited before, the
-    /// folder's count of faults rose, and the tree in memory is the one without the write.
+    /// It is refused as `Damaged` if the file's header or a chunk that keeps a byte doesn't open, as `DeviceFault` if the folder
+    /// failed in a read, as `RandomFault` if the random source failed. After `Broken`, which is of what waited before, the folder's
+    /// count of faults rose, and the tree in memory is the one without the write.
     pub fn write<D: Folder, E: Entropy>(
         &mut self,
         tree: &mut VaultTree,
@@ -89,11 +88,11 @@ impl FileChanges {
         }
     }
 
-    /// Gives the file of a number the length 0, at a second since 1970-01-01. That waits as a write does; where there is no room for
+    /// Gives the file of a number the length 0, at a second since 1970-01-01. That waits as a write does; if there is no room for
     /// it, what waited before is committed. It takes no memory.
     ///
-    /// It is refused as `Damaged` where the file's header doesn't open, as `DeviceFault` where the folder failed in a read, as
-    /// `RandomFault` where the random source failed. After `Broken`, which is of what waited before, the folder's count of faults
+    /// It is refused as `Damaged` if the file's header doesn't open, as `DeviceFault` if the folder failed in a read, as
+    /// `RandomFault` if the random source failed. After `Broken`, which is of what waited before, the folder's count of faults
     /// rose, and the tree in memory is the one with the old length.
     pub fn truncate<D: Folder, E: Entropy>(
         &mut self,
@@ -153,13 +152,13 @@ impl FileChanges {
         }
     }
 
-    /// Gives the file of a number another length in bytes, at a second since 1970-01-01, by a cut or by zeros behind its end, of
+    /// Gives the file of a number another length in bytes, at a second since 1970-01-01, by a cut or by zeros after its end, of
     /// which there are at most 1,048,576; it has at most 2^40 bytes afterwards. `modified` is an mtime that is set besides. It
     /// takes no memory.
     ///
-    /// It is refused as `Damaged` where the file's header or a chunk of which a part is kept doesn't open, as `DeviceFault` where
-    /// the folder failed in a read, as `RandomFault` where the random source failed. After `Broken` the folder's count of faults
-    /// rose, and the tree in memory is the one with the other length.
+    /// It is refused as `Damaged` if the file's header or a chunk of which a part is kept doesn't open, as `DeviceFault` if the
+    /// folder failed in a read, as `RandomFault` if the random source failed. After `Broken` the folder's count of faults rose,
+    /// and the tree in memory is the one with the other length.
     pub fn resize<D: Folder, E: Entropy>(
         &mut self,
         tree: &mut VaultTree,

@@ -4,21 +4,21 @@ ghost use Rattle.outside.specs.Images.{now as disk_now};
 ghost use Rattle.pending_files.specs.Pending.{IsInside};
 ghost use Rattle.chunk_journal.specs.Journal.{IsQuiet, AnyMoment, HasCommitted};
 ghost use Rattle.content_writer.specs.Sealed.{IsPuttable};
-ghost use Rattle.content_deeds.specs.Deeds.{deeds_of};
+ghost use Rattle.write_back.specs.Deeds.{deeds_of};
 ghost use Rattle.file_changes.specs.Files.{HasFileFor};
 ghost use Rattle.file_changes.specs.Held.{IsHeldFile, rewritten_tree, RowsAreRewritten};
 
 use crate::file::put_size;
 use crate::room::FileChanges;
 use chunk_journal::{Device, Journal};
-use content_deeds::{SealedChunks, deeds_rewrite, put_chunks};
 use content_reader::SealedFile;
 use node_changes::VaultTree;
 use outside::Folder;
+use write_back::{SealedChunks, deeds_rewrite, put_chunks};
 
 impl FileChanges {
     /// Commits the chunks that are sealed for a host file, and puts its size and an mtime, if one is given, into the tree in
-    /// memory, also where the commit fails. `Device` says that the folder's count of faults rose in this call.
+    /// memory, even if the commit fails. `Device` says that the folder's count of faults rose in this call.
     pub(crate) fn commit<D: Folder>(
         &mut self,
         tree: &mut VaultTree,

@@ -1,13 +1,13 @@
 ghost use Rattle.std.specs.Prelude.{◌≡◌, ℕ, Some};
 ghost use Rattle.live_tree.specs.Held.{path_of};
 ghost use Rattle.pending_files.specs.Pending.{IsInside};
-ghost use Rattle.change_plans.specs.Files.{IsFileOf};
+ghost use Rattle.request_checks.specs.Files.{IsFileOf};
 ghost use Rattle.file_changes.specs.Held.{IsHeldFile, rewritten_tree, RowsAreRewritten};
 
 use content_reader::SealedFile;
 use node_changes::VaultTree;
 
-/// Where the host file of a file stands, and how many bytes it has.
+/// Where the host file of a file is, and how many bytes it has.
 pub(crate) fn sealed_file(tree: &VaultTree, number: u64) -> SealedFile
     requires { (size : ℕ) × (clear : ℕ) × IsFileOf tree.now.live number size clear }
     ensures path { path_of tree.now.live number ≡ Some result.path }

@@ -14,7 +14,7 @@ pub struct FileChanges {
 }
 
 impl FileChanges {
-    /// Takes the room. Fails only where memory runs out.
+    /// Takes the room. Fails only if memory runs out.
     pub fn new(alloc: Global) -> Result<FileChanges, AllocError> {
         Ok(FileChanges {
             writer: ContentWriter::new(alloc)?,

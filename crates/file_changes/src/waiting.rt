@@ -7,10 +7,10 @@ ghost use Rattle.chunk_journal.specs.Journal.{IsQuiet, AnyMoment};
 ghost use Rattle.tree_model.specs.Rows.{Content};
 ghost use Rattle.tree_model.specs.Asked.{PlainRequest};
 ghost use Rattle.tree_model.specs.Step.{Answer};
-ghost use Rattle.directory_scan.specs.Format.{sealing_of};
+ghost use Rattle.tree_loading.specs.Format.{sealing_of};
 ghost use Rattle.live_tree.specs.Held.{path_of};
 ghost use Rattle.content_writer.specs.Sealed.{IsPuttable, nonces_of};
-ghost use Rattle.change_plans.specs.Files.{IsFileOf};
+ghost use Rattle.request_checks.specs.Files.{IsFileOf};
 ghost use Rattle.file_changes.specs.Files.{IsSealedIn};
 ghost use Rattle.file_changes.specs.Steps.{ChangesContent};
 ghost use Rattle.file_changes.specs.Waiting.{HasWritten, IsAtRestOver, MayBeFlushed};
@@ -18,16 +18,15 @@ ghost use Rattle.file_changes.specs.Waiting.{HasWritten, IsAtRestOver, MayBeFlus
 use crate::file::put_size;
 use crate::room::FileChanges;
 use chunk_journal::Device;
-use content_deeds::SealedChunks;
 use content_reader::SealedFile;
 use file_chunks::SEALED_LENGTH;
 use node_changes::VaultTree;
 use outside::Folder;
 use vault_path::VaultPath;
-use write_back::WriteBack;
+use write_back::{SealedChunks, WriteBack};
 
 impl FileChanges {
-    /// Puts the chunks that are sealed for a host file behind what waits, and its size into the tree in memory. Where there is no
+    /// Puts the chunks that are sealed for a host file after what waits, and its size into the tree in memory. If there is no
     /// room, what waits is committed before. `Device` says that this failed, and that the folder's count of faults rose in this
     /// call; then the tree is as it was.
     pub(crate) fn put<D: Folder>(
@@ -76,7 +75,7 @@ impl FileChanges {
     }
 }
 
-// Makes room behind what waits for a change of a file with this many sealed chunks: where there is none, what waits is committed.
+// Makes room after what waits for a change of a file with this many sealed chunks: if there is none, what waits is committed.
 fn make_room<D: Folder>(
     back: &mut WriteBack<D>,
     path: &VaultPath,

@@ -8,7 +8,7 @@ use Rattle.tree_model.specs.Rows.{Cell, cell_bytes}
 abbrev pub joined_from : (ℕ → Cell) → ℕ → ℕ → List (Option ℕ)
 joined_from cell a m = flat_map cell_bytes (map cell (range_with_len a m))
 
--- each chunk is as long as its part of a file with `total` bytes behind the header
+-- each chunk is as long as its part of a file with `total` bytes after the header
 abbrev pub HaveLengths : (ℕ → Cell) → ℕ → Type 0
 HaveLengths cell total = (i : ℕ) → length (cell_bytes (cell i)) ≡ min 32796 (total - 32796 * i) - 28
 
@@ -21,7 +21,7 @@ length-joined_from cell total (suc m) a lengths count whole =
     length-joined_from cell total m (a + 1) lengths (omega arith) whole in
     length-append (cell_bytes (cell a)) (joined_from cell (a + 1) m) ∙ omega arith
 
--- what stands from a place in chunk j on, behind full chunks
+-- what is there from a place in chunk j on, after full chunks
 pub from_chunk : (cell : ℕ → Cell) (k m a j r : ℕ) → j ≡ a + k → k < m → ((i : ℕ) → i < j → length (cell_bytes (cell i)) ≡ 32768)
     → (rest : List (Option ℕ)) × (drop (32768 * k + r) (joined_from cell a m) ≡ drop r (cell_bytes (cell j) ++ rest))
 from_chunk cell k zero a j r is inside full = absurd (omega arith)

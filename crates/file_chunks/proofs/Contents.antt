@@ -143,7 +143,7 @@ slice_empty keys bytes n at count key e none =
     let len : length (joined (content_of keys bytes)) ≡ n = length-content keys bytes n key e in
     slice_behind (joined (content_of keys bytes)) at count (elim none [ inl behind ↦ inl (omega arith) | inr nothing ↦ inr nothing ])
 
--- from a byte on: the rest of its chunk, and what stands behind
+-- from a byte on: the rest of its chunk, and what follows
 record IsFrom (keys : KeyPair) (bytes : List ℕ) (n at : ℕ) (rest : List (Option ℕ)) : Type 0 where
   is : drop at (joined (content_of keys bytes)) ≡ drop (at % 32768) (cell_bytes (cell_at keys bytes (at / 32768)) ++ rest)
   this : length (cell_bytes (cell_at keys bytes (at / 32768))) ≡ min 32768 (n - 32768 * (at / 32768))

@@ -11,11 +11,11 @@ use Rattle.file_chunks.specs.Envelope.{envelope_opens}
 pub long_enough : (n : ℕ) → 28 ≤ n → ltb n 28 ≡ false
 long_enough n enough = grind (arith, nat_tests)
 
--- a part is written behind a front of n
+-- a part is written after a front of n
 pub put_mid-append : (xs zs ys : List ℕ) (n k : ℕ) → length xs ≡ n → put_mid n k (xs ++ zs) ys ≡ xs ++ (ys ++ drop k zs)
 put_mid-append xs zs ys n k long = rw (take_at xs zs n long, drop_at xs zs n long) refl
 
--- what stands behind the nonce once the plaintext is copied there
+-- what follows the nonce once the plaintext is copied there
 pub copied : (nonce plaintext out : List ℕ) (e k : ℕ) → length nonce ≡ 12 → k ≡ length plaintext
     → take k (drop 12 (put_mid 12 e (nonce ++ drop 12 out) plaintext)) ≡ plaintext
 copied nonce plaintext out e k long size =

@@ -30,7 +30,7 @@ take-add : (a b : ℕ) (xs : List (Option ℕ)) → take (a + b) xs ≡ take a x
 take-add a b xs =
     sym (take-append-drop a (take (a + b) xs)) ∙ rw (take-take a (a + b) xs (omega arith), drop-take a b xs) refl
 
--- a slice is its front and what stands behind that
+-- a slice is its front and what follows that
 pub slice-add : (xs : List (Option ℕ)) (at first second : ℕ)
     → all_there (take (first + second) (drop at xs)) ≡ both (all_there (take first (drop at xs))) (all_there (take second (drop (at + first) xs)))
 slice-add xs at first second =
@@ -42,14 +42,14 @@ slice_behind xs at count (inl behind) =
     ap all_there (ap (take count) (drop_all at xs behind) ∙ take_all count [] (omega arith))
 slice_behind xs at count (inr none) = ap (λ (n : ℕ). all_there (take n (drop at xs))) none
 
--- nothing is read where the first byte is missing
+-- nothing is read if the first byte is missing
 pub slice_missing : (q r count : ℕ) (rest : List (Option ℕ)) → r < q → 0 < count → all_there (take count (drop r (replicate q None ++ rest))) ≡ None
 slice_missing zero r count rest inside some = absurd (omega arith)
 slice_missing (suc q) zero zero rest inside some = absurd (omega arith)
 slice_missing (suc q) zero (suc count) rest inside some = refl
 slice_missing (suc q) (suc r) count rest inside some = slice_missing q r count rest (omega arith) some
 
--- what is read inside bytes that are there, or up to their end where nothing stands behind them
+-- what is read inside bytes that are there, or up to their end if nothing follows them
 pub slice_there : (plaintext : List ℕ) (r count : ℕ) (rest : List (Option ℕ)) → r ≤ length plaintext → (r + count ≤ length plaintext) ⊎ (length rest ≡ 0)
     → all_there (take count (drop r (map (λ b. Some b) plaintext ++ rest))) ≡ Some (take count (drop r plaintext))
 slice_there plaintext r count rest from inside =

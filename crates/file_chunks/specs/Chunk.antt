@@ -10,7 +10,7 @@ use Rattle.file_chunks.specs.declared.header.TheConstants.{INDEX_LENGTH}
 abbrev pub associated_data : Head → ℕ → List ℕ
 associated_data head index = bytes_of INDEX_LENGTH index ++ head.nonce
 
--- the plaintext of a sealed chunk, and None where it is below 28 bytes or its tag isn't GCM's for this header and index
+-- the plaintext of a sealed chunk, and None if it is below 28 bytes or its tag isn't GCM's for this header and index
 unfoldable pub chunk_opens : Head → ℕ → List ℕ → Option (List ℕ)
 chunk_opens head index sealed = envelope_opens head.key (associated_data head index) sealed
 

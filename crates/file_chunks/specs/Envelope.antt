@@ -4,7 +4,7 @@ use Rattle.aes_block.specs.Aes.{aes}
 use Rattle.gcm_mode.specs.Gcm.{gcm_opened, gcm_sealed}
 use Rattle.file_chunks.specs.declared.size.TheConstants.{NONCE_LENGTH, TAG_LENGTH, SEALING_LENGTH}
 
--- the plaintext in a nonce, a ciphertext and a tag, and None where they are too short to hold both, or the tag isn't GCM's
+-- the plaintext in a nonce, a ciphertext and a tag, and None if they are too short to hold both, or the tag isn't GCM's
 abbrev pub envelope_opens : List ℕ → List ℕ → List ℕ → Option (List ℕ)
 envelope_opens key ad sealed =
     if nat_lt (length sealed) SEALING_LENGTH then None

@@ -15,7 +15,7 @@ use Rattle.file_chunks.specs.declared.header.TheConstants.{KEY_LENGTH}
 abbrev pub is_bad_size : ℕ → Bool
 is_bad_size size = nat_lt size HEADER_LENGTH || (nat_lt 0 ((size - HEADER_LENGTH) % SEALED_LENGTH) && nat_lt ((size - HEADER_LENGTH) % SEALED_LENGTH) SEALING_LENGTH)
 
--- how many sealed chunks stand in a file of this size
+-- how many sealed chunks are in a file of this size
 abbrev pub chunk_count : ℕ → ℕ
 chunk_count size = (size - HEADER_LENGTH + (SEALED_LENGTH - 1)) / SEALED_LENGTH
 
@@ -23,7 +23,7 @@ chunk_count size = (size - HEADER_LENGTH + (SEALED_LENGTH - 1)) / SEALED_LENGTH
 abbrev pub sealed_at : List ℕ → ℕ → List ℕ
 sealed_at bytes index = take SEALED_LENGTH (drop (HEADER_LENGTH + SEALED_LENGTH * index) bytes)
 
--- a chunk's plaintext, where header and chunk open; else how long it would be
+-- a chunk's plaintext, if header and chunk open; else how long it would be
 abbrev pub cell_of : Option Head → ℕ → List ℕ → Cell
 cell_of head index sealed = option_map_or good (option_and_then (λ h. chunk_opens h index sealed) head) (damaged (length sealed - SEALING_LENGTH))
 

@@ -7,7 +7,7 @@ use Rattle.file_chunks.specs.Envelope.{envelope_opens, sealed_envelope}
 use Rattle.file_chunks.specs.declared.size.TheConstants.{NONCE_LENGTH}
 use Rattle.file_chunks.specs.declared.header.TheConstants.{UNUSED_LENGTH}
 
--- what a header tells of its file
+-- what a header says of its file
 pub record Head : Type 0 where
   pub nonce : List ℕ
   pub key : List ℕ
@@ -16,7 +16,7 @@ pub record Head : Type 0 where
 abbrev pub head_of : List ℕ → List ℕ → Head
 head_of bytes payload = record { nonce = take NONCE_LENGTH bytes; key = drop UNUSED_LENGTH payload }
 
--- the header that these 68 bytes are, and None where the tag isn't GCM's
+-- the header that these 68 bytes are, and None if the tag isn't GCM's
 unfoldable pub header_opens : KeyPair → List ℕ → Option Head
 header_opens keys bytes = option_map (head_of bytes) (envelope_opens keys.enc [] bytes)
 

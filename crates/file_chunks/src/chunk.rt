@@ -8,8 +8,8 @@ use crate::size::{CHUNK_LENGTH, NONCE_LENGTH, SEALED_LENGTH, SEALING_LENGTH};
 use outside::{Entropy, Failed};
 
 /// Seals the chunk of an index, at most 32,768 bytes, into the front of `out`: draws a nonce of 12
-/// bytes. `out` keeps the rest. After `Failed`, which comes where the draw failed, nothing is drawn
-/// and `out` is as it was.
+/// bytes. `out` keeps the rest. After `Failed`, which is returned if the draw failed, nothing is
+/// drawn and `out` is as it was.
 pub fn seal_chunk<E: Entropy>(
     header: &Header,
     index: u64,

@@ -11,7 +11,7 @@ use thiserror::Error;
 #[error("the tag differs")]
 pub struct Damaged;
 
-// The N bytes from `at` on.
+/// The N bytes from `at` on.
 pub(crate) fn array_at<const N: usize>(bytes: &[u8], at: usize) -> [u8; N]
     requires { at + N ≤ length bytes.now }
     ensures { result ≡ take N (drop at bytes.now) }
@@ -21,7 +21,7 @@ pub(crate) fn array_at<const N: usize>(bytes: &[u8], at: usize) -> [u8; N]
     part
 }
 
-// Seals a plaintext under a nonce into the front of `out`, which keeps the rest.
+/// Seals a plaintext under a nonce into the front of `out`, which keeps the rest.
 pub(crate) fn seal_into<K: GcmCipher>(
     key: &K,
     nonce: &[u8; NONCE_LENGTH],
@@ -43,7 +43,7 @@ pub(crate) fn seal_into<K: GcmCipher>(
     out[end..end + TAG_LENGTH].copy_from_slice(&tag);
 }
 
-// Opens a nonce, a ciphertext and a tag. After `Damaged`, `out` holds zeros.
+/// Opens a nonce, a ciphertext and a tag. After `Damaged`, `out` holds zeros.
 pub(crate) fn open_into<K: GcmCipher>(
     key: &K,
     ad: &[u8],

@@ -12,7 +12,7 @@ use std::marker::Model;
 
 const KEY_LENGTH: usize = 32;
 
-// How many bytes stand before a content key. They are FF, and aren't looked at.
+// How many bytes are before a content key. They are FF, and aren't looked at.
 const UNUSED_LENGTH: usize = 8;
 
 const PAYLOAD_LENGTH: usize = UNUSED_LENGTH + KEY_LENGTH;
@@ -39,14 +39,14 @@ impl Model for Header {
 }
 
 impl Header {
-    // The content key.
+    /// The content key.
     pub(crate) fn key(&self) -> &BulkGcmKey
         ensures { result.now ≡ self.now.key }
     {
         &self.key
     }
 
-    // The associated data of the chunk of this index.
+    /// The associated data of the chunk of this index.
     pub(crate) fn associated_data(&self, index: u64) -> [u8; ASSOCIATED_LENGTH]
         ensures { result ≡ associated_data self.now index }
     {
@@ -74,7 +74,7 @@ fn sealing_key(keys: &VaultKeys) -> GcmKey
 }
 
 /// A new header: draws a nonce of 12 bytes, then a content key of 32, and returns the header and its
-/// 68 bytes. `Failed` comes where a draw failed; nothing is drawn then, or the nonce alone.
+/// 68 bytes. `Failed` is returned if a draw failed; nothing is drawn then, or the nonce alone.
 pub fn new_header<E: Entropy>(
     keys: &VaultKeys,
     entropy: &mut E,

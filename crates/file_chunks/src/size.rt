@@ -37,7 +37,7 @@ pub fn clear_len(size: u64) -> Option<u64>
 /// chunks it meets.
 pub fn span(at: u64, count: u64) -> (u64, u64)
     requires { at + count < 2 ^ 64 }
-    // Exactly the chunks in which some byte of the slice stands.
+    // Exactly the chunks in which some byte of the slice lies.
     ensures chunks { (k : ℕ) → ((result.0 ≤ k) × (k < result.0 + result.1))
         ↔ ((p : ℕ) × (at ≤ p) × (p < at + count) × (p / CHUNK_LENGTH ≡ k)) }
     ensures first { result.0 ≡ at / CHUNK_LENGTH }

@@ -10,7 +10,7 @@ use crate::size::{CHUNK_LENGTH, HEADER_LENGTH, SEALING_LENGTH};
 
 /// A law of the content of host files, for each pair of keys, all bytes of a file and each slice:
 /// which sizes are bad, how long the content is, and which bytes of which chunk the slice has. A
-/// slice past its first chunk is two, one behind the other. It does nothing.
+/// slice past its first chunk is two, one after the other. It does nothing.
 pub fn reads_are_slices()
     // What GCM opens under AES-256 is as long as its ciphertext.
     ensures keeps { KeepsLength }

@@ -85,7 +85,7 @@ times_x-double a =
     let half : a * 2 / 2 ≡ a = omega arith in
     rw (even, half) refl
 
--- ---- some bits from the left, and the bits behind them
+-- ---- some bits from the left, and the bits after them
 
 pub times_x_power-xor : (m a b : ℕ) → times_x_power m (bit_xor a b) ≡ bit_xor (times_x_power m a) (times_x_power m b)
 times_x_power-xor zero a b = refl
@@ -212,7 +212,7 @@ product_of_halves x h low at =
     ∙ product_of-times_x_power 64 64 x h in
     ap (bit_xor (product_of 64 (x / 2 ^ 64) h)) lower ∙ sym (product_of-add 64 64 x h)
 
--- the entry of the 4 bits at place p, and the product of the n bits behind them
+-- the entry of the 4 bits at place p, and the product of the n bits after them
 place_more : (h y n p entry : ℕ) → entry ≡ place_entry h (16 * p + bit_and (y / 2 ^ n) 15)
     → bit_xor entry (product_of n y (times_x_power (4 * (p + 1)) h)) ≡ product_of (4 + n) y (times_x_power (4 * p) h)
 place_more h y n p entry found =

@@ -7,7 +7,7 @@ ghost use Rattle.gcm_mode.specs.Gcm.{counted, gcm_opened, gcm_sealed, gcm_tag, h
 use crate::ghash::{PlaceTable, ProductTable, hash_of};
 use crate::stream::{count_over, tag_mask};
 use aes_block::{BlockKey, Key256, blocks_equal, xor_onto};
-use aes_lanes::LaneKey;
+use aes_kernels::LaneKey;
 use std::marker::Model;
 use thiserror::Error;
 
@@ -44,7 +44,7 @@ pub trait GcmCipher {
     /// Encrypts `buf` in place and returns the tag, 16 bytes (SP 800-38D, 7.1). A nonce of 12 bytes
     /// serves for one text under one key; the associated data, of any length, is in the tag alone.
     /// The standard allows up to 2^36 - 32 bytes in `buf`, since the counter of 32 bits wraps
-    /// behind them.
+    /// after them.
     fn seal_in_place(&self, nonce: &[u8; 12], ad: &[u8], buf: &mut [u8]) -> [u8; 16]
         ensures text { buf.new ≡ counted (aes (key self.now)) nonce.now buf.old }
         ensures tag { result ≡ gcm_tag (aes (key self.now)) nonce.now ad.now buf.new }
@@ -135,7 +135,7 @@ impl GcmKey {
 impl From<Key256> for GcmKey {
     ghost from_gives = { λ key made. made ≡ key };
 
-    /// Makes a key ready that was expanded before.
+    // Makes a key ready that was expanded before.
     fn from(key: Key256) -> GcmKey {
         let cipher = LaneKey::new(key);
         let subkey = ProductTable::new(subkey_of(&cipher));
@@ -186,7 +186,7 @@ impl BulkGcmKey {
 impl From<Key256> for BulkGcmKey {
     ghost from_gives = { λ key made. made ≡ key };
 
-    /// Makes a key ready that was expanded before.
+    // Makes a key ready that was expanded before.
     fn from(key: Key256) -> BulkGcmKey {
         let cipher = LaneKey::new(key);
         let subkey = PlaceTable::new(subkey_of(&cipher));

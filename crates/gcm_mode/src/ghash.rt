@@ -59,16 +59,16 @@ fn is_block(x: u128)
     let _number = x;
 }
 
-// A hash subkey, made ready for products.
+/// A hash subkey, made ready for products.
 pub(crate) trait Subkey {
     // The subkey as a number.
     ghost subkey: { Self → ℕ };
 
-    // The product of a block with the subkey (6.3).
+    /// The product of a block with the subkey (6.3).
     fn product(&self, x: u128) -> u128
         ensures { result ≡ product x (subkey self.now) };
 
-    // The hash of what was hashed before and of a text behind it, padded with zeros (6.4).
+    /// The hash of what was hashed before and of a text after it, padded with zeros (6.4).
     fn absorb(&self, before: u128, text: &[u8]) -> u128
         ensures { (front : List ℕ) → IsHashed (subkey self.now) front before
             → IsHashed (subkey self.now) (front ++ zero_padded text.now) result }
@@ -81,7 +81,7 @@ pub(crate) trait Subkey {
     }
 }
 
-// The products of a subkey with each 4 bits, for few blocks: 256 bytes, soon made.
+/// The products of a subkey with each 4 bits, for few blocks: 256 bytes, soon made.
 #[derive(Drop)]
 pub(crate) struct ProductTable {
     table: [u128; 16],
@@ -124,8 +124,8 @@ impl Subkey for ProductTable {
     }
 }
 
-// The products of a subkey with the 4 bits at each of the 32 places of a block, the leftmost place
-// first, for many blocks: 8 KiB.
+/// The products of a subkey with the 4 bits at each of the 32 places of a block, the leftmost place
+/// first, for many blocks: 8 KiB.
 #[derive(Drop)]
 pub(crate) struct PlaceTable {
     table: [u128; 512],
@@ -156,7 +156,7 @@ impl PlaceTable {
         PlaceTable { table }
     }
 
-    // The hash of what was hashed before and of the first pairs of blocks of a text behind it, in
+    // The hash of what was hashed before and of the first pairs of blocks of a text after it, in
     // two sums side by side: of the blocks at even and at odd places, each times the square of the
     // subkey, so that neither waits for the other. The second one is behind by one product.
     fn absorb_pairs(&self, before: u128, text: &[u8], pairs: usize) -> u128
@@ -198,7 +198,7 @@ impl Subkey for PlaceTable {
         sum
     }
 
-    // Whole pairs first, where they are many.
+    // Whole pairs first, if they are many.
     fn absorb(&self, before: u128, text: &[u8]) -> u128 {
         let pairs = if text.len() < LONG {
             0
@@ -242,7 +242,7 @@ fn length_block(ad: &[u8], ciphertext: &[u8]) -> [u8; BLOCK_LEN]
     block
 }
 
-// GHASH of associated data, a ciphertext and their lengths (7.1, step 5).
+/// GHASH of associated data, a ciphertext and their lengths (7.1, step 5).
 pub(crate) fn hash_of<K: Subkey>(key: &K, ad: &[u8], ciphertext: &[u8]) -> [u8; BLOCK_LEN]
     ensures { result ≡ ghash (K.subkey key.now) (hashed_text ad.now ciphertext.now) }
 {

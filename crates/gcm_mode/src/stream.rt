@@ -4,12 +4,11 @@ ghost use Rattle.std.specs.Prelude.{◌≡◌, ◌≤◌, ◌<◌, ◌+◌, ◌*
 ghost use Rattle.aes_block.specs.Aes.{aes};
 ghost use Rattle.aes_block.specs.Bytes.{MakesBlocks};
 ghost use Rattle.gcm_mode.specs.Gcm.{counted, counter_block};
-ghost use Rattle.aes_bits.specs.Circuit.{AreRoundKeys};
+ghost use Rattle.aes_kernels.specs.Circuit.{AreRoundKeys};
 ghost use Rattle.gcm_mode.specs.Counted.{Counted};
 
-use aes_bits::{RoundKeys, encrypted_eight, round_keys};
 use aes_block::{BlockKey, xor_onto};
-use aes_lanes::LaneKey;
+use aes_kernels::{LaneKey, RoundKeys, encrypted_eight, round_keys};
 
 pub(crate) const BLOCK_LEN: usize = 16;
 
@@ -74,7 +73,7 @@ fn eight_masks(
     )
 }
 
-// The encrypted counter block 1, which masks the tag (7.1, step 6).
+/// The encrypted counter block 1, which masks the tag (7.1, step 6).
 pub(crate) fn tag_mask(key: &LaneKey, nonce: &[u8; NONCE_LEN]) -> [u8; BLOCK_LEN]
     ensures { result ≡ aes key.now (counter_block nonce.now 1) }
 {
@@ -117,7 +116,7 @@ fn xor_rest(key: &LaneKey, nonce: &[u8; NONCE_LEN], first: u32, text: &mut [u8],
 }
 
 // Xors encrypted counter blocks, from 2 on, onto the first groups of eight blocks of a text, and
-// returns the counter behind them.
+// returns the counter after them.
 fn xor_groups(key: &LaneKey, nonce: &[u8; NONCE_LEN], text: &mut [u8], groups: usize) -> u32
     requires { 128 * groups ≤ length text.old }
     ensures counter { result ≡ (8 * groups + 2) % 2 ^ 32 }
@@ -137,7 +136,7 @@ fn xor_groups(key: &LaneKey, nonce: &[u8; NONCE_LEN], text: &mut [u8], groups: u
     counter
 }
 
-// Encrypts or decrypts a text in place, from counter block 2 on.
+/// Encrypts or decrypts a text in place, from counter block 2 on.
 pub(crate) fn count_over(key: &LaneKey, nonce: &[u8; NONCE_LEN], text: &mut [u8])
     ensures { text.new ≡ counted (aes key.now) nonce.now text.old }
 {

@@ -1,7 +1,7 @@
 -- HMAC (RFC 2104) over a hash of byte lists whose blocks have `block` bytes.
 use Rattle.std.specs.Prelude.{ℕ, ◌-◌, List, ◌++◌, length, replicate, map, bit_xor, nat_lt, if◌then◌else◌}
 
--- the key as a block: hashed where it is longer than one, then padded with zeros (section 2, steps 1 and 2 of the note on keys)
+-- the key as a block: hashed if it is longer than one, then padded with zeros (section 2, steps 1 and 2 of the note on keys)
 abbrev pub key_block : (List ℕ → List ℕ) → ℕ → List ℕ → List ℕ
 key_block hash block key =
     let short = if nat_lt block (length key) then hash key else key in

@@ -40,7 +40,7 @@ fn padded<const BLOCK: usize>(bytes: &[u8]) -> [u8; BLOCK]
     block
 }
 
-// The key as a block: hashed where it is longer than one, and padded.
+// The key as a block: hashed if it is longer than one, and padded.
 fn key_block<D: Digest, const BLOCK: usize>(key: &[u8]) -> [u8; BLOCK]
 where
     D::Output: AsSlice<u8> + Drop,
@@ -70,7 +70,7 @@ fn xored<const BLOCK: usize>(block: &[u8; BLOCK], byte: u8) -> [u8; BLOCK]
     xored
 }
 
-// The tag of the text `first` and behind it `second`, under the key that makes the block `key_block`.
+// The tag of the text `first` and after it `second`, under the key that makes the block `key_block`.
 fn tag<D: Digest, const BLOCK: usize>(
     key_block: [u8; BLOCK],
     first: &[u8],
@@ -92,7 +92,7 @@ where
     outer.finalize()
 }
 
-// HMAC over the hash of `D`, whose blocks have `BLOCK` bytes, of `first` and behind it `second`.
+// HMAC over the hash of `D`, whose blocks have `BLOCK` bytes, of `first` and after it `second`.
 fn hmac<D: Digest, const BLOCK: usize>(key: &[u8], first: &[u8], second: &[u8]) -> D::Output
 where
     D::Output: AsSlice<u8> + Drop,
@@ -113,7 +113,7 @@ pub fn hmac256(key: &[u8], text: &[u8]) -> [u8; 32]
     hmac256_of_pieces(key, text, &[])
 }
 
-/// The HMAC-SHA-256 tag of the text `first` and behind it `second`, under a key of any length.
+/// The HMAC-SHA-256 tag of the text `first` and after it `second`, under a key of any length.
 pub fn hmac256_of_pieces(key: &[u8], first: &[u8], second: &[u8]) -> [u8; 32]
     ensures { result ≡ hmac sha256 64 key.now (first.now ++ second.now) }
 {

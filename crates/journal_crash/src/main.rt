@@ -23,25 +23,25 @@ use std::{env, io};
 use thiserror::Error;
 use vault_path::VaultPath;
 
-/// How many bytes each batch puts.
+// How many bytes each batch puts.
 const PUT_LEN: usize = 100;
 
-/// A batch up to the number: three deeds, the first of which puts the file `a`.
+// A batch up to the number: three deeds, the first of which puts the file `a`.
 const HEAD: [u8; 12] = [0, 0, 0, 3, 2, 1, 1, b'a', 0, 0, 0, 100];
 
-/// Puts the file `b` behind it.
+// Puts the file `b` after it.
 const SECOND: [u8; 8] = [2, 1, 1, b'b', 0, 0, 0, 100];
 
-/// Moves `c` to `d`, or back: every other batch each.
+// Moves `c` to `d`, or back: every other batch each.
 const MOVES: [[u8; 7]; 2] = [[3, 1, 1, b'c', 1, 1, b'd'], [3, 1, 1, b'd', 1, 1, b'c']];
 
-/// Makes the first file `c`: the number 0.
+// Makes the first file `c`: the number 0.
 const FIRST: [u8; 12] = [0, 0, 0, 1, 2, 1, 1, b'c', 0, 0, 0, 0];
 
-/// A batch up to the bytes that it puts into the file `e`, which is all that it does.
+// A batch up to the bytes that it puts into the file `e`, which is all that it does.
 const ALONE: [u8; 12] = [0, 0, 0, 1, 2, 1, 1, b'e', 0, 0, 0, 100];
 
-/// Why it ends with status 1.
+// Why it ends with status 1.
 #[derive(Debug, Drop, Error)]
 enum CrashErr {
     #[error("the words are: run FOLDER COUNT, put FOLDER COUNT, or show FOLDER")]
@@ -64,14 +64,14 @@ enum CrashErr {
     Mixed,
 }
 
-/// The bytes that a batch puts: its number, and zeros.
+// The bytes that a batch puts: its number, and zeros.
 fn bytes_of(number: u64) -> [u8; PUT_LEN] {
     let mut bytes = [0; PUT_LEN];
     bytes[..8].copy_from_slice(&number.to_be_bytes());
     bytes
 }
 
-/// The batch of a number.
+// The batch of a number.
 fn batch_of(alloc: Global, number: u64) -> Result<Vec<Deed>, CrashErr>
     ensures { IfOk result (λ deeds. IsBatch (plains deeds.items)) }
 {
@@ -91,7 +91,7 @@ fn batch_of(alloc: Global, number: u64) -> Result<Vec<Deed>, CrashErr>
     Ok(deeds)
 }
 
-/// The batch of a number that puts one file alone.
+// The batch of a number that puts one file alone.
 fn put_of(alloc: Global, number: u64) -> Result<Vec<Deed>, CrashErr>
     ensures { IfOk result (λ deeds. IsBatch (plains deeds.items)) }
 {
@@ -102,7 +102,7 @@ fn put_of(alloc: Global, number: u64) -> Result<Vec<Deed>, CrashErr>
     Ok(deeds)
 }
 
-/// The number that a file has, or 0 where it isn't there.
+// The number that a file has, or 0 if it isn't there.
 fn number_in<D: Reads>(folder: &mut D, path: &VaultPath) -> Result<u64, CrashErr> {
     let mut bytes = [0; 8];
     match folder.kind(path)? {
@@ -118,7 +118,7 @@ fn name(text: &[u8]) -> Result<VaultPath, CrashErr> {
     VaultPath::root().join(text).map_err(|_| CrashErr::Path)
 }
 
-/// The number that the folder has, all parts of which have to be of one batch.
+// The number that the folder has, all parts of which have to be of one batch.
 fn newest<D: Reads>(folder: &mut D) -> Result<u64, CrashErr> {
     let number = number_in(folder, &name(b"a")?)?;
     let other = number_in(folder, &name(b"b")?)?;
@@ -131,7 +131,7 @@ fn newest<D: Reads>(folder: &mut D) -> Result<u64, CrashErr> {
     Ok(number)
 }
 
-/// The journal of the folder on disk.
+// The journal of the folder on disk.
 fn opened<'a>(
     rt: &'a HostRuntime,
     place: &str,
@@ -143,7 +143,7 @@ fn opened<'a>(
     }
 }
 
-/// Commits a batch that names no path twice.
+// Commits a batch that names no path twice.
 fn commit<'a>(
     journal: &mut Journal<HostFolder<&'a HostRuntime>>,
     deeds: &[Deed],
@@ -157,7 +157,7 @@ fn commit<'a>(
     Ok(())
 }
 
-/// Commits so many batches more, and says so of each.
+// Commits so many batches more, and says so of each.
 fn run(rt: &HostRuntime, place: &str, count: u64) -> Result<(), CrashErr> {
     let mut journal = opened(rt, place)?;
     let mut number = newest(&mut journal)?;
@@ -172,7 +172,7 @@ fn run(rt: &HostRuntime, place: &str, count: u64) -> Result<(), CrashErr> {
     Ok(())
 }
 
-/// Commits so many batches, each of which puts one file.
+// Commits so many batches, each of which puts one file.
 fn put(rt: &HostRuntime, place: &str, count: u64) -> Result<(), CrashErr> {
     let mut journal = opened(rt, place)?;
     for number in 0..count {

@@ -8,12 +8,12 @@ use Rattle.serde_json.specs.Data.{Num, unsigned, negative, float, Data, object}
 use Rattle.serde_json.specs.Read.{read}
 use Rattle.serde_json.specs.Find.{get, as_number, as_str}
 
--- the value, where it is an object
+-- the value, if it is an object
 abbrev pub only_object : Data → Option Data
 only_object (object members) = Some (object members)
 only_object value = None
 
--- the object that bytes are as JSON in UTF-8, and None where they are none
+-- the object that bytes are as JSON in UTF-8, and None if they are none
 unfoldable pub object_of : List ℕ → Option Data
 object_of bytes = if is_utf8 bytes then option_and_then only_object (read bytes) else None
 
@@ -21,7 +21,7 @@ object_of bytes = if is_utf8 bytes then option_and_then only_object (read bytes)
 abbrev pub text_at : List ℕ → Data → Option (List ℕ)
 text_at name value = option_and_then as_str (get name value)
 
--- the integer from 0 to 2^64 - 1 that a number is, however it is written: a float is one where it equals the integer that a cast cuts it to
+-- the integer from 0 to 2^64 - 1 that a number is, however it is written: a float is one if it equals the integer that a cast cuts it to
 abbrev pub integer_of : Num → Option ℕ
 integer_of (unsigned n) = Some n
 integer_of (negative z) = None

@@ -7,7 +7,7 @@ use base.Stored.{coded_float}
 use mathlib.Core.Path.{ap, ◌∙◌}
 use Rattle.serde_json.specs.Data as json
 
--- what a value begins with: a leaf, or what joins the values behind it
+-- what a value begins with: a leaf, or what joins the values after it
 pub data Piece : Type 0 where
   null : Piece
   boolean : Bool → Piece
@@ -114,7 +114,7 @@ abbrev rest : List Part → List Part
 rest [] = []
 rest (p ∷ ps) = ps
 
--- a piece joins the parts behind it
+-- a piece joins the parts after it
 abbrev joined : Piece → List Part → List Part
 joined null ps = value json.null ∷ ps
 joined (boolean b) ps = value (json.boolean b) ∷ ps

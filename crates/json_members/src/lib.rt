@@ -6,7 +6,7 @@
 //! assert_eq!(object.integer("format"), Some(8));
 //! ```
 //!
-//! A number without a fraction and an exponent is itself where it is from -2^63 to 2^64 - 1; every other number is rounded to the
+//! A number without a fraction and an exponent is itself if it is from -2^63 to 2^64 - 1; every other number is rounded to the
 //! nearest binary64, as Cryptomator's own reader does, so `8.0000000000000001` is 8. A text with a number that is past binary64
 //! (`1e400`) or with an unpaired surrogate (`"\ud800"`), in whatever member, isn't read, though RFC 8259's grammar has it.
 #![tactic(auto)]
@@ -62,7 +62,7 @@ impl Model for Object {
 
 impl Object {
     /// The object that `bytes` are as JSON (RFC 8259) in UTF-8. If a name is repeated, the last member counts (section 4).
-    /// `ObjectErr` tells each error's cause.
+    /// `ObjectErr` gives each error's cause.
     pub fn read(alloc: Global, bytes: &[u8]) -> Result<Object, ObjectErr>
         ensures object { IfOk result (λ o. object_of bytes.now ≡ Some o) }
         ensures none { IsErrOf result ObjectErr.NotObject → object_of bytes.now ≡ None }

@@ -7,7 +7,7 @@ use Rattle.aes_block.specs.Bytes.{xor_bytes, bytes_of}
 abbrev pub check_value : List ℕ
 check_value = replicate 8 0xa6
 
--- A, and behind it R 1 to R 4, each of 8 bytes: 40 bytes. i counts from 1; R i is at place 8 i
+-- A, and after it R 1 to R 4, each of 8 bytes: 40 bytes. i counts from 1; R i is at place 8 i
 abbrev pub part : List ℕ → ℕ → List ℕ
 part state i = take 8 (drop (8 * i) state)
 

@@ -48,7 +48,7 @@ fn write_part(state: &mut [u8; 40], at: usize, part: &[u8])
     state[at..at + 8].copy_from_slice(part);
 }
 
-// Takes step `step`, counted from 1.
+/// Takes step `step`, counted from 1.
 pub(crate) fn wrap_step(kek: &Key256, state: &mut [u8; 40], step: usize)
     requires { 0 < step }
     ensures { state.new ≡ wrap_step (aes kek.now) step state.old }
@@ -62,7 +62,7 @@ pub(crate) fn wrap_step(kek: &Key256, state: &mut [u8; 40], step: usize)
     write_part(state, 0, &check);
 }
 
-// Takes step `step`, counted from 1, back.
+/// Takes step `step`, counted from 1, back.
 pub(crate) fn unwrap_step(kek: &Key256, state: &mut [u8; 40], step: usize)
     requires { 0 < step }
     ensures { state.new ≡ unwrap_step (inverse_aes kek.now) step state.old }

@@ -273,7 +273,7 @@ fn each_fault_is_told(rt: HostRuntime) -> Result<(), Fail> {
     Ok(())
 }
 
-// A token with so much white space behind it that it has `len` bytes.
+// A token with so much white space after it that it has `len` bytes.
 fn filled(alloc: Global, token: &str, len: usize) -> Result<Vec<u8>, AllocError> {
     let mut bytes = Vec::from_slice(alloc, token.as_bytes())?;
     for _ in token.len()..len {

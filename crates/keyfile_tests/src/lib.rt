@@ -1,4 +1,4 @@
-//! Tests of the key files: of `json_members`, `masterkey_file`, `vault_config`, `vault_keys` and `vault_words`, by values of other programs.
+//! Tests of the key files: of `json_members`, `masterkey_file`, `vault_config`, `unlocking` and `vault_words`, by values of other programs.
 //!
 //! ```
 //! rt test
@@ -14,4 +14,4 @@ mod masterkey_files;
 #[cfg(test)]
 mod objects;
 #[cfg(test)]
-mod unlocking;
+mod unlocked_keys;

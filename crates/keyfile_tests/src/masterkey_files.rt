@@ -494,7 +494,7 @@ fn other_files_are_not_json(rt: HostRuntime) -> Result<(), Fail> {
     Ok(())
 }
 
-// A file with so much white space behind it that it has `len` bytes.
+// A file with so much white space after it that it has `len` bytes.
 fn filled(alloc: Global, file: &str, len: usize) -> Result<Vec<u8>, AllocError> {
     let mut bytes = Vec::from_slice(alloc, file.as_bytes())?;
     for _ in file.len()..len {

@@ -1,4 +1,4 @@
--- The entries of a map by number, after one was put behind the others, changed or taken away.
+-- The entries of a map by number, after one was put after the others, changed or taken away.
 use Rattle.std.proofs.Common.{◌≡◌, ℕ, ◌<◌, Bool, true, false, cond, not, List, [], ◌∷◌, ◌++◌, map, filter, Some, None, ◌==◌, if◌then◌else◌, refl, sym, ap, ap₂, ◌∙◌, true≢false}
 use Rattle.std.proofs.lemmas.Bool.{eq-eqb}
 use Rattle.std.specs.Cmp.{nat_cmp_is, eq_by_cmp_equiv, nat_eq_equiv}
@@ -105,7 +105,7 @@ module _ {X : Type 0} where
   remove_is_filter k (e ∷ es) sorted =
       remove_step (is_at (nat_cmp k) e.0) k e es refl sorted (remove_is_filter k es (sorted_tail nat_cmp e.0 (keys_of es) sorted))
 
-  -- ---- one is put behind the others
+  -- ---- one is put after the others
 
   abbrev pub AreBelow : ℕ → List (ℕ × X) → Type 0
   AreBelow next es = AllByRecursion (λ (e : ℕ × X). e.0 < next) es

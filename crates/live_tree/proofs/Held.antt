@@ -144,7 +144,7 @@ found_in (e ∷ es) k v h = by (is_at (nat_cmp k) e.0) refl h (found_in es k v)
         inl (ap₂ (λ (a : ℕ) (n : HeldNode). (a, n)) (number_from k e.0 is) (sym value))
     by false is h rest = inr (rest h)
 
--- ---- a node behind the others
+-- ---- a node after the others
 
 pub lookup_last : (q next : ℕ) (v : HeldNode) (es : List (ℕ × HeldNode)) → AreBelow next es
     → lookup (is_at (nat_cmp q)) (es ++ (next, v) ∷ []) ≡ cond (is_at (nat_cmp q) next) (Some v) (lookup (is_at (nat_cmp q)) es)

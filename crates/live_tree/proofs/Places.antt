@@ -36,7 +36,7 @@ there_step : (same : Bool) (inner inner' : Inner) (was is : Option Inner) → (s
 there_step true inner inner' was is had e = rw (e, had refl) refl
 there_step false inner inner' was is had e = rw e refl
 
--- where one name of a directory was set
+-- if one name of a directory was set
 pub set_from : (old new : Names) (parent : ℕ) (inner inner' : Inner) (name : List ℕ) (number : Option ℕ) → get nat_cmp old parent ≡ Some inner
     → ((q : ℕ) → get nat_cmp new q ≡ cond (is_at (nat_cmp parent) q) (Some inner') (get nat_cmp old q))
     → ((q : List ℕ) → number_in inner' q ≡ cond (is_at (slice_cmp nat_cmp name) q) number (number_in inner q)) → IsSet old new parent name number
@@ -55,7 +55,7 @@ set_from old new parent inner inner' name number had outer within = record {
 
 -- ---- the next name
 
--- from where on the names behind another stand
+-- from where on the names after another are
 abbrev pub start_of : Option (List ℕ) → Bound (List ℕ)
 start_of None = Unbounded
 start_of (Some last) = Excluded last

@@ -73,7 +73,7 @@ rows_changed contents number now [] = refl
 rows_changed contents number now (e ∷ es) =
     ap₂ (λ (row : Row) (rows : List Row). row ∷ rows) (change_step (e.0 == number) contents number now e refl) (rows_changed contents number now es)
 
--- where the node of the number is this one, its row is set
+-- if the node of the number is this one, its row is set
 set_step : (b : Bool) (contents contents' : ℕ → Content) (number : ℕ) (f : HeldNode → HeldNode) (node : HeldNode) (new : Row) (e : ℕ × HeldNode) → (e.0 == number) ≡ b
     → ((e.0 == number) ≡ true → e.1 ≡ node) → wrapped_row (live_row contents' (number, f node)) ≡ wrapped_row new → ((e.0 ≢ number) → live_row contents' e ≡ live_row contents e)
     → wrapped_row (live_row contents' (edit number f e)) ≡ wrapped_row (cond (e.0 == number) new (live_row contents e))

@@ -26,7 +26,7 @@ held_as names tree nodes next held n x = rw (n, x) held
 pub tree_as : (tree : HeldTree) (nodes : List (ℕ × HeldNode)) (next : ℕ) → nodes ≡ tree.nodes → next ≡ tree.next → tree_of nodes next tree.twice ≡ tree
 tree_as tree nodes next n x = rw (n, x) refl
 
--- ---- a node behind the others
+-- ---- a node after the others
 
 copied_there : (o : Option (Bor (List ℕ))) → is_some (option_copied o) ≡ is_some o
 copied_there None = refl

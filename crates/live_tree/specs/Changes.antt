@@ -27,7 +27,7 @@ changed_node now node = record { kept = node.kept; version = suc node.version % 
 abbrev pub changed : HeldTree → ℕ → ℕ → HeldTree
 changed tree number now = edited tree number (changed_node now)
 
--- a node behind the others, with the next number
+-- a node after the others, with the next number
 abbrev pub appended : HeldTree → HeldNode → HeldTree
 appended tree node = record {
   nodes = tree.nodes ++ (tree.next, node) ∷ [];

@@ -68,7 +68,7 @@ loaded unlocked nodes next twice = record { nodes = numbered unlocked 0 nodes; n
 abbrev pub parent_folder : HeldTree → KeptNode → Option (List ℕ)
 parent_folder tree node = option_and_then (λ (parent : HeldNode). folder_in parent.kept.what) (node_of tree node.parent)
 
--- where the host file of the node of a number stands, if it is a file or a link
+-- where the host file of the node of a number is, if it is a file or a link
 abbrev pub path_of : HeldTree → ℕ → Option (List (List ℕ))
 path_of tree number =
     option_and_then (λ (node : HeldNode). option_and_then (path_in node.kept node.kept.what) (parent_folder tree node.kept)) (node_of tree number)
@@ -95,7 +95,7 @@ pub record IsNamed (tree : HeldTree) (parent : ℕ) (name : List ℕ) (number : 
 abbrev pub IsFree : HeldTree → ℕ → List ℕ → Type 0
 IsFree tree parent name = (number : ℕ) → IsNamed tree parent name number → ⊥
 
--- the first of a directory's nodes whose name stands behind this one
+-- the first of a directory's nodes whose name follows this one
 pub record IsNext (tree : HeldTree) (parent : ℕ) (last : Option (List ℕ)) (number : ℕ) : Type 0 where
   pub node : HeldNode
   pub child : IsChild tree parent number node
@@ -103,7 +103,7 @@ pub record IsNext (tree : HeldTree) (parent : ℕ) (last : Option (List ℕ)) (n
   pub first : (other : ℕ) (node' : HeldNode) → IsChild tree parent other node' → IsBehind last node'.kept.name → other ≢ number
       → slice_cmp nat_cmp node.kept.name node'.kept.name ≡ Less
 
--- no node of the directory stands behind this name
+-- no node of the directory follows this name
 abbrev pub IsNoNext : HeldTree → ℕ → Option (List ℕ) → Type 0
 IsNoNext tree parent last = (other : ℕ) (node : HeldNode) → IsChild tree parent other node → IsBehind last node.kept.name → ⊥
 

@@ -55,7 +55,7 @@ pub record IsClosed (old new : Names) (directory : ℕ) : Type 0 where
 abbrev pub IsNameless : Names → ℕ → Type 0
 IsNameless names parent = (name : List ℕ) → number_at names parent name ≡ None
 
--- the first name of a directory behind another has this number
+-- the first name of a directory after another has this number
 pub record IsNextName (names : Names) (parent : ℕ) (last : Option (List ℕ)) (number : ℕ) : Type 0 where
   pub name : List ℕ
   pub there : number_at names parent name ≡ Some number

@@ -16,7 +16,7 @@ use vault_path::Text;
 /// The nodes by number.
 pub(crate) type Nodes = BTreeMap<u64, LiveNode>;
 
-/// Puts a node under a number, or gives it back where memory runs out.
+/// Puts a node under a number, or gives it back if memory runs out.
 pub(crate) fn insert_node(nodes: &mut Nodes, number: u64, node: LiveNode) -> Result<(), LiveNode>
     ensures inserted { OnOk result (nodes.new.entries ≡ insert_entry nat_cmp nodes.old.entries number node) }
     ensures ordered { IsStrictlySortedBy nat_cmp (keys_of nodes.new.entries) }

@@ -71,7 +71,7 @@ pub(crate) fn close_directory(names: &mut Names, number: u64)
     names.remove(&number);
 }
 
-/// The number of the first name of a directory behind another, or of its first name.
+/// The number of the first name of a directory after another, or of its first name.
 pub(crate) fn next_name(names: &Names, parent: u64, last: Option<&Text>) -> Option<u64>
     ensures next { IfSome result (λ number. IsNextName names.now parent (option_copied last.entry) number) }
     ensures none { IfNone result ((name : List ℕ) (number : ℕ) → number_at names.now parent name ≡ Some number → IsBehind (option_copied last.entry) name → ⊥) }

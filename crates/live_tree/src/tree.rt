@@ -107,7 +107,7 @@ impl LiveTree {
         number_at(&self.names, parent, name)
     }
 
-    /// The number of the first node of a directory behind a name, or of its first node.
+    /// The number of the first node of a directory after a name, or of its first node.
     pub fn next_after(&self, parent: u64, last: Option<&Text>) -> Option<u64>
         ensures next { IfSome result (λ number. IsNext self.now parent (option_copied last.entry) number) }
         ensures none { IfNone result (IsNoNext self.now parent (option_copied last.entry)) }
@@ -115,7 +115,7 @@ impl LiveTree {
         next_name(&self.names, parent, last)
     }
 
-    /// Where the host file of a file or a link stands. It takes no memory.
+    /// Where the host file of a file or a link is. It takes no memory.
     pub fn path(&self, number: u64) -> Option<VaultPath>
         ensures { result ≡ path_of self.now number }
     {
@@ -139,8 +139,8 @@ impl LiveTree {
         }
     }
 
-    /// Makes a file or a directory at a second, under the next number, which it returns. Where memory runs out the tree stays as
-    /// it is.
+    /// Makes a file or a directory at a second, under the next number, which it returns. If memory runs out the tree stays as it
+    /// is.
     pub fn add(
         &mut self,
         parent: u64,
@@ -168,7 +168,7 @@ impl LiveTree {
         Ok(number)
     }
 
-    /// Gives a node below the root another name and entry at a second. Where memory runs out the tree stays as it is.
+    /// Gives a node below the root another name and entry at a second. If memory runs out the tree stays as it is.
     pub fn rename(
         &mut self,
         number: u64,
@@ -248,7 +248,7 @@ impl LiveTree {
         })
     }
 
-    // Puts a node behind the others, under the next number. Where memory runs out the tree stays as it is.
+    // Puts a node after the others, under the next number. If memory runs out the tree stays as it is.
     fn append(&mut self, node: LiveNode) -> Result<(), AllocError>
         requires parent { IsDirectory self.old node.kept.parent }
         requires free { IsFree self.old node.kept.parent node.kept.name }
@@ -293,7 +293,7 @@ impl LiveTree {
         }
     }
 
-    // Gives a node another name and entry. Where memory runs out the tree stays as it is.
+    // Gives a node another name and entry. If memory runs out the tree stays as it is.
     fn give_name(
         &mut self,
         number: u64,

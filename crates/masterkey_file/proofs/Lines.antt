@@ -42,7 +42,7 @@ take_step : (t : Bool) (p : ℕ → Bool) (n b : ℕ) (bytes : List ℕ) → p b
 take_step true p n b bytes e rest = before_first-passes p b (take n bytes) e ∙ ap (take (suc n)) (sym (before_first-passes p b bytes e))
 take_step false p n b bytes e rest = before_first-fails p b (take n bytes) e ∙ ap (λ s. b ∷ s) rest ∙ ap (take (suc n)) (sym (before_first-fails p b bytes e))
 
--- what stands before the first element that passes, of a part from the front
+-- what is before the first element that passes, of a part from the front
 before_first-take : (p : ℕ → Bool) (n : ℕ) (bytes : List ℕ) → before_first p (take n bytes) ≡ take n (before_first p bytes)
 before_first-take p zero bytes = refl
 before_first-take p (suc n) [] = refl
@@ -53,7 +53,7 @@ behind_step : (t : Bool) (p : ℕ → Bool) (b : ℕ) (line rest : List ℕ) →
 behind_step true p b line rest e same = before_first-passes p b (line ++ rest) e ∙ sym (before_first-passes p b line e)
 behind_step false p b line rest e same = before_first-fails p b (line ++ rest) e ∙ ap (λ s. b ∷ s) same ∙ sym (before_first-fails p b line e)
 
--- what stands behind an LF is no part of the line
+-- what follows an LF is no part of the line
 line_of-behind : (line rest : List ℕ) → line_of (line ++ 10 ∷ rest) ≡ line_of line
 line_of-behind [] rest = refl
 line_of-behind (b ∷ line) rest = behind_step (b == 10) (λ c. c == 10) b line (10 ∷ rest) refl (line_of-behind line rest)
@@ -68,7 +68,7 @@ pub password_of-other_length : (secret line : List ℕ) → line ≡ line_of sec
     → password_of secret ≡ None
 password_of-other_length secret line is other = password_of-line secret line is ∙ rw other refl
 
--- no password where the second of two tests fails
+-- no password if the second of two tests fails
 none_where_second_fails : (b : Bool) (form : List ℕ) → cond (b && false) (Some form) None ≡ None
 none_where_second_fails true form = refl
 none_where_second_fails false form = refl
@@ -94,7 +94,7 @@ password_in-long line long =
     none_where_middle_fails true false form = refl
     none_where_middle_fails false b form = refl
 
--- a password depends on nothing behind the first LF
+-- a password depends on nothing after the first LF
 pub password_of-behind : (line rest : List ℕ) → password_of (line ++ 10 ∷ rest) ≡ password_of line
 unfolding password_of
 password_of-behind line rest = ap password_in (line_of-behind line rest)

@@ -9,7 +9,7 @@ use Rattle.masterkey_file.specs.declared.reading.KeyFileErr.TheVariants.{TooLong
 use Rattle.masterkey_file.specs.KeyFile.{Fault, Fields, too_long, not_json, fields_in, fields_of, keys_in, keys_of}
 use Rattle.masterkey_file.specs.Faults.{IsFault}
 
--- a fault stays one, whatever would have come behind it
+-- a fault stays one, whatever would have followed it
 pub IsFault-then : {A B : Type 0} (e : KeyFileErr) (found : Result A Fault) (rest : A → Result B Fault) → IsFault e found
     → IsFault e (result_and_then rest found)
 IsFault-then (TooLong n) found rest h = ap (result_and_then rest) h

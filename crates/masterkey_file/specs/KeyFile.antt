@@ -42,7 +42,7 @@ pub record Fields : Type 0 where
   pub wrapped_encryption_key : List ℕ
   pub wrapped_mac_key : List ℕ
 
--- the bytes of a member in base64 (RFC 4648, section 4), where they are of a length that may be
+-- the bytes of a member in base64 (RFC 4648, section 4), if they are of a length that may be
 abbrev pub bytes_at : Field → (ℕ → Bool) → Data → Option (List ℕ)
 bytes_at f fits value =
     option_and_then (λ bytes. if fits (length bytes) then Some bytes else None)
@@ -101,7 +101,7 @@ is_good_cost n r = is_power_of_two n && nat_lt 1 n && nat_lt 0 r && nat_le (128 
 abbrev pub wrapping_key : List ℕ → Fields → List ℕ
 wrapping_key password f = scrypt password f.salt_bytes f.n f.r 1 32
 
--- the two keys under the key that wraps them, and None where the check value of one of them differs
+-- the two keys under the key that wraps them, and None if the check value of one of them differs
 abbrev pub unwrapped_keys : List ℕ → Fields → Option KeyPair
 unwrapped_keys kek f =
     option_and_then (λ enc. option_map (λ mac. record { enc = enc; mac = mac }) (unwrapped (inverse_aes kek) f.wrapped_mac_key))

@@ -17,7 +17,7 @@ use std::alloc::{AllocError, Global};
 // The longest salt, in bytes.
 const SALT_LIMIT: usize = 1024;
 
-// What the members hold: scrypt's salt, cost and block size, and the two wrapped keys.
+/// What the members hold: scrypt's salt, cost and block size, and the two wrapped keys.
 #[derive(Drop)]
 pub(crate) struct Fields {
     pub(crate) salt: Vec<u8>,
@@ -27,7 +27,7 @@ pub(crate) struct Fields {
     pub(crate) wrapped_mac_key: [u8; 40],
 }
 
-// The members of a file's object.
+/// The members of a file's object.
 pub(crate) fn read_fields(alloc: Global, bytes: &[u8]) -> Result<Fields, KeyFileErr>
     ensures { MatchResult result
         (λ fields. fields_of bytes.now ≡ Ok (fields_data fields)) (λ e. IsFault e (fields_of bytes.now)) }

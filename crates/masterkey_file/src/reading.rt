@@ -28,7 +28,7 @@ pub enum FieldName {
 }
 
 impl FieldName {
-    // The name in JSON.
+    /// The name in JSON.
     pub(crate) fn json_name(self) -> &'static str
         ensures { result.now ≡ name_of (field_of self) }
     {
@@ -70,7 +70,7 @@ pub enum KeyFileErr {
     /// The cost isn't a power of two above 1, the block size is 0, or scrypt (RFC 7914) would take a table of more than 2^30
     /// bytes.
     Cost,
-    /// The password is another: a wrapped key's check value doesn't come out (RFC 3394, section 2.2.2).
+    /// The password is another: a wrapped key's check value isn't right (RFC 3394, section 2.2.2).
     WrongPassword,
     /// Memory ran out, which says nothing of the file and the password.
     Memory,
@@ -138,7 +138,7 @@ impl Error for KeyFileErr {}
 /// Reads the vault's keys from the bytes of its masterkey file: a JSON object with scrypt's salt, cost and block size and the
 /// two keys, each wrapped (RFC 3394) under a key of 32 bytes that scrypt (RFC 7914) makes of the password with one part.
 /// Every other member is ignored, `version` and `versionMac` too. `password` is UTF-8 in the form NFC, as the function `password`
-/// returns it. `KeyFileErr` tells each error's cause, in the order of the tests.
+/// returns it. `KeyFileErr` gives each error's cause, in the order of the tests.
 pub fn read(alloc: Global, bytes: &[u8], password: &[u8]) -> Result<VaultKeys, KeyFileErr>
     ensures keys { IfOk result (λ keys. keys_of bytes.now password.now ≡ Ok keys) }
     ensures fault { IfErr result (λ e. IsFault e (keys_of bytes.now password.now)) }
@@ -175,7 +175,7 @@ fn wrapping_key(alloc: Global, fields: &Fields, password: &[u8]) -> Result<[u8; 
     Ok(key)
 }
 
-// The keys that are wrapped under a key, if both check values come out.
+// The keys that are wrapped under a key, if both check values are right.
 fn unwrap_keys(kek: &[u8; 32], fields: &Fields) -> Option<VaultKeys>
     ensures { result ≡ unwrapped_keys kek.now (fields_data fields.now) }
 {

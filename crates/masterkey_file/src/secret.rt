@@ -80,7 +80,7 @@ fn first_line(bytes: &[u8]) -> &[u8]
     }
 }
 
-// Where the first LF stands.
+// Where the first LF is.
 fn line_end(bytes: &[u8]) -> Option<usize>
     ensures { result ≡ position (λ b. b == 10) bytes.now }
 {

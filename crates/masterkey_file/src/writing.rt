@@ -25,12 +25,12 @@ const BLOCK_SIZE: u64 = 8;
 
 const PARALLELIZATION: u64 = 1;
 
-// The version, which says that the vault's format stands in its configuration.
+// The version, which says that the vault's format is in its configuration.
 const VERSION: u32 = 999;
 
 /// Writes the masterkey file of these keys under a password (UTF-8 in the form NFC) as compact JSON, its members in the order
 /// of their names: scrypt (RFC 7914) has the cost 32768, the block size 8 and one part, the keys are wrapped (RFC 3394), and
-/// the version 999 stands with its HMAC-SHA-256 under the MAC key, of the version as 4 bytes, most significant first.
+/// the version 999 is there with its HMAC-SHA-256 under the MAC key, of the version as 4 bytes, most significant first.
 pub fn write(
     alloc: Global,
     keys: &VaultKeys,

@@ -6,11 +6,11 @@ use Rattle.outside.specs.Calls.{Told}
 use Rattle.outside.proofs.Told.{told_then, told_both, told_always}
 use Rattle.vault_path.specs.Parts.{is_part, is_path}
 use Rattle.siv_mode.specs.Keys.{KeyPair}
-use Rattle.long_names.specs.Places.{long_folder}
+use Rattle.vault_names.specs.Places.{long_folder}
 use Rattle.clear_tree.specs.Places.{host_folder, host_entry}
-use Rattle.directory_scan.specs.Format.{sealing_of}
-use Rattle.directory_scan.proofs.Sealings.{is_part-long_folder}
-use Rattle.tree_changes.specs.Taken.{or_else, if_there, if_file, first_claim, taken_by_identifier}
+use Rattle.tree_loading.specs.Format.{sealing_of}
+use Rattle.tree_loading.proofs.Sealings.{is_part-long_folder}
+use Rattle.tree_deed_laws.specs.Taken.{or_else, if_there, if_file, first_claim, taken_by_identifier}
 use Rattle.live_tree.specs.Held.{HeldTree}
 use Rattle.name_places.specs.declared.name.NewPlace.{NewPlace}
 use Rattle.name_places.specs.declared.directory.NewDirectory.{NewDirectory}
@@ -37,7 +37,7 @@ one_more true true false h = refl
 one_more true false c h = absurd cc
 one_more false b c h = absurd cc
 
--- an entry of a folder has a path where it is a part
+-- an entry of a folder has a path if it is a part
 pub entry_path : (h t : List ℕ) → is_path (host_folder h) ≡ true → is_path (host_entry h t) ≡ is_part t
 entry_path h t folder = one_more (is_part (take 2 h)) (is_part (drop 2 h)) (is_part t) folder
 

@@ -62,7 +62,7 @@ module _ (s : Sealing) where
       (lookup-filter-keys (is_at (nat_cmp q)) (λ j. not (j == k)) (not (q == k)) (λ j e. ap (λ (x : ℕ). not (x == k)) (sym (number_from q j e))) (changed tree parent now).nodes)
       ∙ by_drop (q == k) (node_of (changed tree parent now) q) ∙ ap (cond (q == k) None) (claimed_changed tree parent now q)
 
-  -- ---- one is put behind the others
+  -- ---- one is put after the others
 
   by_last : (b : Bool) (node : HeldNode) (o : Option HeldNode) → claimed_by s (cond b (Some node) o) ≡ cond b (claimed_in s node.kept.what) (claimed_by s o)
   by_last true node o = refl

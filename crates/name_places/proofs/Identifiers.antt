@@ -4,7 +4,7 @@ use Rattle.std.proofs.lemmas.Bool.Decides.{nat_tests}
 use Rattle.std.proofs.lemmas.Str.{is_utf8-from_IsUtf8}
 use Rattle.std.specs.Str.{IsUtf8, is_utf8}
 use Rattle.uuid.proofs.TextLemmas.{by_index_length}
-use Rattle.directory_scan.specs.Format.{is_identifier}
+use Rattle.tree_loading.specs.Format.{is_identifier}
 use Rattle.name_places.specs.New.{identifier_of}
 
 pub length-identifier_of : (drawn : List ℕ) → length (identifier_of drawn) ≡ 36

@@ -15,7 +15,7 @@ use Rattle.vault_path.specs.Parts.{is_part}
 use Rattle.tree_model.specs.Rows.{root}
 use Rattle.clear_tree.specs.Walk.{Sealing}
 use Rattle.clear_tree.specs.Places.{host_inner, text_dir}
-use Rattle.tree_changes.specs.Taken.{Claim, first_claim}
+use Rattle.tree_deed_laws.specs.Taken.{Claim, first_claim}
 use Rattle.live_tree.specs.Held.{HeldNode, HeldTree, node_of, parent_folder, IsTree}
 use Rattle.live_tree.proofs.Held.{number_from, at_true, at_false}
 use Rattle.name_places.specs.Claims.{claimed_in, NamesFolder, number_in, AreClaimsOf, claim_by, claim_of, claims_from, claims_in, HaveHostEntries}
@@ -50,7 +50,7 @@ each_entry P (e ∷ es) sorted h = (
 )
 
 module _ (s : Sealing) (tree : HeldTree) (f : List ℕ) where
-  -- ---- the claims of the nodes that stand elsewhere
+  -- ---- the claims of the nodes that are elsewhere
 
   by_claim : (o above : Option (List ℕ)) (entry : List ℕ) (rest : List Claim) → (o ≡ Some f → ⊥) → first_claim f (claim_by o above entry ++ rest) ≡ first_claim f rest
   by_claim None above entry rest other = refl

@@ -66,6 +66,6 @@ module _ (s : Sealing) (tree : HeldTree) (f : List ℕ) where
       go none_below (inl less) = absurd (none_below (omega (arith, low, less)))
       go none_below (inr more) = more
 
-  -- where none is the first below a bound, none below it names the folder
+  -- if none is the first below a bound, none below it names the folder
   pub none_names : (bound : ℕ) → ((m : ℕ) → m < bound → IsFirst s tree f m → ⊥) → (q : ℕ) → q < bound → NamesFolder s tree f q → ⊥
   none_names bound none q low is = no_lower bound none bound q low (omega arith) is

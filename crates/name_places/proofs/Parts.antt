@@ -11,13 +11,13 @@ use Rattle.siv_mode.specs.Keys.{KeyPair}
 use Rattle.siv_mode.specs.Siv.{siv_sealed}
 use Rattle.vault_path.specs.Parts.{is_part, is_part_byte}
 use Rattle.tree_model.specs.Names.{IsClearName}
-use Rattle.name_cipher.specs.Sealed.{suffix, sealed_name, opened_name, IsSealedName}
-use Rattle.name_cipher.proofs.NameLemmas.{AreBytes-clear}
-use Rattle.long_names.specs.Places.{long_folder, place_of}
-use Rattle.long_names.specs.declared.place.Place.TheVariants.{Short, Long}
+use Rattle.vault_names.specs.Sealed.{suffix, sealed_name, opened_name, IsSealedName}
+use Rattle.vault_names.proofs.NameLemmas.{AreBytes-clear}
+use Rattle.vault_names.specs.Places.{long_folder, place_of}
+use Rattle.vault_names.specs.declared.place.Place.TheVariants.{Short, Long}
 use Rattle.clear_tree.specs.Walk.{is_name}
-use Rattle.directory_scan.specs.Format.{sealing_of}
-use Rattle.directory_scan.proofs.Sealings.{all_part, append_part, encoded_part, is_part-long_folder, part_of_more}
+use Rattle.tree_loading.specs.Format.{sealing_of}
+use Rattle.tree_loading.proofs.Sealings.{all_part, append_part, encoded_part, is_part-long_folder, part_of_more}
 use Rattle.name_places.specs.New.{IsNewPlace}
 
 -- ---- parts

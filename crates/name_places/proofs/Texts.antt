@@ -1,4 +1,5 @@
--- The texts of sealed names are told from what else stands in a folder, the entries of nodes are parts of paths, and identifiers are short.
+-- The texts of sealed names are told apart from what else is in a folder, the entries of nodes are parts of paths, and identifiers are
+-- short.
 use Rattle.std.proofs.Common.{◌≡◌, ℕ, ◌<◌, ◌≤◌, List, ◌∷◌, length, length-take, take, Bool, true, false, ◌&&◌, cond, nat_le, Option, Some, None, refl, sym, ap, ◌∙◌, true≢false, ◌⊎◌, inl, inr, arith}
 use Rattle.std.proofs.lemmas.Bool.{cases_lt}
 use Rattle.std.proofs.lemmas.Bool.Decides.{nat_tests}
@@ -7,13 +8,13 @@ use Rattle.std.specs.Str.{is_utf8}
 use Rattle.std.specs.FinMap.{get}
 use Rattle.outside.specs.Disk.{Disk}
 use Rattle.siv_mode.specs.Keys.{KeyPair}
-use Rattle.dir_paths.specs.Folder.{base32, hash_of}
+use Rattle.vault_names.specs.Folder.{base32, hash_of}
 use Rattle.clear_tree.specs.Walk.{Path, Sealing, Node, File, Link, Dir, Bad}
 use Rattle.clear_tree.specs.Places.{entry_at, host_entry}
-use Rattle.directory_scan.specs.Format.{is_identifier}
-use Rattle.directory_scan.specs.Ciphers.{AreCiphers, is_long_entry}
-use Rattle.tree_changes.specs.Trees.{AreTexts, Tree, IsTreeOf}
-use Rattle.tree_changes.specs.Deeds.{entry_text, place_of}
+use Rattle.tree_loading.specs.Format.{is_identifier}
+use Rattle.tree_loading.specs.Ciphers.{AreCiphers, is_long_entry}
+use Rattle.tree_deed_laws.specs.Trees.{AreTexts, Tree, IsTreeOf}
+use Rattle.tree_deed_laws.specs.Deeds.{entry_text, place_of}
 use Rattle.name_places.specs.Laws.{KeptClaims}
 
 pub texts_from : (s : Sealing) → AreCiphers s → AreTexts s

@@ -5,11 +5,11 @@ use Rattle.std.specs.Option.{option_map, option_and_then}
 use Rattle.outside.specs.Disk.{Disk, Path as HostPath}
 use Rattle.vault_path.specs.Parts.{is_part}
 use Rattle.siv_mode.specs.Keys.{KeyPair}
-use Rattle.long_names.specs.Places.{long_folder}
+use Rattle.vault_names.specs.Places.{long_folder}
 use Rattle.clear_tree.specs.Walk.{Sealing}
 use Rattle.clear_tree.specs.Places.{host_two, host_folder, host_entry, host_inner, text_dir}
-use Rattle.directory_scan.specs.Format.{sealing_of}
-use Rattle.tree_changes.specs.Taken.{or_else, if_there, if_file, taken}
+use Rattle.tree_loading.specs.Format.{sealing_of}
+use Rattle.tree_deed_laws.specs.Taken.{or_else, if_there, if_file, taken}
 use Rattle.live_tree.specs.Held.{HeldNode, HeldTree, IsTree, node_of, parent_folder}
 use Rattle.name_places.specs.declared.name.NewPlace.{NewPlace}
 use Rattle.name_places.specs.declared.directory.NewDirectory.{NewDirectory}

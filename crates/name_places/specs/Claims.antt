@@ -10,7 +10,7 @@ use Rattle.tree_model.specs.Rows.{root}
 use Rattle.clear_tree.specs.Walk.{Sealing}
 use Rattle.clear_tree.specs.Places.{host_inner, text_dir}
 use Rattle.clear_tree.specs.Kept.{What, KeptFile, KeptLink, KeptDir, KeptBad}
-use Rattle.tree_changes.specs.Taken.{Claim}
+use Rattle.tree_deed_laws.specs.Taken.{Claim}
 use Rattle.live_tree.specs.Held.{HeldNode, HeldTree, node_of, parent_folder}
 
 -- the folder that a node names, by what is kept of it: a directory its own, a Bad node that of its text, if that is an identifier
@@ -51,7 +51,7 @@ AreClaimsOf s tree claims = (folder : List ℕ) (number : ℕ) → (number_in cl
 
 -- ---- the claims of the tree
 
--- a claim, by the folder that is named and the folder and the entry where the node stands
+-- a claim, by the folder that is named and the folder and the entry where the node is
 abbrev pub claim_by : Option (List ℕ) → Option (List ℕ) → List ℕ → List Claim
 claim_by None above entry = []
 claim_by (Some folder) None entry = []

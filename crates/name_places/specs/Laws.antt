@@ -1,4 +1,4 @@
--- What changes leave of the claims of a tree, and how they stand to those of a disk.
+-- What changes leave of the claims of a tree, and how they compare to those of a disk.
 use Rattle.std.specs.Prelude.{◌≡◌, ℕ, List, ◌∷◌, Bool, true, false, Some, None, IsTrue}
 use Rattle.std.specs.FinMap.{get}
 use Rattle.std.specs.Ordering.{nat_cmp}
@@ -9,10 +9,10 @@ use Rattle.vault_path.specs.Parts.{is_part}
 use Rattle.siv_mode.specs.Keys.{KeyPair}
 use Rattle.clear_tree.specs.Walk.{Path, Sealing, Node, Dir, claimed}
 use Rattle.clear_tree.specs.Kept.{what_of}
-use Rattle.directory_scan.specs.Format.{sealing_of}
-use Rattle.tree_changes.specs.Trees.{Tree, IsTreeOf}
-use Rattle.tree_changes.specs.Deeds.{place_of}
-use Rattle.tree_changes.specs.Taken.{IsClaimed}
+use Rattle.tree_loading.specs.Format.{sealing_of}
+use Rattle.tree_deed_laws.specs.Trees.{Tree, IsTreeOf}
+use Rattle.tree_deed_laws.specs.Deeds.{place_of}
+use Rattle.tree_deed_laws.specs.Taken.{IsClaimed}
 use Rattle.live_tree.specs.Held.{HeldNode, HeldTree, node_of, IsTree}
 use Rattle.clear_tree.specs.Built.{IsFile}
 use Rattle.live_tree.specs.Changes.{added, removed, renamed, touched, dated}

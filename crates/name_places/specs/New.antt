@@ -7,11 +7,11 @@ use Rattle.uuid.specs.declared.Variant.TheVariants.{RFC4122}
 use Rattle.vault_path.specs.Parts.{is_part, is_path}
 use Rattle.clear_tree.specs.Walk.{Sealing, is_name}
 use Rattle.clear_tree.specs.Places.{host_folder}
-use Rattle.tree_changes.specs.Deeds.{place_of}
+use Rattle.tree_deed_laws.specs.Deeds.{place_of}
 use Rattle.name_places.specs.declared.name.NewPlace.{NewPlace}
 use Rattle.name_places.specs.declared.directory.NewDirectory.{NewDirectory}
 
--- a text is at its long place where it has more characters than the threshold
+-- a text is at its long place if it has more characters than the threshold
 abbrev pub is_long : ℕ → List ℕ → Bool
 is_long threshold text = not (nat_le (length text) threshold)
 

@@ -3,19 +3,19 @@ ghost use Rattle.std.specs.Str.{is_utf8};
 ghost use Rattle.tree_model.specs.Rows.{root};
 ghost use Rattle.clear_tree.specs.Kept.{KeptBad};
 ghost use Rattle.clear_tree.specs.Built.{kept_what};
-ghost use Rattle.directory_scan.specs.Format.{sealing_of, is_identifier};
+ghost use Rattle.tree_loading.specs.Format.{sealing_of, is_identifier};
 ghost use Rattle.name_places.specs.Claims.{claimed_at, claimed_in, number_in, AreClaimsOf};
 ghost use Rattle.name_places.specs.Index.{AreClaimsBelow, IsPut};
 ghost use Rattle.name_places.specs.Laws.{Grows, IsInserted, Shrinks, TakesBack};
 
 use crate::directory::folder_of;
 use clear_tree::What;
-use dir_paths::IDENTIFIER_LIMIT;
 use live_tree::LiveTree;
 use siv_mode::VaultKeys;
 use std::alloc::{AllocError, Global};
 use std::collections::BTreeMap;
 use std::marker::Model;
+use vault_names::IDENTIFIER_LIMIT;
 
 /// Of each folder that a node below the root names, a directory or a Bad node, the lowest number of those nodes. O(log n) for
 /// each question and change. Clauses see its entries.
@@ -33,7 +33,7 @@ impl Model for Claims {
 }
 
 impl Claims {
-    /// The claims of a tree. Fails only where memory runs out.
+    /// The claims of a tree. Fails only if memory runs out.
     pub fn from_tree(alloc: Global, keys: &VaultKeys, live: &LiveTree) -> Result<Claims, AllocError>
         ensures { IfOk result (AreClaimsOf (sealing_of keys.now) live.now) }
     {
@@ -56,7 +56,7 @@ impl Claims {
     }
 
     /// Says that the next node of the tree, which is made now, names a folder, and returns whether no node named it before. It stays as
-    /// it is where memory runs out.
+    /// it is if memory runs out.
     pub fn insert(&mut self, folder: [u8; 32], number: u64) -> Result<bool, AllocError>
         ensures claims { OnOk result (Grows self.old self.new folder number) }
         ensures inserted { IfOk result (IsInserted self.old self.new folder number) }
@@ -73,7 +73,7 @@ impl Claims {
         self.numbers.remove(folder);
     }
 
-    // Takes in what the node of a number names, behind those of lower numbers.
+    // Takes in what the node of a number names, after those of lower numbers.
     fn take_in(&mut self, keys: &VaultKeys, live: &LiveTree, number: u64) -> Result<(), AllocError>
         requires below { number ≢ root }
         requires before { AreClaimsBelow (sealing_of keys.now) live.now number self.old }

@@ -1,13 +1,13 @@
 ghost use Rattle.std.specs.Prelude.{◌≡◌, ◌≤◌, length, IsTrue};
 ghost use Rattle.vault_path.specs.Parts.{is_path};
 ghost use Rattle.clear_tree.specs.Places.{host_folder};
-ghost use Rattle.directory_scan.specs.Format.{identifier_limit, sealing_of};
+ghost use Rattle.tree_loading.specs.Format.{identifier_limit, sealing_of};
 ghost use Rattle.name_places.specs.New.{IsNewDirectory};
 
-use dir_paths::{SEALED_LIMIT, base32};
 use sha1::Sha1;
 use siv_mode::{TAG_LEN, VaultKeys};
 use uuid::{Builder, Uuid};
+use vault_names::{SEALED_LIMIT, base32};
 
 /// A directory that is to be made.
 #[derive(Clone, Copy, Debug)]

@@ -1,9 +1,9 @@
-ghost use Rattle.directory_scan.specs.Format.{sealing_of};
-ghost use Rattle.tree_changes.specs.Trees.{AreTexts};
+ghost use Rattle.tree_loading.specs.Format.{sealing_of};
+ghost use Rattle.tree_deed_laws.specs.Trees.{AreTexts};
 ghost use Rattle.name_places.specs.Laws.{ClaimsAreWhole, DatingKeeps, EntriesAreParts, KeptClaims, MakingKeeps, RemovingKeeps, RenamingKeeps, WritingKeeps};
 
-use directory_scan::are_ciphers;
 use siv_mode::VaultKeys;
+use tree_loading::are_ciphers;
 
 /// Which texts are those of sealed names under a vault's keys: no long place and no copy of an identifier is one. It does
 /// nothing.

@@ -1,4 +1,4 @@
-//! Where a new name of a vault stands and a new directory has its folder, and whether such a place is taken already
+//! Where a new name of a vault is and a new directory has its folder, and whether such a place is taken already
 //! (Cryptomator's vault format 8).
 //!
 //! ```

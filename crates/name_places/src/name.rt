@@ -1,11 +1,10 @@
 ghost use Rattle.std.specs.Prelude.{◌≡◌, ◌≤◌, IfOk};
-ghost use Rattle.directory_scan.specs.Format.{sealing_of};
+ghost use Rattle.tree_loading.specs.Format.{sealing_of};
 ghost use Rattle.name_places.specs.New.{IsNewPlace};
 
-use long_names::{Place, place_of};
-use name_cipher::{Name, opening_undoes_sealing, seal_name};
 use siv_mode::{VaultKeys, opening_is_exact};
 use std::alloc::{AllocError, Global};
+use vault_names::{Name, Place, opening_undoes_sealing, place_of, seal_name};
 use vault_path::Text;
 
 /// The place of a new name in the folder of its directory.
@@ -19,8 +18,8 @@ pub struct NewPlace {
     pub long: bool,
 }
 
-/// The place of a name in the directory of an identifier, by the threshold, 1 to 250: the most characters of a text that stands
-/// at its short place. Fails only where memory runs out.
+/// The place of a name in the directory of an identifier, by the threshold, 1 to 250: the most characters of a text that is at
+/// its short place. Fails only if memory runs out.
 pub fn place_name(
     alloc: Global,
     keys: &VaultKeys,

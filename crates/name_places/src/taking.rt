@@ -5,7 +5,7 @@ ghost use Rattle.vault_path.specs.Parts.{is_path};
 ghost use Rattle.outside.specs.Calls.{HasCause, Told};
 ghost use Rattle.outside.specs.Images.{disk_in};
 ghost use Rattle.clear_tree.specs.Places.{host_folder};
-ghost use Rattle.tree_changes.specs.Taken.{if_file, if_there};
+ghost use Rattle.tree_deed_laws.specs.Taken.{if_file, if_there};
 ghost use Rattle.name_places.specs.Asked.{IsTaken, claim_path, taken_folder, taken_place, taken_short};
 
 use crate::claims::Claims;
@@ -13,8 +13,8 @@ use crate::directory::NewDirectory;
 use crate::name::NewPlace;
 use clear_tree::{host_folder, host_two};
 use live_tree::LiveTree;
-use long_names::long_folder;
 use outside::{Failed, Kind, Reads};
+use vault_names::long_folder;
 use vault_path::VaultPath;
 
 // The file of a directory's node folder that holds its identifier (Cryptomator's vault format 8).
@@ -22,8 +22,8 @@ const DIR: &[u8] = b"dir.c9r";
 
 /// The first path that is taken of those that a new name needs in the directory whose folder has these 32 characters: its short
 /// place, if that is a part of a path, and its long one; and for a new directory its folder, a file at that folder's part of two
-/// characters, and the `dir.c9r` of the first node that names the folder. `Failed` comes only where the folder's count of faults
-/// rose. It takes no memory.
+/// characters, and the `dir.c9r` of the first node that names the folder. `Failed` is returned only if the folder's count of
+/// faults rose. It takes no memory.
 pub fn taken<R: Reads>(
     folder: &mut R,
     parent: &[u8; 32],

@@ -217,7 +217,7 @@ change_again c rest fits =
 
 -- ---- the stat itself
 
--- where no bytes were left
+-- if no bytes were left
 pub ended_ok : {A : Type 0} (x : A × List ℕ) (y : A) → ended x ≡ Ok y → (x.1 ≡ []) × (x.0 ≡ y)
 ended_ok x y e =
     let g = passed_ok (eqb (length x.1) 0) Long x.0 y e in
@@ -263,7 +263,7 @@ stat_in_again c fits size =
     let read : change_at (change_fields c) ≡ Ok (c, []) = ap change_at (sym (append-nil (change_fields c))) ∙ change_again c [] fits in
     rw ((number_field 2).again (length (change_fields c)) (change_fields c) small, all, read) refl
 
--- a stat behind the number of its bytes
+-- a stat after the number of its bytes
 abbrev pub sized_stat : PlainChange → List ℕ
 sized_stat c = number 2 (length (change_stat c)) ++ change_stat c
 

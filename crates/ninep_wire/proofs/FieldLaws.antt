@@ -170,7 +170,7 @@ data_field = record {
 
 -- ---- several fields in a row
 
--- one step of a reader, and what comes after it
+-- one step of a reader, and what follows it
 pub step : {A D : Type 0} (a : List ℕ → Result (A × List ℕ) WireErr) (sa : A → List ℕ) (FA : A → Type 0) → IsField A a sa FA
     → (k : A × List ℕ → Result D WireErr) (bytes : List ℕ) (y : D) → IsBytes bytes → (a bytes >>= k) ≡ Ok y
     → (P : Type 0) → ((p : A) (rest : List ℕ) → Takes bytes (sa p) rest → FA p → k (p, rest) ≡ Ok y → P) → P

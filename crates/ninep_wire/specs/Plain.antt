@@ -1,4 +1,4 @@
--- Messages without where their names and bytes lie in memory.
+-- Messages, leaving out where their names and bytes lie in memory.
 use Rattle.std.specs.Prelude.{ℕ, List, take, drop, ⊤}
 use Rattle.tree_model.specs.Asked.{plain_change}
 use Rattle.tree_model.specs.Names.{names_in, IsWalk}
@@ -35,7 +35,7 @@ abbrev pub HasNames : TMessage → Type 0
 HasNames (sent.Walk fid newfid names) = IsWalk names.count names.bytes.now
 HasNames message = ⊤
 
--- an R-message that is written into these bytes: those of a read and of a stat stand in them already
+-- an R-message that is written into these bytes: those of a read and of a stat are in them already
 abbrev pub plain_r : RMessage → List ℕ → PlainRMessage
 plain_r (answered.Version msize text) old = r.version msize text.now
 plain_r (answered.Attach q) old = r.attach q

@@ -127,7 +127,7 @@ change_at bytes = do
     modifier.1,
   )
 
--- a value, where no bytes are left
+-- a value, if no bytes are left
 abbrev pub ended : {A : Type 0} → A × List ℕ → Result A WireErr
 ended x = if length x.1 == 0 then Ok x.0 else Err Long
 

@@ -54,7 +54,7 @@ abbrev pub optional_number : ℕ → Option ℕ → List ℕ
 optional_number n None = number n (256 ^ n - 1)
 optional_number n (Some x) = number n x
 
--- the qid is one field: untouched where all its 13 bytes are ones
+-- the qid is one field: untouched if all its 13 bytes are ones
 abbrev pub optional_qid : Option Qid → List ℕ
 optional_qid None = number 13 (256 ^ 13 - 1)
 optional_qid (Some q) = qid q

@@ -1,4 +1,5 @@
-//! Reading the stat of a Twstat, where a field of ones or an empty string isn't touched (stat(5)).
+//! Reading the stat of a Twstat, in which a field of ones or an empty string isn't touched
+//! (stat(5)).
 
 ghost use Rattle.std.specs.Option.{option_copied};
 ghost use Rattle.tree_model.specs.Asked.{plain_change};
@@ -97,7 +98,7 @@ fn change_of(bytes: &[u8]) -> Result<(StatChange<'_>, &[u8]), WireErr>
     Ok((change, rest))
 }
 
-/// What all of a stat's bytes say: its size, and fields of that size.
+// What all of a stat's bytes say: its size, and fields of that size.
 #[tactic(auto, unfolding(crate::specs::Reading::stat_in))]
 fn stat_in_all(bytes: &[u8]) -> Result<StatChange<'_>, WireErr>
     ensures { Gives plain_change result (stat_in bytes.now) }
@@ -111,7 +112,7 @@ fn stat_in_all(bytes: &[u8]) -> Result<StatChange<'_>, WireErr>
     Ok(change)
 }
 
-/// A stat behind the number of its bytes.
+/// A stat after the number of its bytes.
 #[tactic(auto, unfolding(crate::specs::Reading::stat_at))]
 pub fn stat_of(bytes: &[u8]) -> Result<(StatChange<'_>, &[u8]), WireErr>
     ensures { Gives (λ x. (plain_change x.0, x.1.now)) result (stat_at bytes.now) }

@@ -8,7 +8,7 @@ use crate::fault::WireErr;
 use byteorder::{ByteOrder, LittleEndian};
 use tree_model::{Names, Qid};
 
-/// The most names that a walk may have (walk(5)).
+// The most names that a walk may have (walk(5)).
 const NAMES_LIMIT: u16 = 16;
 
 /// So many bytes.
@@ -94,7 +94,7 @@ pub fn qid_of(bytes: &[u8]) -> Result<(Qid, &[u8]), WireErr>
     ))
 }
 
-/// What follows so many strings.
+// What follows so many strings.
 fn after_strings(count: u16, bytes: &[u8]) -> Result<&[u8], WireErr>
     ensures { Gives (λ rest. rest.now) result (rest_of (strings_at count bytes.now)) }
 {
@@ -105,7 +105,7 @@ fn after_strings(count: u16, bytes: &[u8]) -> Result<&[u8], WireErr>
     Ok(rest)
 }
 
-/// So many strings.
+// So many strings.
 fn strings_of(count: u16, bytes: &[u8]) -> Result<(Names<'_>, &[u8]), WireErr>
     ensures given { Gives (λ x. (names_in x.0.count x.0.bytes.now, x.1.now)) result (strings_at count bytes.now) }
     ensures form { IfOk result (λ x. (x.0.count ≡ count) × AreNames x.0.count x.0.bytes.now) }

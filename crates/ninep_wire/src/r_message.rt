@@ -1,6 +1,6 @@
 use tree_model::Qid;
 
-/// What a server answers (section 5 of the Plan 9 manual). The bytes of `Read` and `Stat` stand already in the buffer that the
+/// What a server answers (section 5 of the Plan 9 manual). The bytes of `Read` and `Stat` are already in the buffer that the
 /// message is written into, at their place in it.
 #[derive(Clone, Copy)]
 pub enum RMessage<'a> {

@@ -10,7 +10,7 @@ use crate::fields::{u8_of, u16_of, u32_of};
 use crate::t_message::{Message, TMessage};
 use crate::{kinds, messages};
 
-/// The fields of a message of this type.
+// The fields of a message of this type.
 #[tactic(auto, unfolding(crate::specs::Reading::t_message_at))]
 fn t_message_of(kind: u8, fields: &[u8]) -> Result<(TMessage<'_>, &[u8]), WireErr>
     ensures given { Gives (λ x. (plain_t x.0, x.1.now)) result (t_message_at kind fields.now) }
@@ -34,7 +34,7 @@ fn t_message_of(kind: u8, fields: &[u8]) -> Result<(TMessage<'_>, &[u8]), WireEr
     }
 }
 
-/// The message in all of a frame's bytes: its size, type and tag, and its fields.
+// The message in all of a frame's bytes: its size, type and tag, and its fields.
 #[tactic(auto, unfolding(crate::specs::Reading::message_in))]
 fn message_of(frame: &[u8]) -> Result<Message<'_>, WireErr>
     ensures given { Gives plain_message result (message_in frame.now) }

@@ -14,7 +14,7 @@ use crate::put::{put_qid, put_qids, put_string, put_u8, put_u16, put_u32, put_u6
 use crate::r_message::RMessage;
 use tree_model::{Qid, Stat};
 
-/// The bytes of a message before its fields: size[4] type[1] tag[2].
+// The bytes of a message before its fields: size[4] type[1] tag[2].
 const HEADER: usize = 7;
 
 fn kind_of(reply: &RMessage<'_>) -> u8
@@ -67,7 +67,7 @@ fn put_open(out: &mut [u8], opened: &Qid, iounit: u32) -> usize
     put_u32(out, at, iounit)
 }
 
-/// The count of a read's bytes, which stand behind it already.
+// The count of a read's bytes, which follow it already.
 fn put_read(out: &mut [u8], count: u32) -> usize
     requires { 11 + count ≤ length out.old }
     ensures bytes { Wrote out.old out.new HEADER result (number 4 count ++ take count (drop 11 out.old)) }
@@ -78,7 +78,7 @@ fn put_read(out: &mut [u8], count: u32) -> usize
     at + count as usize
 }
 
-/// The count of a stat's bytes, which stand behind it already.
+// The count of a stat's bytes, which follow it already.
 fn put_stat(out: &mut [u8], count: u16) -> usize
     requires { 9 + count ≤ length out.old }
     ensures bytes { Wrote out.old out.new HEADER result (number 2 count ++ take count (drop 9 out.old)) }
@@ -89,7 +89,7 @@ fn put_stat(out: &mut [u8], count: u16) -> usize
     at + usize::from(count)
 }
 
-/// The fields of an R-message, behind its header.
+// The fields of an R-message, after its header.
 fn put_fields(reply: &RMessage<'_>, out: &mut [u8]) -> usize
     requires form { HasForm reply.now }
     requires room { r_size reply.now ≤ length out.old }
@@ -137,7 +137,7 @@ pub fn write_reply(reply: &RMessage<'_>, tag: u16, out: &mut [u8]) -> usize
     size
 }
 
-/// The fields of a stat before its names.
+// The fields of a stat before its names.
 fn put_numbers(stat: &Stat<'_>, out: &mut [u8], at: usize) -> usize
     requires { at + 39 ≤ length out.old }
     ensures kind { stat.now.kind < 2 ^ 16 }
@@ -158,7 +158,7 @@ fn put_numbers(stat: &Stat<'_>, out: &mut [u8], at: usize) -> usize
     put_u64(out, at, stat.length)
 }
 
-/// The fields of a stat, behind its size.
+// The fields of a stat, after its size.
 fn put_stat_fields(stat: &Stat<'_>, out: &mut [u8]) -> usize
     requires fits { stat_size stat.now < 2 ^ 16 }
     requires room { stat_size stat.now + 2 ≤ length out.old }

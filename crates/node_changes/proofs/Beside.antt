@@ -1,10 +1,10 @@
--- A tree in memory stands on a disk whatever the journal's two files hold.
+-- A tree in memory is on a disk whatever the journal's two files hold.
 use Rattle.std.proofs.Common.{ℕ, List}
 use Rattle.outside.specs.Disk.{Disk, IsTree}
 use Rattle.chunk_journal.specs.Journal.{IsAlike}
 use Rattle.tree_model.specs.Rows.{Content}
 use Rattle.clear_tree.specs.Walk.{Sealing}
-use Rattle.tree_changes.proofs.Beside.{stays_beside}
+use Rattle.tree_deed_laws.proofs.Beside.{stays_beside}
 use Rattle.live_tree.specs.Held.{HeldTree}
 use Rattle.node_changes.specs.Changed.{StandsOn}
 

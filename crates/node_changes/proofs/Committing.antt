@@ -13,7 +13,7 @@ use Rattle.tree_model.specs.Rows.{Rows, row_of}
 use Rattle.tree_model.specs.Asked.{PlainRequest}
 use Rattle.tree_model.specs.Step.{Answer, stepped, early_refusal, refuses, step, work}
 use Rattle.tree_model.specs.Step.{node_of as request_node}
-use Rattle.tree_history.specs.History.{is_refusal}
+use Rattle.tree_model.specs.History.{is_refusal}
 use Rattle.clear_tree.specs.Walk.{Sealing}
 use Rattle.live_tree.specs.Held.{HeldTree, live_rows}
 use Rattle.node_changes.specs.Changed.{IsAtRest, LeadsOn, MakesStep, IsStepAnswer, HasChanged, MayHaveChanged}
@@ -26,7 +26,7 @@ early_step rows request second refusal e =
     ap (λ (o : Option Refusal). (option_map_or (λ refusal. stepped rows (refuses refusal)) o
     (option_map_or (λ row. work rows row request second) (row_of rows (request_node request)) (stepped rows (refuses refusals.Removed)))).answer) e
 
--- where the step answers no refusal none comes before the work
+-- if the step answers no refusal none comes before the work
 pub late_by : (rows : Rows) (request : PlainRequest) (second : ℕ) (answer : Answer) → (step rows request second).answer ≡ answer → is_refusal answer.reply ≡ false → IsNone (early_refusal rows request)
 late_by rows request second answer is accepted = go (early_refusal rows request) refl
   where

@@ -16,27 +16,27 @@ use Rattle.tree_model.specs.declared.refusal.Refusal.TheVariants as refusals
 use Rattle.tree_model.proofs.Steps.{step_worked}
 use Rattle.deeds.proofs.Fields.{both_true}
 use Rattle.clear_tree.specs.Queue.{In}
-use Rattle.tree_changes.proofs.Rows.{map_in, no_child}
+use Rattle.tree_deed_laws.proofs.Rows.{map_in, no_child}
 use Rattle.clear_tree.specs.Walk.{Path, Sealing, Node, File, Link, Dir, Bad, is_name, claimed}
 use Rattle.clear_tree.specs.Rows.{content_in}
 use Rattle.clear_tree.specs.Kept.{KeptDir, what_of, content_of}
-use Rattle.directory_scan.specs.Format.{sealing_of}
-use Rattle.tree_changes.specs.Trees.{AreTexts, Tree, IsTreeOf, with_node}
-use Rattle.tree_changes.specs.Taken.{AreClaimed, IsClaimed, taken}
-use Rattle.tree_changes.specs.Changes as laws
-use Rattle.tree_changes.specs.Deeds.{place_of}
+use Rattle.tree_loading.specs.Format.{sealing_of}
+use Rattle.tree_deed_laws.specs.Trees.{AreTexts, Tree, IsTreeOf, with_node}
+use Rattle.tree_deed_laws.specs.Taken.{AreClaimed, IsClaimed, taken}
+use Rattle.tree_deed_laws.specs.Changes as laws
+use Rattle.tree_deed_laws.specs.Deeds.{place_of}
 use Rattle.live_tree.specs.Held.{HeldNode, HeldTree, node_of, live_row, live_rows, IsFree, IsNamed, IsTree}
 use Rattle.live_tree.specs.Changes.{added, new_node, wrapped, AgreeBut, RowsAreAdded}
 use Rattle.live_tree.proofs.Held.{in_found}
-use Rattle.held_changes.specs.Holds.{IsAt, Holds}
-use Rattle.held_changes.proofs.Paths.{one_held}
-use Rattle.held_changes.proofs.Keeping.{free_names_are_free}
-use Rattle.held_changes.proofs.Numbers.{nodes_have_rows, reached}
-use Rattle.held_changes.proofs.Making.{making_holds}
-use Rattle.held_changes.proofs.Contents.{making_keeps_contents}
+use Rattle.live_tree_laws.specs.Holds.{IsAt, Holds}
+use Rattle.live_tree_laws.proofs.Paths.{one_held}
+use Rattle.live_tree_laws.proofs.Keeping.{free_names_are_free}
+use Rattle.live_tree_laws.proofs.Numbers.{nodes_have_rows, reached}
+use Rattle.live_tree_laws.proofs.Making.{making_holds}
+use Rattle.live_tree_laws.proofs.Contents.{making_keeps_contents}
 use Rattle.name_places.specs.Claims.{claimed_in, AreClaimsOf, claims_in}
 use Rattle.name_places.specs.Laws.{ClaimsAreWhole, KeptClaims}
-use Rattle.stray_entries.specs.Strays.{KeepsStrays}
+use Rattle.live_tree_laws.specs.Strays.{KeepsStrays}
 use Rattle.node_changes.proofs.Refusing.{find_in, find_true}
 use Rattle.node_changes.specs.Changed.{StandsOn, MakesStep, ShowsRows}
 use Rattle.node_changes.specs.Within.{AreWithin}
@@ -71,7 +71,7 @@ new_content contents next = ap (λ (b : Bool). cond b (chunks true []) (contents
 other_content : (contents : ℕ → Content) (next : ℕ) → AgreeBut next contents (with_new_content contents next)
 other_content contents next other apart = ap (λ (b : Bool). cond b (chunks true []) (contents other)) (ne_eqb other next apart)
 
--- a name and a node that can come into the directory of a number
+-- a name and a node that can be added to the directory of a number
 pub record CanCome (s : Sealing) (d : Disk) (live : HeldTree) (parent : ℕ) (i n : List ℕ) (long : Bool) (drawn : Option (List ℕ)) : Type 0 where
   pub held : HeldNode
   pub there : node_of live parent ≡ Some held

@@ -17,10 +17,10 @@ use Rattle.tree_model.specs.Asked.{PlainRequest, create}
 use Rattle.tree_model.specs.Step.{Answer}
 use Rattle.clear_tree.specs.Walk.{Sealing}
 use Rattle.clear_tree.specs.Places.{host_folder}
-use Rattle.directory_scan.specs.Format.{sealing_of}
-use Rattle.tree_changes.specs.Deeds.{Place, create_file_deeds, create_dir_deeds}
+use Rattle.tree_loading.specs.Format.{sealing_of}
+use Rattle.tree_deed_laws.specs.Deeds.{Place, create_file_deeds, create_dir_deeds}
 use Rattle.live_tree.specs.Held.{HeldTree, live_rows, IsTree}
-use Rattle.tree_history.specs.History.{is_refusal}
+use Rattle.tree_model.specs.History.{is_refusal}
 use Rattle.name_places.specs.declared.directory.NewDirectory.{NewDirectory}
 use Rattle.name_places.specs.New.{identifier_of}
 use Rattle.name_places.specs.Laws.{EntriesAreParts}
@@ -40,7 +40,7 @@ use Rattle.node_changes.proofs.Makings.{told_taken, is_late, is_accepted, never_
 stayed : (drew drew' : Option (List ℕ)) → drew' ≡ drew → Changes drew drew' GoesOn
 stayed drew drew' e = unchanged drew drew' GoesOn e (λ x. ([], sym (append-nil x)))
 
--- with no identifier, where nothing was drawn for a directory
+-- with no identifier, if nothing was drawn for a directory
 partly : (is_dir : Bool) (drew drew' : Option (List ℕ)) → Changes drew drew' GoesOn → (is_dir ≡ true → drew' ≡ drew) → IsDraw is_dir None drew drew'
 partly is_dir drew drew' changes unspent = record {
   directory = λ e. absurd (true≢false (sym e));
@@ -110,7 +110,7 @@ header_drawn keys drew drew' header draws place text deeds are =
 pub head_changes : (keys : KeyPair) (drew drew' : Option (List ℕ)) (header : List ℕ) → DrawsHead keys drew drew' header → Changes drew drew' GoesOn
 head_changes keys drew drew' header draws = changed_by drew drew' (λ (old new : List ℕ). new ≡ old ++ draws.head.nonce ++ draws.head.key) GoesOn (λ old new e. (draws.head.nonce ++ draws.head.key, e ∙ append_assoc old draws.head.nonce draws.head.key)) draws.drawn
 
--- where nothing was drawn before
+-- if nothing was drawn before
 pub header_partly : (drew mid drew' : Option (List ℕ)) → mid ≡ drew → Changes mid drew' GoesOn → Changes drew drew' GoesOn
 header_partly drew mid drew' same changes = subst (λ (d : Option (List ℕ)). Changes d drew' GoesOn) same changes
 
@@ -230,7 +230,7 @@ module _ (keys : KeyPair) (parts : EntriesAreParts keys) (live : HeldTree) (clai
               λ others more. is_accepted keys live parent site at name clear is_directory mode second is others,
             )))
 
-    -- and where no place is taken
+    -- and if no place is taken
     pub untaken : Told disk (IsTaken site.folder site.place drawn live claims None) → Told disk (IsUntaken (sealing_of keys) (create parent name is_directory mode) (drawn_in drawn) live claims)
     untaken told =
         told_then disk (IsTaken site.folder site.place drawn live claims None) (IsUntaken k (create parent name is_directory mode) (drawn_in drawn) live claims) told

@@ -19,21 +19,21 @@ use Rattle.tree_model.specs.Names.{NameFault, clear_name}
 use Rattle.tree_model.specs.Rows.{Content, bad_size, chunks, Row, Rows, is_dir, row_of, qid_of}
 use Rattle.tree_model.specs.Asked.{PlainRequest, create, qid, refused}
 use Rattle.tree_model.specs.Step.{Answer, Stepped, stepped, early, early_refusal, says, refuses, step, create_refusal, raw_name_refusal, new_row, with_new}
-use Rattle.tree_history.specs.History.{is_refusal}
+use Rattle.tree_model.specs.History.{is_refusal}
 use Rattle.clear_tree.specs.Walk.{Path, Sealing, Node, File, Dir}
 use Rattle.clear_tree.specs.Rows.{content_in}
 use Rattle.clear_tree.specs.Kept.{What, KeptFile, KeptDir, kind_of, what_of, content_of, folder_in}
-use Rattle.directory_scan.specs.Format.{sealing_of}
-use Rattle.tree_changes.specs.Trees.{AreTexts, Tree, IsTreeOf, with_node}
-use Rattle.tree_changes.specs.Taken.{taken}
-use Rattle.tree_changes.specs.Changes as laws
-use Rattle.tree_changes.specs.Deeds.{Place, place_of, create_file_deeds, create_dir_deeds}
-use Rattle.tree_changes.proofs.Creates.{creates_file, creates_directory}
+use Rattle.tree_loading.specs.Format.{sealing_of}
+use Rattle.tree_deed_laws.specs.Trees.{AreTexts, Tree, IsTreeOf, with_node}
+use Rattle.tree_deed_laws.specs.Taken.{taken}
+use Rattle.tree_deed_laws.specs.Changes as laws
+use Rattle.tree_deed_laws.specs.Deeds.{Place, place_of, create_file_deeds, create_dir_deeds}
+use Rattle.tree_deed_laws.proofs.Creates.{creates_file, creates_directory}
 use Rattle.live_tree.specs.Held.{HeldNode, HeldTree, live_row, live_rows, IsTree}
 use Rattle.live_tree.specs.Changes.{added, new_node, RowsAreAdded}
-use Rattle.held_changes.specs.Holds.{Holds}
-use Rattle.held_changes.proofs.Paths.{one_held}
-use Rattle.held_changes.proofs.Numbers.{nodes_have_rows, reached}
+use Rattle.live_tree_laws.specs.Holds.{Holds}
+use Rattle.live_tree_laws.proofs.Paths.{one_held}
+use Rattle.live_tree_laws.proofs.Numbers.{nodes_have_rows, reached}
 use Rattle.name_places.specs.declared.directory.NewDirectory.{NewDirectory}
 use Rattle.name_places.specs.New.{IsNewDirectory}
 use Rattle.name_places.specs.Claims.{AreClaimsOf, HaveHostEntries, claims_in}
@@ -42,8 +42,8 @@ use Rattle.name_places.specs.Asked.{IsTaken}
 use Rattle.name_places.specs.Asked.{identifier_in as drawn_in}
 use Rattle.name_places.proofs.Lowest.{making_keeps}
 use Rattle.name_places.proofs.Listed.{claims_are_whole}
-use Rattle.stray_entries.specs.Strays.{KeepsStrays}
-use Rattle.stray_entries.proofs.Laws.{created_directory_keeps, created_file_keeps}
+use Rattle.live_tree_laws.specs.Strays.{KeepsStrays}
+use Rattle.live_tree_laws.proofs.Laws.{created_directory_keeps, created_file_keeps}
 use Rattle.node_changes.specs.declared.site.Site.{Site}
 use Rattle.node_changes.specs.Changed.{StandsOn}
 use Rattle.node_changes.specs.Placed.{identifier_in, identifier_at, name_of, taken_in}

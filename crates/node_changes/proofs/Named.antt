@@ -14,21 +14,21 @@ use Rattle.tree_model.specs.declared.refusal.Refusal.TheVariants as refusals
 use Rattle.tree_model.specs.Rows.{Content}
 use Rattle.tree_model.specs.Asked.{PlainChange, change, done}
 use Rattle.tree_model.specs.Step.{Answer, Stepped, stepped, says, step, set_row, change_dir, with_mtime}
-use Rattle.tree_history.specs.History.{is_refusal}
+use Rattle.tree_model.specs.History.{is_refusal}
 use Rattle.clear_tree.specs.Walk.{Sealing}
 use Rattle.clear_tree.specs.Places.{text_dir, text_symlink, text_contents}
 use Rattle.clear_tree.specs.Kept.{What, KeptFile, KeptLink, KeptDir, KeptBad}
-use Rattle.directory_scan.specs.Format.{sealing_of}
-use Rattle.tree_changes.specs.Trees.{AreTexts}
-use Rattle.tree_changes.specs.Deeds.{Place, place_of, rename_file_at, rename_deeds}
-use Rattle.tree_changes.proofs.Disk.{entry_is}
-use Rattle.tree_changes.proofs.Names.{node_repeatable}
+use Rattle.tree_loading.specs.Format.{sealing_of}
+use Rattle.tree_deed_laws.specs.Trees.{AreTexts}
+use Rattle.tree_deed_laws.specs.Deeds.{Place, place_of, rename_file_at, rename_deeds}
+use Rattle.tree_deed_laws.proofs.Disk.{entry_is}
+use Rattle.tree_deed_laws.proofs.Names.{node_repeatable}
 use Rattle.live_tree.specs.Held.{HeldNode, HeldTree, live_row, live_rows}
 use Rattle.live_tree.specs.Changes.{renamed, wrapped}
-use Rattle.held_changes.proofs.Numbers.{nodes_have_rows}
-use Rattle.held_changes.proofs.Paths.{one_held}
-use Rattle.held_changes.proofs.Writing.{dating_holds}
-use Rattle.held_changes.proofs.Contents.{dating_keeps_contents}
+use Rattle.live_tree_laws.proofs.Numbers.{nodes_have_rows}
+use Rattle.live_tree_laws.proofs.Paths.{one_held}
+use Rattle.live_tree_laws.proofs.Writing.{dating_holds}
+use Rattle.live_tree_laws.proofs.Contents.{dating_keeps_contents}
 use Rattle.name_places.specs.Asked.{IsTaken}
 use Rattle.name_places.specs.Laws.{ClaimsAreWhole, EntriesAreParts, KeptClaims}
 use Rattle.name_places.proofs.Lowest.{dating_keeps}
@@ -84,7 +84,7 @@ module _ (s : Sealing) (live : HeldTree) (claims : List (List ℕ × ℕ)) (numb
 
 -- ---- with a new name
 
--- an mtime that is set leaves what the tree stands on
+-- an mtime that is set leaves what the tree is on
 pub dating_stands : (s : Sealing) (d : Disk) (live : HeldTree) (claims : List (List ℕ × ℕ)) (contents : ℕ → Content) (number : ℕ) (modified : Option ℕ) → StandsOn s d live claims contents → StandsOn s d (dated_if live number modified) claims contents
 dating_stands s d live claims contents number None stands = stands
 dating_stands s d live claims contents number (Some modified) stands = record {

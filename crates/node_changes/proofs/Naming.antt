@@ -12,7 +12,7 @@ use Rattle.tree_model.proofs.Steps.{step_worked}
 use Rattle.clear_tree.specs.Kept.{What, KeptFile, KeptLink, KeptDir, KeptBad, kind_of, folder_in}
 use Rattle.live_tree.specs.Held.{HeldNode, HeldTree, node_of, live_row, live_rows, IsNamed, IsFree, IsTree}
 use Rattle.live_tree.proofs.Rows.{row_is}
-use Rattle.held_changes.proofs.Numbers.{nodes_have_rows}
+use Rattle.live_tree_laws.proofs.Numbers.{nodes_have_rows}
 use Rattle.node_changes.specs.NewName.{IsRefusedAs, IsNameRefusal}
 use Rattle.node_changes.specs.Renaming.{IsRenamingIn}
 use Rattle.node_changes.proofs.Refusing.{find_true}

@@ -1,4 +1,4 @@
--- Where the node of a number stands in the tree of a disk.
+-- Where the node of a number is in the tree of a disk.
 use Rattle.std.proofs.Common.{◌≡◌, ◌≢◌, ◌==◌, ℕ, Bool, true, false, List, [], ◌∷◌, Option, Some, None, IsSome, refl, sym, ap, ◌∙◌, subst, true≢false, eqb-true, eq-eqb}
 use Rattle.std.specs.Option.{option_and_then}
 use Rattle.std.specs.FinMap.{get}
@@ -7,14 +7,14 @@ use Rattle.tree_model.specs.Rows.{root}
 use Rattle.clear_tree.specs.Walk.{Path, Sealing, Node, Dir}
 use Rattle.clear_tree.specs.Places.{folders_of}
 use Rattle.clear_tree.specs.Kept.{What as KeptWhat, KeptDir, folder_in}
-use Rattle.tree_changes.specs.Trees.{Tree, IsTreeOf}
-use Rattle.tree_changes.specs.Deeds.{place_of}
-use Rattle.tree_changes.proofs.Exact.{parent_there}
+use Rattle.tree_deed_laws.specs.Trees.{Tree, IsTreeOf}
+use Rattle.tree_deed_laws.specs.Deeds.{place_of}
+use Rattle.tree_deed_laws.proofs.Exact.{parent_there}
 use Rattle.live_tree.specs.Held.{HeldNode, HeldTree, node_of, IsNamed, IsTree}
-use Rattle.held_changes.specs.Holds.{IsAt, IsHeldAs, Holds}
-use Rattle.held_changes.proofs.Paths.{one_held}
-use Rattle.held_changes.proofs.Numbers.{reached}
-use Rattle.held_changes.proofs.Files.{places_are_held}
+use Rattle.live_tree_laws.specs.Holds.{IsAt, IsHeldAs, Holds}
+use Rattle.live_tree_laws.proofs.Paths.{one_held}
+use Rattle.live_tree_laws.proofs.Numbers.{reached}
+use Rattle.live_tree_laws.proofs.Files.{places_are_held}
 use Rattle.node_changes.specs.Removal.{IsFolderAbove, place_in}
 
 -- below the root: its directory at a path, of identifier i, and its name there

@@ -11,16 +11,16 @@ use Rattle.tree_model.specs.Asked.{PlainChange, change}
 use Rattle.clear_tree.specs.Walk.{Path, Sealing, Node, Dir, node_at}
 use Rattle.clear_tree.specs.Places.{folders_of, host_entry, host_inner, seen_at, entry_at, text_name}
 use Rattle.clear_tree.specs.Kept.{What, KeptDir, what_of, folder_in}
-use Rattle.directory_scan.specs.Format.{sealing_of}
-use Rattle.tree_changes.specs.Trees.{AreTexts, Tree, IsTreeOf}
-use Rattle.tree_changes.specs.Taken.{taken}
-use Rattle.tree_changes.specs.Deeds.{Place, place_of, entry_text}
-use Rattle.tree_changes.proofs.Seeing.{text_of, some_there, entry_none, entry_part, long_shown, file_bytes, looked, node_kind, above_inner}
-use Rattle.tree_changes.proofs.Places.{free_places}
-use Rattle.tree_changes.proofs.Filling.{IsAt, is_at, entry_free}
-use Rattle.tree_changes.proofs.Exact.{name_there}
+use Rattle.tree_loading.specs.Format.{sealing_of}
+use Rattle.tree_deed_laws.specs.Trees.{AreTexts, Tree, IsTreeOf}
+use Rattle.tree_deed_laws.specs.Taken.{taken}
+use Rattle.tree_deed_laws.specs.Deeds.{Place, place_of, entry_text}
+use Rattle.tree_deed_laws.proofs.Seeing.{text_of, some_there, entry_none, entry_part, long_shown, file_bytes, looked, node_kind, above_inner}
+use Rattle.tree_deed_laws.proofs.Places.{free_places}
+use Rattle.tree_deed_laws.proofs.Filling.{IsAt, is_at, entry_free}
+use Rattle.tree_deed_laws.proofs.Exact.{name_there}
 use Rattle.live_tree.specs.Held.{HeldNode, HeldTree, node_of}
-use Rattle.held_changes.proofs.Paths.{one_held}
+use Rattle.live_tree_laws.proofs.Paths.{one_held}
 use Rattle.name_places.specs.Asked.{IsTaken}
 use Rattle.name_places.specs.Claims.{HaveHostEntries, claims_in}
 use Rattle.name_places.specs.Laws.{EntriesAreParts}

@@ -9,12 +9,12 @@ use Rattle.tree_model.specs.Asked.{remove}
 use Rattle.tree_model.specs.Step.{early, early_refusal, has_children, removal_refusal}
 use Rattle.clear_tree.specs.Queue.{In}
 use Rattle.clear_tree.specs.Kept.{What, KeptFile, KeptLink, KeptDir, KeptBad, kind_of, folder_in}
-use Rattle.tree_changes.proofs.Rows.{map_in, none_in}
+use Rattle.tree_deed_laws.proofs.Rows.{map_in, none_in}
 use Rattle.deeds.proofs.Fields.{both_true}
 use Rattle.live_tree.specs.Held.{HeldNode, HeldTree, node_of, live_row, live_rows, IsChild, IsChildless, IsNext, IsNoNext, IsTree}
 use Rattle.live_tree.proofs.Held.{in_found}
 use Rattle.live_tree.proofs.Rows.{row_is}
-use Rattle.held_changes.proofs.Numbers.{nodes_have_rows}
+use Rattle.live_tree_laws.proofs.Numbers.{nodes_have_rows}
 use Rattle.node_changes.specs.Removal.{IsRemovalRefusal}
 
 -- ---- members of lists

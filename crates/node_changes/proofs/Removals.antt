@@ -17,25 +17,25 @@ use Rattle.clear_tree.specs.Walk.{Path, Sealing, Node, File, Link, Dir, Bad, cla
 use Rattle.clear_tree.specs.Places.{folders_of, text_contents, text_symlink}
 use Rattle.clear_tree.specs.Kept.{What, KeptFile, KeptLink, KeptDir, KeptBad, what_of, folder_in}
 use Rattle.clear_tree.proofs.Paths.{child_apart}
-use Rattle.directory_scan.specs.Format.{sealing_of}
-use Rattle.tree_changes.specs.Trees.{AreTexts, Tree, IsTreeOf, without_node}
-use Rattle.tree_changes.specs.Changes as laws
-use Rattle.tree_changes.specs.Deeds.{Place, place_of, remove_deeds}
-use Rattle.tree_changes.proofs.Exact.{named_once, unset}
-use Rattle.tree_changes.proofs.Removes.{removes_file, removes_link, removes_directory, node_repeatable, dir_repeatable}
+use Rattle.tree_loading.specs.Format.{sealing_of}
+use Rattle.tree_deed_laws.specs.Trees.{AreTexts, Tree, IsTreeOf, without_node}
+use Rattle.tree_deed_laws.specs.Changes as laws
+use Rattle.tree_deed_laws.specs.Deeds.{Place, place_of, remove_deeds}
+use Rattle.tree_deed_laws.proofs.Exact.{named_once, unset}
+use Rattle.tree_deed_laws.proofs.Removes.{removes_file, removes_link, removes_directory, node_repeatable, dir_repeatable}
 use Rattle.live_tree.specs.Held.{HeldNode, HeldTree, node_of, live_row, live_rows, IsTree}
 use Rattle.live_tree.specs.Changes.{removed, wrapped, RowsAreRemoved}
-use Rattle.held_changes.specs.Holds.{IsAt, Holds}
-use Rattle.held_changes.proofs.Paths.{one_held, one_number}
-use Rattle.held_changes.proofs.Keeping.{childless_have_no_child}
-use Rattle.held_changes.proofs.Numbers.{nodes_have_rows, reached}
-use Rattle.held_changes.proofs.Removing.{removing_holds}
-use Rattle.held_changes.proofs.Contents.{removing_keeps_contents}
+use Rattle.live_tree_laws.specs.Holds.{IsAt, Holds}
+use Rattle.live_tree_laws.proofs.Paths.{one_held, one_number}
+use Rattle.live_tree_laws.proofs.Keeping.{childless_have_no_child}
+use Rattle.live_tree_laws.proofs.Numbers.{nodes_have_rows, reached}
+use Rattle.live_tree_laws.proofs.Removing.{removing_holds}
+use Rattle.live_tree_laws.proofs.Contents.{removing_keeps_contents}
 use Rattle.name_places.specs.Claims.{claimed_in, claimed_at, NamesFolder, IsOnly, AreClaimsOf}
 use Rattle.name_places.specs.Laws.{EntriesAreParts, KeptClaims, Shrinks}
 use Rattle.name_places.proofs.Lowest.{removing_keeps}
-use Rattle.stray_entries.specs.Strays.{KeepsStrays}
-use Rattle.stray_entries.proofs.Laws.{removed_directory_keeps, removed_file_keeps, removed_link_keeps}
+use Rattle.live_tree_laws.specs.Strays.{KeepsStrays}
+use Rattle.live_tree_laws.proofs.Laws.{removed_directory_keeps, removed_file_keeps, removed_link_keeps}
 use Rattle.node_changes.specs.Changed.{StandsOn, MakesStep, LeadsOn, MayRefuse, ShowsRows, IsStepAnswer}
 use Rattle.node_changes.specs.Causes.{RefusalCause}
 use Rattle.node_changes.specs.Within.{AreWithin}
@@ -74,7 +74,7 @@ module _ (keys : KeyPair) (kept : KeptClaims keys) (d : Disk) (tree : Tree) (of 
             ∙ ap (λ (z : HeldNode). claimed_in s z.kept.what) same ∙ has.2;
       }
 
-  -- where no identifier is named twice, the node that names a folder is the only one
+  -- if no identifier is named twice, the node that names a folder is the only one
   pub is_only : (number : ℕ) (folder : List ℕ) → live.twice ≡ false → NamesFolder s live folder number → IsOnly s live folder number
   is_only number folder once names = record {
     names = names;

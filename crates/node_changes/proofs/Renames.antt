@@ -10,23 +10,23 @@ use Rattle.tree_model.specs.Asked.{PlainRequest}
 use Rattle.tree_model.specs.Step.{step}
 use Rattle.clear_tree.specs.Walk.{Sealing, Node, File, Link, Dir, Bad, is_name}
 use Rattle.clear_tree.specs.Kept.{KeptDir, KeptBad, what_of, folder_in}
-use Rattle.directory_scan.specs.Format.{sealing_of}
-use Rattle.tree_changes.specs.Trees.{AreTexts, Tree, with_name}
-use Rattle.tree_changes.specs.Taken.{taken}
-use Rattle.tree_changes.specs.Changes as laws
-use Rattle.tree_changes.specs.Deeds.{Place, place_of, rename_deeds}
-use Rattle.tree_changes.proofs.Renames.{renames_file, renames_link, renames_directory}
+use Rattle.tree_loading.specs.Format.{sealing_of}
+use Rattle.tree_deed_laws.specs.Trees.{AreTexts, Tree, with_name}
+use Rattle.tree_deed_laws.specs.Taken.{taken}
+use Rattle.tree_deed_laws.specs.Changes as laws
+use Rattle.tree_deed_laws.specs.Deeds.{Place, place_of, rename_deeds}
+use Rattle.tree_deed_laws.proofs.Renames.{renames_file, renames_link, renames_directory}
 use Rattle.live_tree.specs.Held.{HeldNode, HeldTree, node_of, live_rows, IsFree}
 use Rattle.live_tree.specs.Changes.{renamed, wrapped}
-use Rattle.held_changes.proofs.Paths.{one_held}
-use Rattle.held_changes.proofs.Keeping.{free_names_are_free}
-use Rattle.held_changes.proofs.Renaming.{renaming_holds}
-use Rattle.held_changes.proofs.Contents.{renaming_keeps_contents}
+use Rattle.live_tree_laws.proofs.Paths.{one_held}
+use Rattle.live_tree_laws.proofs.Keeping.{free_names_are_free}
+use Rattle.live_tree_laws.proofs.Renaming.{renaming_holds}
+use Rattle.live_tree_laws.proofs.Contents.{renaming_keeps_contents}
 use Rattle.name_places.specs.Claims.{claims_in}
 use Rattle.name_places.specs.Laws.{ClaimsAreWhole, KeptClaims}
 use Rattle.name_places.proofs.Lowest.{renaming_keeps}
-use Rattle.stray_entries.specs.Strays.{KeepsStrays}
-use Rattle.stray_entries.proofs.Laws.{renamed_directory_keeps, renamed_file_keeps, renamed_link_keeps}
+use Rattle.live_tree_laws.specs.Strays.{KeepsStrays}
+use Rattle.live_tree_laws.proofs.Laws.{renamed_directory_keeps, renamed_file_keeps, renamed_link_keeps}
 use Rattle.node_changes.specs.Changed.{StandsOn, MakesStep, ShowsRows}
 use Rattle.node_changes.specs.Removal.{IsFolderAbove, place_in}
 use Rattle.node_changes.specs.Within.{AreWithin}

@@ -7,7 +7,7 @@ use Rattle.tree_model.specs.Step.{set_row, change_dir}
 use Rattle.live_tree.specs.Held.{HeldNode, HeldTree, node_of, live_row, live_rows}
 use Rattle.live_tree.specs.Changes.{edited, renamed, renamed_node, changed_node, wrapped, wrapped_row, RowsAreRenamed, RowsAreDated}
 use Rattle.live_tree.proofs.After.{lookup_edit, picked}
-use Rattle.held_changes.proofs.Numbers.{nodes_have_rows}
+use Rattle.live_tree_laws.proofs.Numbers.{nodes_have_rows}
 use Rattle.node_changes.specs.NewName.{RowsAreNamed}
 
 -- ---- rows that are set

@@ -13,16 +13,16 @@ use Rattle.tree_model.specs.Rows.{Content, bad_size, Row, Rows, is_dir, row_of}
 use Rattle.tree_model.specs.Asked.{create, qid, refused}
 use Rattle.tree_model.specs.Step.{Answer, Stepped, stepped, says, refuses, step, name_refusal, raw_name_refusal, create_refusal, create_named, is_full, node_limit}
 use Rattle.tree_model.proofs.Steps.{step_removed, step_refused, step_worked}
-use Rattle.name_cipher.specs.Faults.{IsFault}
-use Rattle.name_cipher.specs.declared.name.BadName.{BadName}
-use Rattle.name_cipher.specs.declared.name.BadName.TheVariants.{NotUtf8, Empty, Dots, Forbidden, TooLong, Memory}
+use Rattle.vault_names.specs.Faults.{IsFault}
+use Rattle.vault_names.specs.declared.name.BadName.{BadName}
+use Rattle.vault_names.specs.declared.name.BadName.TheVariants.{NotUtf8, Empty, Dots, Forbidden, TooLong, Memory}
 use Rattle.clear_tree.specs.Walk.{Sealing, is_name}
 use Rattle.clear_tree.specs.Kept.{What, KeptFile, KeptLink, KeptDir, KeptBad, kind_of, folder_in}
-use Rattle.directory_scan.specs.Ciphers.{AreCiphers}
+use Rattle.tree_loading.specs.Ciphers.{AreCiphers}
 use Rattle.live_tree.specs.Held.{HeldNode, HeldTree, node_of, live_row, live_rows, IsFree, IsNamed, IsTree}
 use Rattle.live_tree.specs.Changes.{count_limit}
 use Rattle.live_tree.proofs.Rows.{row_is}
-use Rattle.held_changes.proofs.Numbers.{nodes_have_rows}
+use Rattle.live_tree_laws.proofs.Numbers.{nodes_have_rows}
 use Rattle.node_changes.specs.Placed.{identifier_in}
 use Rattle.node_changes.specs.Creating.{IsSiteRefusal, name_fault_refusal}
 use Rattle.node_changes.proofs.Creations.{free_child, named_child, bad_name_step, there_already_step, full_step}

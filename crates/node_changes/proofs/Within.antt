@@ -4,7 +4,7 @@ use Rattle.outside.specs.Disk.{Path as HostPath}
 use Rattle.deeds.specs.Deeds.{PlainDeed}
 use Rattle.clear_tree.specs.Places.{text_d, text_contents, text_dir, text_symlink}
 use Rattle.clear_tree.specs.Kept.{What, KeptFile, KeptLink, KeptDir, KeptBad}
-use Rattle.tree_changes.specs.Deeds.{Place, make_node, clear_node, create_file_at, create_file_deeds, create_dir_deeds, remove_node_at, remove_file_at, remove_dir_at, remove_deeds, rename_node_at, rename_file_at, rename_deeds}
+use Rattle.tree_deed_laws.specs.Deeds.{Place, make_node, clear_node, create_file_at, create_file_deeds, create_dir_deeds, remove_node_at, remove_file_at, remove_dir_at, remove_deeds, rename_node_at, rename_file_at, rename_deeds}
 use Rattle.node_changes.specs.Within.{IsWithin, AreWithin}
 
 -- such a path is one

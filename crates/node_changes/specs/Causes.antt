@@ -4,7 +4,7 @@ use Rattle.outside.specs.Images.{Log}
 use Rattle.tree_model.specs.declared.refusal.Refusal.{Refusal}
 use Rattle.tree_model.specs.declared.refusal.Refusal.TheVariants as refusals
 use Rattle.tree_model.specs.Asked.{PlainRequest}
-use Rattle.tree_history.specs.History.{MayLackMemory, MayPlace}
+use Rattle.tree_model.specs.History.{MayLackMemory, MayPlace}
 use Rattle.live_tree.specs.Held.{HeldTree}
 use Rattle.node_changes.specs.declared.error.ChangeErr.{ChangeErr}
 use Rattle.node_changes.specs.declared.error.ChangeErr.TheVariants.{Refused, Broken}
@@ -28,7 +28,7 @@ abbrev pub IfRefused : ChangeErr → (Refusal → Type 0) → Type 0
 IfRefused (Refused refusal) P = P refusal
 IfRefused Broken P = ⊤
 
--- P where the commit failed
+-- P if the commit failed
 abbrev pub IfBroken : ChangeErr → Type 0 → Type 0
 IfBroken (Refused refusal) P = ⊤
 IfBroken Broken P = P

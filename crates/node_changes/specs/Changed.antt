@@ -10,14 +10,14 @@ use Rattle.tree_model.specs.declared.refusal.Refusal.TheVariants as refusals
 use Rattle.tree_model.specs.Rows.{Content, Rows}
 use Rattle.tree_model.specs.Asked.{PlainRequest}
 use Rattle.tree_model.specs.Step.{Answer, refuses, step, early_refusal}
-use Rattle.tree_history.specs.History.{is_refusal}
+use Rattle.tree_model.specs.History.{is_refusal}
 use Rattle.clear_tree.specs.Walk.{Sealing}
-use Rattle.tree_changes.specs.Trees.{Tree, IsTreeOf}
+use Rattle.tree_deed_laws.specs.Trees.{Tree, IsTreeOf}
 use Rattle.live_tree.specs.Held.{HeldTree, live_rows}
 use Rattle.live_tree.specs.Changes.{wrapped}
-use Rattle.held_changes.specs.Holds.{Holds, AreHeldContents}
+use Rattle.live_tree_laws.specs.Holds.{Holds, AreHeldContents}
 use Rattle.name_places.specs.Claims.{AreClaimsOf}
-use Rattle.stray_entries.specs.Strays.{KeepsStrays}
+use Rattle.live_tree_laws.specs.Strays.{KeepsStrays}
 use Rattle.node_changes.specs.Within.{AreWithin}
 
 -- The tree in memory, with the index of its claims, is that of a disk, whose files and links have these contents by number.
@@ -98,7 +98,7 @@ pub record MayHaveChanged (s : Sealing) (request : PlainRequest) (second : ℕ) 
 -- ---- refusals
 
 -- A refusal of a change that made nothing: the step's own; the folder's or the random source's fault once the work had begun; a place that
--- is taken, where the step would answer; or lack of memory for a node that is there.
+-- is taken, if the step would answer; or lack of memory for a node that is there.
 abbrev pub MayRefuse : Sealing → PlainRequest → ℕ → Option HostPath → Refusal → Disk → HeldTree → List (List ℕ × ℕ) → Type 0
 MayRefuse s request second taken refusals.DeviceFault d live claims = IsLate s request d live claims
 MayRefuse s request second taken refusals.RandomFault d live claims = IsLate s request d live claims

@@ -1,4 +1,4 @@
--- A new node before its commit: where it is to stand, and what its deeds lead to.
+-- A new node before its commit: where it is to be, and what its deeds lead to.
 use Rattle.std.specs.Prelude.{◌≡◌, ◌≢◌, ◌<◌, ◌^◌, ℕ, List, length, ◌++◌, Bool, true, false, Option, Some, None, IsTrue, if◌then◌else◌}
 use Rattle.vault_path.specs.Parts.{is_path}
 use Rattle.outside.specs.Disk.{Disk}
@@ -13,12 +13,12 @@ use Rattle.tree_model.specs.Names.{IsClearName}
 use Rattle.tree_model.specs.Rows.{Content}
 use Rattle.tree_model.specs.Asked.{PlainRequest, create}
 use Rattle.tree_model.specs.Step.{Answer, refuses, step, is_full}
-use Rattle.name_cipher.specs.declared.name.BadName.{BadName}
-use Rattle.name_cipher.specs.declared.name.BadName.TheVariants.{NotUtf8, Empty, Dots, Forbidden, TooLong, Memory}
+use Rattle.vault_names.specs.declared.name.BadName.{BadName}
+use Rattle.vault_names.specs.declared.name.BadName.TheVariants.{NotUtf8, Empty, Dots, Forbidden, TooLong, Memory}
 use Rattle.clear_tree.specs.Walk.{Sealing}
 use Rattle.clear_tree.specs.Places.{host_folder}
 use Rattle.clear_tree.specs.Kept.{KeptDir}
-use Rattle.directory_scan.specs.Format.{sealing_of}
+use Rattle.tree_loading.specs.Format.{sealing_of}
 use Rattle.live_tree.specs.Held.{HeldNode, HeldTree, node_of, live_rows, IsFree}
 use Rattle.name_places.specs.declared.directory.NewDirectory.{NewDirectory}
 use Rattle.name_places.specs.New.{IsNewPlace, IsNewDirectory}
@@ -28,9 +28,9 @@ use Rattle.node_changes.specs.Changed.{StandsOn, MakesStep, IsStepAnswer, MayRef
 use Rattle.node_changes.specs.Placed.{taken_for, IsIdentifierOf}
 use Rattle.node_changes.specs.Creation.{IsDraw, IsFoundTaken, MakesDrawn}
 
--- ---- where it is to stand
+-- ---- where it is to be
 
--- A new node can stand there in the directory of a number: its name is free, the tree has room for it, and its place is that of its name.
+-- A new node can be there in the directory of a number: its name is free, the tree has room for it, and its place is that of its name.
 pub record IsSite (s : Sealing) (live : HeldTree) (parent : ℕ) (site : Site) : Type 0 where
   pub held : HeldNode
   pub there : node_of live parent ≡ Some held
@@ -45,7 +45,7 @@ pub record IsSite (s : Sealing) (live : HeldTree) (parent : ℕ) (site : Site) :
   pub short : length site.place.text < 2 ^ 32
 
 -- Why a node can't be made, before anything is drawn and the folder is read, so that no place is found taken: as the step refuses it, or for
--- lack of memory where the number has a node.
+-- lack of memory if the number has a node.
 abbrev pub IsSiteRefusal : HeldTree → ℕ → List ℕ → Refusal → Type 0
 IsSiteRefusal live parent name refusals.OutOfMemory =
     (contents : ℕ → Content) (is_dir : Bool) (mode second : ℕ) → (step (live_rows contents live) (create parent name is_dir mode) second).answer ≢ refuses refusals.Removed
@@ -78,7 +78,7 @@ pub record DrawsDirectory (keys : KeyPair) (directory : NewDirectory) (drew drew
   pub is : IsNewDirectory (sealing_of keys) bytes directory
   pub first : Changes drew drew' (IsIdentifierOf directory.identifier)
 
--- where a directory is made, and else nothing
+-- if a directory is made, and else nothing
 abbrev pub DrawsIf : KeyPair → Bool → Option NewDirectory → Option (List ℕ) → Option (List ℕ) → Type 0
 DrawsIf keys is_dir None drew drew' = (is_dir ≡ false) × (drew' ≡ drew)
 DrawsIf keys is_dir (Some directory) drew drew' = (is_dir ≡ true) × DrawsDirectory keys directory drew drew'
@@ -98,13 +98,13 @@ pub record DrawsHead (keys : KeyPair) (drew drew' : Option (List ℕ)) (header :
 abbrev pub new_qid : HeldTree → Bool → Qid
 new_qid live is_dir = record { kind = if is_dir then 0x80 else 0; version = 0; path = live.next }
 
--- On whatever disk the tree in memory stands for, where no place of the node is taken, the deeds lead to the tree with it, with the step's
+-- On whatever disk the tree in memory stands for, if no place of the node is taken, the deeds lead to the tree with it, with the step's
 -- answer.
 abbrev pub MakesOn : Sealing → PlainRequest → ℕ → Answer → Option (List ℕ) → HeldTree → HeldTree → List (List ℕ × ℕ) → List (List ℕ × ℕ) → List PlainDeed → Type 0
 MakesOn s request second answer drawn live live' claims claims' deeds = (d : Disk) (contents : ℕ → Content) → StandsOn s d live claims contents
     → taken_for s d live request drawn ≡ None → MakesStep s request second deeds d live live' claims claims' × IsStepAnswer s request second answer d live claims
 
--- no place is taken on the disk, where the tree in memory stands for it
+-- no place is taken on the disk, if the tree in memory stands for it
 abbrev pub IsUntaken : Sealing → PlainRequest → Option (List ℕ) → HeldTree → List (List ℕ × ℕ) → Disk → Type 0
 IsUntaken s request drawn live claims d = (contents : ℕ → Content) → StandsOn s d live claims contents → taken_for s d live request drawn ≡ None
 
@@ -116,7 +116,7 @@ pub record IsReady (keys : KeyPair) (request : PlainRequest) (is_dir : Bool) (se
   pub untaken : Told disk (IsUntaken (sealing_of keys) request drawn live claims)
   pub made_of : MakesDrawn keys deeds drawn drew drew'
 
--- the refusal is one that the disk that reads give allows, where the tree in memory stands for it
+-- the refusal is one that the disk that reads give allows, if the tree in memory stands for it
 abbrev pub IsRefusal : Sealing → PlainRequest → ℕ → Option (List ℕ) → Refusal → HeldTree → List (List ℕ × ℕ) → Disk → Type 0
 IsRefusal s request second drawn refusal live claims d =
     (contents : ℕ → Content) → StandsOn s d live claims contents → MayRefuse s request second (taken_for s d live request drawn) refusal d live claims

@@ -10,14 +10,14 @@ use Rattle.tree_model.specs.declared.refusal.Refusal.TheVariants as refusals
 use Rattle.tree_model.specs.declared.stat.Qid.{Qid}
 use Rattle.tree_model.specs.Asked.{PlainRequest, qid}
 use Rattle.tree_model.specs.Step.{Answer, says}
-use Rattle.directory_scan.specs.Format.{sealing_of}
+use Rattle.tree_loading.specs.Format.{sealing_of}
 use Rattle.live_tree.specs.Held.{HeldTree}
 use Rattle.node_changes.specs.declared.error.ChangeErr.{ChangeErr}
 use Rattle.node_changes.specs.Causes.{IfBroken, IfRefused}
 use Rattle.node_changes.specs.Changed.{HasChanged, MayHaveChanged, MayRefuse}
 use Rattle.node_changes.specs.Placed.{taken_for, DrawsHeader, DrawsIdentifier, IfDrawn, IsIdentifierOf, GoesOn}
 
--- An identifier is drawn for a directory alone, and first of all that is drawn; where a directory is asked for and none is named, nothing was drawn.
+-- An identifier is drawn for a directory alone, and first of all that is drawn; if a directory is asked for and none is named, nothing was drawn.
 pub record IsDraw (is_dir : Bool) (drawn : Option (List ℕ)) (old new : Option (List ℕ)) : Type 0 where
   pub directory : IsSome drawn → is_dir ≡ true
   pub more : Changes old new GoesOn

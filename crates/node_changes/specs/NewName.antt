@@ -1,4 +1,4 @@
--- A name that a node is to be given: where the node stands with it, and what its deeds lead to.
+-- A name that a node is to be given: where the node is with it, and what its deeds lead to.
 use Rattle.std.specs.Prelude.{◌≡◌, ◌≢◌, ◌⊎◌, ◌<◌, ◌^◌, ℕ, List, length, false, Option, Some, None, unwrap_or, IsTrue}
 use Rattle.vault_path.specs.Parts.{is_part, is_path}
 use Rattle.outside.specs.Disk.{Disk}
@@ -13,7 +13,7 @@ use Rattle.tree_model.specs.Step.{says, refuses, step, set_row, change_dir}
 use Rattle.clear_tree.specs.Walk.{Sealing}
 use Rattle.clear_tree.specs.Places.{host_folder}
 use Rattle.clear_tree.specs.Kept.{KeptDir, KeptBad}
-use Rattle.tree_changes.specs.Deeds.{Place, rename_deeds}
+use Rattle.tree_deed_laws.specs.Deeds.{Place, rename_deeds}
 use Rattle.live_tree.specs.Held.{HeldNode, HeldTree, node_of, live_rows, IsFree}
 use Rattle.live_tree.specs.Changes.{dated, renamed, wrapped}
 use Rattle.name_places.specs.New.{IsNewPlace}
@@ -24,7 +24,7 @@ use Rattle.node_changes.specs.Placed.{taken_for}
 use Rattle.node_changes.specs.Removal.{IsDirectoryAbove, place_in}
 use Rattle.node_changes.specs.Renaming.{IsRenamingIn, IsRenaming}
 
--- ---- where the node stands with it
+-- ---- where the node is with it
 
 -- the node of a number is below the root, and no Bad node
 pub record IsNameable (live : HeldTree) (number : ℕ) (held : HeldNode) : Type 0 where
@@ -48,7 +48,7 @@ pub record IsNewName (s : Sealing) (live : HeldTree) (number : ℕ) (new : NewNa
   pub place : IsNewPlace s identifier new.name threshold new.place
   pub short : length new.place.text < 2 ^ 32
 
--- where the node stands then
+-- where the node is then
 abbrev pub place_with : NewName → Place
 place_with new = record { folder = new.folder; entry = new.place.entry; long = new.place.long }
 
@@ -59,7 +59,7 @@ IsRefusedAs live number name refusal =
     (contents : ℕ → Content) (c : PlainChange) (modified : Option ℕ) (second : ℕ) → IsRenamingIn live number name modified c contents
     → (step (live_rows contents live) (change number c) second).answer ≡ refuses refusal
 
--- Why a node can't be given a name, before the folder is read: as the step refuses it, or for lack of memory where the number has a node.
+-- Why a node can't be given a name, before the folder is read: as the step refuses it, or for lack of memory if the number has a node.
 abbrev pub IsNameRefusal : HeldTree → ℕ → List ℕ → Refusal → Type 0
 IsNameRefusal live number name refusals.Removed = IsRefusedAs live number name refusals.Removed
 IsNameRefusal live number name refusals.NotPermitted = IsRefusedAs live number name refusals.NotPermitted
@@ -77,13 +77,13 @@ IsPlaceRefusal new live claims disk failed refusals.DeviceFault = failed
 IsPlaceRefusal new live claims disk failed (refusals.PlaceTaken path) = Told disk (IsTaken new.folder new.place None live claims (Some path))
 IsPlaceRefusal new live claims disk failed refusal = ⊥
 
--- No disk has such a node where nothing is at the new place: no host path can be made of its entry, or that is the new entry.
+-- No disk has such a node if nothing is at the new place: no host path can be made of its entry, or that is the new entry.
 pub record IsStuck (live : HeldTree) (number : ℕ) (new : NewName) : Type 0 where
   pub held : HeldNode
   pub there : node_of live number ≡ Some held
   pub amiss : (IsTrue (is_part held.kept.entry) → ⊥) ⊎ (held.kept.entry ≡ new.place.entry)
 
--- what the disk allows, where the tree in memory stands for it and the step is asked for the name
+-- what the disk allows, if the tree in memory stands for it and the step is asked for the name
 abbrev pub IsRenameRefusal : Sealing → ℕ → List ℕ → Option ℕ → ℕ → Refusal → HeldTree → List (List ℕ × ℕ) → Disk → Type 0
 IsRenameRefusal s number name modified second refusal live claims d =
     (c : PlainChange) (contents : ℕ → Content) → IsRenaming s live claims number name modified c → StandsOn s d live claims contents
@@ -97,7 +97,7 @@ pub record AreNaming (live : HeldTree) (number : ℕ) (new : NewName) (deeds : L
   pub there : node_of live number ≡ Some held
   pub are : deeds ≡ rename_deeds (place_in new.folder held) (place_with new) new.place.text held.kept.what
 
--- a tree with an mtime of a node set, where one is asked for
+-- a tree with an mtime of a node set, if one is asked for
 abbrev pub dated_if : HeldTree → ℕ → Option ℕ → HeldTree
 dated_if live number None = live
 dated_if live number (Some modified) = dated live number modified

@@ -9,8 +9,8 @@ use Rattle.tree_model.specs.Names.{NameFault, clear_name}
 use Rattle.tree_model.specs.Asked.{PlainRequest, look, walk, open_node, create, read, list, write, remove, stat_of, change, sync}
 use Rattle.clear_tree.specs.Walk.{Sealing}
 use Rattle.clear_tree.specs.Kept.{What, KeptFile, KeptLink, KeptDir, KeptBad}
-use Rattle.tree_changes.specs.Taken.{taken}
-use Rattle.tree_changes.specs.Deeds.{Place, create_file_deeds, create_dir_deeds}
+use Rattle.tree_deed_laws.specs.Taken.{taken}
+use Rattle.tree_deed_laws.specs.Deeds.{Place, create_file_deeds, create_dir_deeds}
 use Rattle.live_tree.specs.Held.{HeldNode, HeldTree, node_of}
 use Rattle.name_places.specs.New.{identifier_of}
 use Rattle.name_places.specs.Claims.{claims_in}
@@ -31,7 +31,7 @@ abbrev pub name_of : Result (List ℕ) NameFault → Option (List ℕ)
 name_of (Ok name) = Some name
 name_of (Err fault) = None
 
--- the first path that is taken of those that a name needs in the directory of a number, with the identifier that was drawn, if any. Where
+-- the first path that is taken of those that a name needs in the directory of a number, with the identifier that was drawn, if any. If
 -- there is no such directory, or the bytes are no name, none is
 abbrev pub taken_in : Sealing → Disk → HeldTree → ℕ → List ℕ → Option (List ℕ) → Option HostPath
 taken_in s d live parent name drawn =
@@ -41,7 +41,7 @@ taken_in s d live parent name drawn =
 abbrev pub parent_at : HeldTree → ℕ → Option ℕ
 parent_at live number = option_and_then (λ (node : HeldNode). Some node.kept.parent) (node_of live number)
 
--- the same by the request: a node is put at a new place where it is made, and where it gets another name
+-- the same by the request: a node is put at a new place if it is made, and if it gets another name
 abbrev pub taken_for : Sealing → Disk → HeldTree → PlainRequest → Option (List ℕ) → Option HostPath
 taken_for s d live (look n) drawn = None
 taken_for s d live (walk n names) drawn = None

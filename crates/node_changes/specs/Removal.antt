@@ -7,7 +7,7 @@ use Rattle.tree_model.specs.Rows.{Content}
 use Rattle.tree_model.specs.Asked.{remove}
 use Rattle.tree_model.specs.Step.{early_refusal}
 use Rattle.clear_tree.specs.Kept.{KeptDir, folder_in}
-use Rattle.tree_changes.specs.Deeds.{Place, remove_deeds}
+use Rattle.tree_deed_laws.specs.Deeds.{Place, remove_deeds}
 use Rattle.live_tree.specs.Held.{HeldNode, HeldTree, node_of, live_rows}
 use Rattle.name_places.specs.Laws.{Shrinks}
 
@@ -27,7 +27,7 @@ pub record IsFolderAbove (live : HeldTree) (held : HeldNode) (folder : List ℕ)
   pub up : node_of live held.kept.parent ≡ Some above
   pub is : folder_in above.kept.what ≡ Some folder
 
--- where a node stands in this folder
+-- where a node is in this folder
 abbrev pub place_in : List ℕ → HeldNode → Place
 place_in folder held = record { folder = folder; entry = held.kept.entry; long = held.kept.long }
 

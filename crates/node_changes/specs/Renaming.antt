@@ -23,7 +23,7 @@ pub record IsRenamingIn (live : HeldTree) (number : ℕ) (name : List ℕ) (modi
   pub length : new_length row c ≡ None
   pub dated : c.modified ≡ modified
 
--- and with all contents that the tree may stand on
+-- and with all contents that the tree may be on
 abbrev pub IsRenaming : Sealing → HeldTree → List (List ℕ × ℕ) → ℕ → List ℕ → Option ℕ → PlainChange → Type 0
 IsRenaming s live claims number name modified c = (d : Disk) (contents : ℕ → Content) → StandsOn s d live claims contents → IsRenamingIn live number name modified c contents
 

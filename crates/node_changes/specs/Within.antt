@@ -1,4 +1,4 @@
--- What of a vault's folder is its data: all that stands in the folder `d` (Cryptomator's vault format 8).
+-- What of a vault's folder is its data: all that is in the folder `d` (Cryptomator's vault format 8).
 use Rattle.std.specs.Prelude.{◌≡◌, List, ◌∷◌}
 use Rattle.std.specs.List.{AllByRecursion}
 use Rattle.outside.specs.Disk.{Path as HostPath}

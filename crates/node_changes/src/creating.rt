@@ -8,12 +8,12 @@ ghost use Rattle.file_chunks.specs.Header.{header_opens};
 ghost use Rattle.tree_model.specs.Names.{clear_name};
 ghost use Rattle.tree_model.specs.Asked.{create, qid};
 ghost use Rattle.tree_model.specs.Step.{says};
-ghost use Rattle.tree_changes.specs.Deeds.{Place as PlainPlace, create_dir_deeds as dir_deeds_of, create_file_deeds as file_deeds_of};
+ghost use Rattle.tree_deed_laws.specs.Deeds.{Place as PlainPlace, create_dir_deeds as dir_deeds_of, create_file_deeds as file_deeds_of};
 ghost use Rattle.tree_model.specs.Rows.{is_dir as is_directory};
 ghost use Rattle.clear_tree.specs.Built.{HasHostFolder, kept_what};
 ghost use Rattle.clear_tree.specs.Kept.{kind_of};
 ghost use Rattle.clear_tree.specs.Walk.{Sealing};
-ghost use Rattle.directory_scan.specs.Format.{sealing_of};
+ghost use Rattle.tree_loading.specs.Format.{sealing_of};
 ghost use Rattle.live_tree.specs.Changes.{CanBeMade, RowsAreAdded, added, new_node};
 ghost use Rattle.name_places.specs.New.{IsNewDirectory};
 ghost use Rattle.node_changes.specs.Changed.{IsAtRest};
@@ -25,7 +25,6 @@ ghost use Rattle.node_changes.specs.Creating.{DrawsHead, DrawsIf, HasRefused, Is
 use crate::error::ChangeErr;
 use crate::site::Site;
 use crate::tree::VaultTree;
-use change_deeds::{Place, create_dir_deeds, create_file_deeds};
 use chunk_journal::Journal;
 use clear_tree::What;
 use deeds::Deed;
@@ -34,6 +33,7 @@ use live_tree::LiveTree;
 use name_places::{
     NewDirectory, NewPlace, are_texts, entries_are_parts, kept_claims, new_directory,
 };
+use node_deeds::{Place, create_dir_deeds, create_file_deeds};
 use outside::{Entropy, Failed, Folder, Reads};
 use siv_mode::VaultKeys;
 use std::alloc::AllocError;
@@ -44,7 +44,7 @@ impl VaultTree {
     /// Makes a file without content, or a directory, of a name in the directory of a number, at a second since 1970-01-01, and
     /// returns its qid. For a directory 16 bytes are drawn for its identifier, for a file a nonce and a content key for its header.
     /// Memory is taken before anything changes. After `Broken` the folder's count of faults rose, and the tree in memory is the
-    /// one with the node. It takes O(log n) steps, where n numbers were given so far.
+    /// one with the node. It takes O(log n) steps, if n numbers were given so far.
     pub fn create<D: Folder, E: Entropy>(
         &mut self,
         journal: &mut Journal<D>,
@@ -77,7 +77,7 @@ impl VaultTree {
         }
     }
 
-    // Makes a node in the tree in memory, and returns the deeds that make it. Where it is refused nothing changed.
+    // Makes a node in the tree in memory, and returns the deeds that make it. If it is refused nothing changed.
     fn make<R: Reads, E: Entropy>(
         &mut self,
         folder: &mut R,
@@ -130,7 +130,7 @@ impl VaultTree {
         }
     }
 
-    // Makes a file at a site in the tree in memory, and returns the deeds that make it. Where memory runs out nothing changed.
+    // Makes a file at a site in the tree in memory, and returns the deeds that make it. If memory runs out nothing changed.
     fn make_file(
         &mut self,
         parent: u64,
@@ -222,7 +222,7 @@ impl VaultTree {
         Ok(deeds)
     }
 
-    // Puts a node at a site of the tree in memory, which stays as it is where memory runs out.
+    // Puts a node at a site of the tree in memory, which stays as it is if memory runs out.
     fn add(&mut self, parent: u64, site: Site, what: What, now: u32) -> Result<(), AllocError>
         requires site { (s : Sealing) × IsSite s self.old.live parent site }
         requires what { CanBeMade (kept_what what) }

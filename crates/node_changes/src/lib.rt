@@ -9,7 +9,7 @@
 //!
 //! Each change is refused as the plain file tree's step refuses it, or for the cause that its answer names, and then changes
 //! nothing; or it is committed, and the tree in memory goes on to that of the disk after it. All memory is taken before.
-//! `removal_refusal` tells what refuses a removal before its work begins.
+//! `removal_refusal` says what refuses a removal before its work begins.
 #![tactic(auto)]
 
 mod creating;

@@ -14,7 +14,7 @@ ghost use Rattle.tree_model.specs.declared.refusal.Refusal.TheVariants as refusa
 ghost use Rattle.clear_tree.specs.Built.{HasHostFolder};
 ghost use Rattle.clear_tree.specs.Kept.{folder_in};
 ghost use Rattle.clear_tree.specs.Places.{host_folder};
-ghost use Rattle.directory_scan.specs.Format.{sealing_of};
+ghost use Rattle.tree_loading.specs.Format.{sealing_of};
 ghost use Rattle.live_tree.specs.Held.{HeldNode, node_of, live_rows, IsChildless, IsTree};
 ghost use Rattle.live_tree.specs.Changes.{removed, RowsAreRemoved};
 ghost use Rattle.name_places.specs.Laws.{Shrinks};
@@ -25,12 +25,12 @@ ghost use Rattle.node_changes.specs.Removal.{AreRemoval, IsFolderAbove, IsMispla
 use crate::error::ChangeErr;
 use crate::places::{directory_above, is_host_part};
 use crate::tree::VaultTree;
-use change_deeds::{Place, remove_deeds};
 use chunk_journal::Journal;
 use clear_tree::What;
 use deeds::Deed;
 use live_tree::{LiveNode, LiveTree};
 use name_places::{Claims, are_texts, entries_are_parts, kept_claims};
+use node_deeds::{Place, remove_deeds};
 use outside::Folder;
 use std::alloc::Global;
 use tree_model::Refusal;
@@ -67,7 +67,7 @@ impl VaultTree {
         }
     }
 
-    // Takes a node out of the tree in memory, and returns the deeds that remove it. Where it is refused nothing changed.
+    // Takes a node out of the tree in memory, and returns the deeds that remove it. If it is refused nothing changed.
     fn take_out(&mut self, number: u64, now: u32) -> Result<Vec<Deed>, Refusal>
         ensures made { IfOk result (λ deeds.
             LeadsOn (sealing_of self.old.keys) (remove number) now (says done) self.old.live self.new.live self.old.claims self.new.claims (plains deeds.items)) }
@@ -175,7 +175,7 @@ fn foreign_if(held: bool) -> Option<Refusal>
     if held { Some(Refusal::Foreign) } else { None }
 }
 
-// The deeds that remove a node. `Damaged` is for one that no disk has where it stands.
+// The deeds that remove a node. `Damaged` is for one that no disk has where it is.
 fn removal_deeds(alloc: Global, live: &LiveTree, number: u64) -> Result<Vec<Deed>, Refusal>
     requires there { IsSome (node_of live.now number) }
     ensures deeds { IfOk result (λ deeds. AreRemoval live.now number (plains deeds.items)) }
@@ -202,7 +202,7 @@ fn removal_deeds(alloc: Global, live: &LiveTree, number: u64) -> Result<Vec<Deed
     }
 }
 
-// The folder in which a node stands.
+// The folder in which a node is.
 fn folder_above<'a>(live: &'a LiveTree, node: &LiveNode) -> &'a [u8; 32]
     requires { (number : ℕ) × (node_of live.now number ≡ Some node.now) }
     ensures folder { IsFolderAbove live.now node.now result.now }

@@ -9,7 +9,7 @@ ghost use Rattle.tree_model.specs.declared.refusal.Refusal.TheVariants as refusa
 ghost use Rattle.tree_model.specs.Asked.{PlainChange, change};
 ghost use Rattle.clear_tree.specs.Kept.{folder_in};
 ghost use Rattle.clear_tree.specs.Places.{host_folder};
-ghost use Rattle.directory_scan.specs.Format.{sealing_of};
+ghost use Rattle.tree_loading.specs.Format.{sealing_of};
 ghost use Rattle.live_tree.specs.Held.{node_of, IsTree};
 ghost use Rattle.name_places.specs.Asked.{IsTaken};
 ghost use Rattle.node_changes.specs.Changed.{IsAtRest, MayHaveChanged, MayRefuse};
@@ -21,19 +21,19 @@ ghost use Rattle.node_changes.specs.NewName.{AreNaming, IsNameRefusal, IsNameabl
 use crate::error::ChangeErr;
 use crate::places::{directory_above, is_host_part};
 use crate::tree::VaultTree;
-use change_deeds::{Place, rename_deeds};
 use chunk_journal::Journal;
 use clear_tree::What;
 use deeds::Deed;
-use directory_scan::are_ciphers;
 use live_tree::{LiveNode, LiveTree};
-use name_cipher::Name;
 use name_places::{
     NewPlace, are_texts, claims_are_whole, entries_are_parts, kept_claims, place_name, taken,
 };
+use node_deeds::{Place, rename_deeds};
 use outside::{Folder, Reads};
 use std::alloc::{AllocError, Global};
+use tree_loading::are_ciphers;
 use tree_model::Refusal;
+use vault_names::Name;
 use vault_path::Text;
 
 /// A name that a node is to be given.
@@ -41,7 +41,7 @@ use vault_path::Text;
 pub(crate) struct NewName {
     /// A valid clear name.
     pub(crate) name: Text,
-    /// The 32 characters of the folder that the node stands in.
+    /// The 32 characters of the folder that the node is in.
     pub(crate) folder: [u8; 32],
     /// The name's place there.
     pub(crate) place: NewPlace,
@@ -49,9 +49,9 @@ pub(crate) struct NewName {
 
 impl VaultTree {
     /// Gives the node of a number another name in its directory, and an mtime if one is asked for, at a second since 1970-01-01.
-    /// It is refused as the plain file tree's step refuses it, where the new place is taken (`PlaceTaken`), where the folder
-    /// failed (`DeviceFault`) and where memory ran out (`OutOfMemory`), and then nothing changed. After `Broken` the folder's
-    /// count of faults rose, and the tree in memory is the one with the new name.
+    /// It is refused as the plain file tree's step refuses it, if the new place is taken (`PlaceTaken`), if the folder failed
+    /// (`DeviceFault`) and if memory ran out (`OutOfMemory`), and then nothing changed. After `Broken` the folder's count of
+    /// faults rose, and the tree in memory is the one with the new name.
     pub fn rename<D: Folder>(
         &mut self,
         journal: &mut Journal<D>,
@@ -89,7 +89,7 @@ impl VaultTree {
         }
     }
 
-    // Gives a node another name in the tree in memory, and returns the deeds that do so on the disk. Where it is refused nothing
+    // Gives a node another name in the tree in memory, and returns the deeds that do so on the disk. If it is refused nothing
     // changed.
     fn give_name<R: Reads>(
         &mut self,
@@ -186,8 +186,8 @@ impl VaultTree {
         }
     }
 
-    // Gives a node its new name in the tree in memory, and an mtime if one is asked for. Where memory runs out the tree stays as
-    // it is.
+    // Gives a node its new name in the tree in memory, and an mtime if one is asked for. If memory runs out the tree stays as it
+    // is.
     fn put_name(
         &mut self,
         number: u64,
@@ -241,7 +241,7 @@ fn is_held(live: &LiveTree, node: &LiveNode) -> bool
     node.is_shadowed() || (node.folder().is_some() && live.is_twice())
 }
 
-// The deeds that bring a node to the place of its new name. `Damaged` is for one that no disk has where it stands.
+// The deeds that bring a node to the place of its new name. `Damaged` is for one that no disk has where it is.
 fn naming_deeds(
     alloc: Global,
     live: &LiveTree,

@@ -9,7 +9,7 @@ ghost use Rattle.tree_model.specs.Asked.{create};
 ghost use Rattle.tree_model.specs.Step.{is_full};
 ghost use Rattle.clear_tree.specs.Places.{host_folder};
 ghost use Rattle.clear_tree.specs.Built.{kept_what};
-ghost use Rattle.directory_scan.specs.Format.{sealing_of};
+ghost use Rattle.tree_loading.specs.Format.{sealing_of};
 ghost use Rattle.live_tree.specs.Held.{live_rows};
 ghost use Rattle.name_places.specs.Asked.{IsTaken};
 ghost use Rattle.node_changes.specs.Causes.{RefusalCause};
@@ -18,19 +18,19 @@ ghost use Rattle.node_changes.specs.Creating.{IsPlaceRefusal, IsSite, IsSiteRefu
 
 use crate::tree::VaultTree;
 use clear_tree::What;
-use directory_scan::are_ciphers;
 use live_tree::LiveTree;
-use name_cipher::{BadName, clear_name};
 use name_places::{NewDirectory, NewPlace, place_name, taken};
 use outside::Reads;
 use std::alloc::{AllocError, Global};
+use tree_loading::are_ciphers;
 use tree_model::Refusal;
+use vault_names::{BadName, clear_name};
 use vault_path::Text;
 
 // The most nodes that a tree has.
 const NODE_LIMIT: usize = 1_048_576;
 
-/// Where a new node is to stand.
+/// Where a new node is to be.
 #[derive(Drop)]
 pub(crate) struct Site {
     /// Its name, a valid clear name.
@@ -42,7 +42,7 @@ pub(crate) struct Site {
 }
 
 impl VaultTree {
-    /// Where a new node of this name is to stand in the directory of a number.
+    /// Where a new node of this name is to be in the directory of a number.
     pub(crate) fn site(&self, parent: u64, name: &[u8]) -> Result<Site, Refusal>
         requires { (1 ≤ self.now.threshold) × (self.now.threshold ≤ 250) }
         ensures site { IfOk result (IsSite (sealing_of self.now.keys) self.now.live parent) }
@@ -85,7 +85,7 @@ impl VaultTree {
         }
     }
 
-    /// Refuses a site where a path that the node needs is taken. `drawn` is the directory that is to be made there, if it is one.
+    /// Refuses a site if a path that the node needs is taken. `drawn` is the directory that is to be made there, if it is one.
     pub(crate) fn check_places<R: Reads>(
         &self,
         folder: &mut R,

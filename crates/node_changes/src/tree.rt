@@ -1,5 +1,5 @@
 ghost use Rattle.std.specs.Prelude.{◌≡◌, Some, IfOk};
-ghost use Rattle.directory_scan.specs.Format.{sealing_of};
+ghost use Rattle.tree_loading.specs.Format.{sealing_of};
 ghost use Rattle.clear_tree.specs.Built.{IsFile};
 ghost use Rattle.live_tree.specs.Changes.{dated, touched, RowsAreDated, RowsAreTouched};
 ghost use Rattle.live_tree.specs.Held.{HeldNode, node_of};
@@ -24,7 +24,7 @@ pub struct VaultTree {
 
 impl VaultTree {
     /// The tree of a vault with these keys. `threshold` is the most characters of a sealed name's text that is at its short
-    /// place, 1 to 250. Fails only where memory runs out.
+    /// place, 1 to 250. Fails only if memory runs out.
     pub fn new(
         alloc: Global,
         keys: &VaultKeys,

@@ -60,7 +60,7 @@ joined a b c P first second = record {
       (cases_lt m (suc (moment b)));
 }
 
--- one call more, where the log with it has a name
+-- one call more, if the log with it has a name
 pub goes_to : (old mid new : Log) (call : Call) (P : Disk → Type 0) → LeavesOnly old mid P → new ≡ adds mid call → ((c : Disk) → IsImage new c → P c) → LeavesOnly old new P
 goes_to old mid new call P so_far is here =
     subst (λ (l : Log). LeavesOnly old l P) (sym is) (goes_on old mid call P so_far (λ c image. here c (subst (λ (l : Log). IsImage l c) (sym is) image)))

@@ -110,7 +110,7 @@ sound_image start (Did change ∷ older) sound =
 sound_image start (Broke change left ∷ older) sound = (disk_after start older, sound_image start older sound.0, sound.1.part, sound.1.tree)
 sound_image start (Synced ∷ older) sound = refl
 
--- after a sync all is on the disk, and no image comes that wasn't one before
+-- after a sync all is on the disk, and there is no image that wasn't one before
 pub settled : (old new : Log) → IsSound old.start old.calls → new ≡ adds old Synced → (IsSteady new × (now new ≡ now old)) × LeavesOnly old new (IsImage old)
 settled old new sound is = (
   (

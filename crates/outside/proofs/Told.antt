@@ -75,7 +75,7 @@ told_through (Some x) None c T P Q R f t p q = absurd p
 told_through (Some x) (Some y) None T P Q R f t p q = absurd q
 told_through (Some x) (Some y) (Some z) T P Q R f t p q = f x y z t p q
 
--- what a change tells of what stands after it
+-- what a change says of what is there after it
 pub told_new : {X : Type 0} (a b : Option X) (P : X → X → Type 0) (T : X → Type 0) → ((x y : X) → P x y → T y) → Changes a b P → Told b T
 told_new None None P T f p = tt
 told_new None (Some y) P T f p = absurd p

@@ -7,7 +7,7 @@ use Rattle.outside.proofs.Paths.{by_path, set_here, set_there}
 not_none : (o : Option Node) → o ≡ None → IsSome o → ⊥
 not_none o none some = let h : IsSome {T = Node} None = subst IsSome none some in cc
 
--- a node where its folder is, which is a folder or stands in no folder's place
+-- a node that is put into a folder that is there, and is a folder or takes no folder's place
 pub tree_set : (d : Disk) (p : Path) (v : Node) → IsTree d → IsFolder d (parent p) → (v ≡ folder) ⊎ (IsFolder d p → ⊥) → IsTree (set_at d p (Some v))
 tree_set d p v tree within fit = record { top = kept [] tree.top; parents = λ q there. kept (parent q) (above q there) }
   where

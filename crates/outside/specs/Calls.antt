@@ -1,41 +1,41 @@
 -- What the calls of the outside say of contents that are told, and when they may fail.
 use Rattle.std.specs.Prelude.{◌≡◌, ◌⊎◌, ℕ, ◌+◌, ◌<◌, ◌≤◌, ◌-◌, ◌^◌, ◌==◌, if◌then◌else◌, List, ◌++◌, drop, Option, Some, None, IfSome, ⊤}
 
--- a count one higher, which stands still at its end
+-- a count one higher, which saturates
 abbrev pub risen : ℕ → ℕ
 risen n = if n == 2 ^ 64 - 1 then n else n + 1
 
--- a count of faults rose, or is at its end, where it can't
+-- a count of faults rose, or is at its end already
 abbrev pub Rose : ℕ → ℕ → Type 0
 Rose before now = (before < now) ⊎ (now ≡ 2 ^ 64 - 1)
 
--- the count never falls, and a call answers that it failed only where the count rose
+-- the count never falls, and a call answers that it failed only if the count rose
 pub record HasCause (before now : ℕ) (failed : Type 0) : Type 0 where
   pub later : before ≤ now
   pub rose : failed → Rose before now
 
--- P of the contents, where they are told
+-- P of the contents, if they are told
 abbrev pub Told : {X : Type 0} → Option X → (X → Type 0) → Type 0
 Told contents P = IfSome contents P
 
--- P of the contents before and after, where they are told; an object that tells goes on telling, and another doesn't begin,
--- so that what is told after a call can be required by the next one
+-- P of the contents before and after, if they are told; whether an object tells never changes, so that what is told after a
+-- call can be required by the next one
 abbrev pub Changes : {X : Type 0} → Option X → Option X → (X → X → Type 0) → Type 0
 Changes None None P = ⊤
 Changes None (Some new) P = ⊥
 Changes (Some old) None P = ⊥
 Changes (Some old) (Some new) P = P old new
 
--- an answer that a call's condition fails comes only where it does, or, where contents aren't told, only where the count rose
+-- a call answers that its condition fails only if it does, or, if contents aren't told, only if the count rose
 abbrev pub IsUnfit : {X : Type 0} → Option X → ℕ → ℕ → (X → Type 0) → Type 0
 IsUnfit None before now Fits = Rose before now
 IsUnfit (Some contents) before now Fits = ¬ (Fits contents)
 
--- a list grew by these at its end, where it is told
+-- a list grew by these at its end, if it is told
 abbrev pub Extends : {X : Type 0} → Option (List X) → Option (List X) → List X → Type 0
 Extends old new more = Changes old new (λ before after. after ≡ before ++ more)
 
--- these were taken from a list's front, where it is told
+-- these were taken from a list's front, if it is told
 abbrev pub TakesFront : {X : Type 0} → Option (List X) → Option (List X) → List X → Type 0
 TakesFront old new front = Changes old new (λ before after. before ≡ front ++ after)
 

@@ -88,7 +88,7 @@ bytes_or_none None = []
 bytes_or_none (Some folder) = []
 bytes_or_none (Some (file bytes)) = bytes
 
--- what may be at the path of a change of one path, where this was before
+-- what may be at the path of a change of one path, if this was there before
 abbrev pub MayStand : Change → Option Node → Option Node → Type 0
 MayStand (MakeDir path) old new = new ≡ Some folder
 MayStand (Put path bytes) old new = (now : List ℕ) × (new ≡ Some (file now)) × IsTornPut (length bytes) (bytes_or_none old) now

@@ -23,7 +23,7 @@ pub data Node : Type 0 where
   folder : Node
   file : List ℕ → Node
 
--- a finite map from paths to what stands there
+-- a finite map from paths to what is there
 abbrev pub Disk : Type 0
 Disk = map.FinMap path_cmp Node
 

@@ -1,7 +1,7 @@
 -- What a stop may leave of a folder, by the calls that there were.
 --
 -- Up to the next sync a stop leaves of each change none of it, all of it or a part, in every combination that is a tree.
--- The model goes by paths, where a host goes by files: it is true of a host only while no file that was moved is put,
+-- The model goes by paths, whereas a host goes by files: it is true of a host only while no file that was moved is put,
 -- written or cut again before the next sync. Whoever calls a folder keeps to that.
 use Rattle.std.specs.Prelude.{◌≡◌, ◌⊎◌, ◌≤◌, ◌-◌, ℕ, List, [], ◌∷◌, ◌++◌, length, drop, Option}
 use Rattle.std.specs.Option.{option_map}
@@ -80,7 +80,7 @@ abbrev pub HasBroken : Change → Log → Log → Type 0
 HasBroken change old new =
     (new ≡ old) ⊎ ((left : Disk) × BreaksInto change (now old) left × (new ≡ adds old (Broke change left)))
 
--- An answer that a change doesn't fit comes only where it can't be done, or, where nothing is told, where the count rose.
+-- A call answers that a change doesn't fit only if it can't be done, or, if nothing is told, if the count rose.
 abbrev pub DoesNotFit : Change → Option Log → ℕ → ℕ → Type 0
 DoesNotFit change log before after = IsUnfit log before after (λ l. CanDo change (now l))
 

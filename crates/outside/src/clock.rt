@@ -1,9 +1,9 @@
 ghost use Rattle.std.specs.Prelude.{◌≡◌, ℕ, Option};
 ghost use Rattle.outside.specs.Calls.{Told};
 
-/// A clock. One that goes tells nothing.
+/// A clock; a real one reveals nothing to proofs.
 pub trait Clock {
-    /// The second that every call returns, where it tells.
+    /// The second that every call returns, if it tells.
     ghost second: { Self → Option ℕ };
 
     /// The seconds since 1970-01-01.

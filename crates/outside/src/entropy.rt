@@ -5,7 +5,7 @@ use crate::stream::Failed;
 
 /// A source of random bytes.
 pub trait Entropy {
-    /// All bytes that were drawn, in order, where it tells.
+    /// All bytes that were drawn, in order, if it tells.
     ghost drawn: { Self → Option (List ℕ) };
 
     /// How often it has failed.

@@ -31,7 +31,7 @@ pub enum FolderErr {
     Memory,
 }
 
-/// What a call that takes a folder hands back where it refuses it, and why.
+/// What a call that takes a folder hands back if it refuses it, and why.
 #[derive(Drop)]
 pub struct Refused<D, C> {
     pub folder: D,
@@ -40,7 +40,7 @@ pub struct Refused<D, C> {
 
 /// A folder of the host that can be read.
 pub trait Reads {
-    /// The disk that it began with, and the calls since that changed it or flushed it, where it tells.
+    /// The disk that it began with, and the calls since that changed it or flushed it, if it tells.
     ghost log: { Self → Option Log };
 
     /// How often it has failed.
@@ -49,7 +49,7 @@ pub trait Reads {
     /// How many changing calls there were, which every folder tells.
     ghost changes: { Self → ℕ };
 
-    /// What is at a path, if anything. It has no condition.
+    /// What is at a path, if anything. Never `Unfit`.
     fn kind(&mut self, path: &VaultPath) -> Result<Option<Kind>, FolderErr>
         ensures kind { IfOk result (λ kind. Told (disk_in (log self.old)) (λ d. kind ≡ kind_at d path.now)) }
         ensures tree { Told (disk_in (log self.old)) IsTree }
@@ -88,7 +88,7 @@ pub trait Reads {
 /// A folder of the host that can be changed. Until a sync a stop may leave all of a change, a part of it, or none. A call that
 /// failed may have done a part of itself, or was not begun; one that is unfit changed nothing.
 pub trait Folder: Reads {
-    /// Makes a folder where there is none yet. Condition: the parent is a folder, and nothing or a folder is at the path.
+    /// Makes a folder if there is none yet. Condition: the parent is a folder, and nothing or a folder is at the path.
     fn make_dir(&mut self, path: &VaultPath) -> Result<(), FolderErr>
         ensures done { OnOk result (Changes (Self.log self.old) (Self.log self.new) (HasDone (MakeDir path.now))) }
         ensures unfit { IsErrOf result FolderErr.Unfit

@@ -5,10 +5,10 @@ use crate::stream::Failed;
 
 /// A connection to a client: bytes to read and a place to write.
 pub trait Link {
-    /// The bytes that are left to read, where it tells.
+    /// The bytes that are left to read, if it tells.
     ghost left: { Self → Option (List ℕ) };
 
-    /// The bytes that it has taken, where it tells.
+    /// The bytes that it has taken, if it tells.
     ghost taken: { Self → Option (List ℕ) };
 
     /// How many reads have failed.
@@ -41,20 +41,20 @@ pub trait Link {
         ensures reads { read_faults self.new ≡ read_faults self.old };
 }
 
-/// Connections that come in, and are given back when they have been served.
+/// Incoming connections, which are given back once they have been served.
 pub trait Listener {
     type Conn: Link;
 
-    /// The links that are to come, in order, where it tells.
+    /// The links that are to come, in order, if it tells.
     ghost to_come: { Self → Option (List Self.Conn) };
 
-    /// The links that were given back, in order, where it tells.
+    /// The links that were given back, in order, if it tells.
     ghost given_back: { Self → Option (List Self.Conn) };
 
     /// How often it has failed.
     ghost faults: { Self → ℕ };
 
-    /// The next link, or None where no more come. A call that failed took none.
+    /// The next link, or None if no more come. A call that failed took none.
     fn next(&mut self) -> Result<Option<Self::Conn>, Failed>
         ensures link { IfOk result (λ link. Changes (to_come self.old) (to_come self.new)
             (λ old new. MatchOption link ((old ≡ []) × (new ≡ [])) (λ conn. old ≡ conn ∷ new))) }

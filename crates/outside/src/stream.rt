@@ -10,7 +10,7 @@ pub struct Failed;
 
 /// Bytes to read.
 pub trait Source {
-    /// The bytes that are left, where it tells.
+    /// The bytes that are left, if it tells.
     ghost left: { Self → Option (List ℕ) };
 
     /// How often it has failed.
@@ -29,7 +29,7 @@ pub trait Source {
 
 /// A place to write bytes to.
 pub trait Sink {
-    /// The bytes that it has taken, where it tells.
+    /// The bytes that it has taken, if it tells.
     ghost taken: { Self → Option (List ℕ) };
 
     /// How often it has failed.

@@ -35,7 +35,7 @@ disk_put es fs p h is = map.same_map paths_total paths_apart _ _ (λ q.
     ∙ ap (λ b. cond b (Some (node_of h)) (map.get (disk_of es) q)) ((eq_by_cmp_equiv paths_total).symm p q)
     ∙ sym (map.get-insert paths_total (disk_of es) p (node_of h) q))
 
--- the same, where the map is seen as a disk
+-- the same, if the map is seen as a disk
 pub held_put : (es fs : List (Path × Held)) (k p : Path) (h : Held) (disk : Disk) → k ≡ p → disk_of es ≡ disk → ((q : Path) → lookup (is_at (path_cmp q)) fs ≡ cond (is_at (path_cmp k) q) (Some h) (lookup (is_at (path_cmp q)) es)) → disk_of fs ≡ map.insert disk p (node_of h)
 held_put es fs k p h disk same seen is = disk_put es fs k h is ∙ (λ i. map.insert (seen i) (same i) (node_of h))
 

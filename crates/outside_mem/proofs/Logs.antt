@@ -15,13 +15,13 @@ pushed : (start : Disk) (calls : List MemCall) (call : MemCall) (older : List Ca
 pushed start [] call older = refl
 pushed start (c ∷ calls) call older = pushed start calls call (call_of (disk_after start older) c ∷ older)
 
--- a call that is kept behind the others is the newest of the log
+-- a call that is kept after the others is the newest of the log
 pub kept_more : (start : Disk) (calls more : List MemCall) (call : MemCall) → more ≡ calls ++ call ∷ [] → all_calls start more ≡ call_of (disk_by start calls) call ∷ all_calls start calls
 kept_more start calls more call e = ap (all_calls start) e ∙ pushed start calls call []
 
 -- ---- a change with fewer bytes
 
--- it can be done where the change can
+-- it can be done if the change can
 pub can_with : (change : Change) (others : List ℕ) (d : Disk) → CanDo change d → CanDo (with_bytes change others) d
 can_with (MakeDir p) others d can = can
 can_with (Put p bytes) others d can = can
@@ -51,7 +51,7 @@ part_with (RemoveDir p) others d le can = whole_part (RemoveDir p) d can
 half_short : (xs : List ℕ) → length (take (length xs / 2) xs) ≤ length xs
 half_short xs = omega (arith, length-take (length xs / 2) xs)
 
--- what half a change leaves where it breaks off
+-- what half a change leaves if it breaks off
 pub half_breaks : (change : Change) (d : Disk) → IsTree d → CanDo change d → BreaksInto change d (done (halved change) d)
 half_breaks change d tree can = record {
   can = can;
@@ -79,7 +79,7 @@ sound_older : (start : Disk) (ys : List MemCall) (older : List Call) → IsSound
 sound_older start [] older sound = sound
 sound_older start (y ∷ ys) older sound = sound_before start y older (sound_older start ys (call_of (disk_after start older) y ∷ older) sound)
 
--- the calls up to one are as they can be where all are
+-- the calls up to one are as they can be if all are
 pub sound_up_to : (start : Disk) (calls : List MemCall) (n : ℕ) → IsSound start (all_calls start calls) → IsSound start (all_calls start (take n calls))
 sound_up_to start calls n sound =
     sound_older start (drop n calls) (all_calls start (take n calls))
@@ -99,7 +99,7 @@ leaves_first start calls.Synced older = refl
 pub up_to_more : (start : Disk) (calls : List MemCall) (n : ℕ) (call : MemCall) → n < length calls → call ≡ get_or calls n call → all_calls start (take (n + 1) calls) ≡ call_of (disk_by start (take n calls)) call ∷ all_calls start (take n calls)
 up_to_more start calls n call within at = kept_more start (take n calls) (take (n + 1) calls) call (grind (arith, common_steps))
 
--- a call can be made again where it was made
+-- a call can be made again if it was made
 pub can_again : (start : Disk) (calls : List MemCall) (n : ℕ) (call : MemCall) → n < length calls → call ≡ get_or calls n call → IsSound start (all_calls start calls) → CanRepeat (disk_by start (take n calls)) call
 can_again start calls n call within at sound =
     can_first start call (all_calls start (take n calls)) (subst (IsSound start) (up_to_more start calls n call within at) (sound_up_to start calls (n + 1) sound))

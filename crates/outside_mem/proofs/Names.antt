@@ -130,7 +130,7 @@ some_mapped : (o : Option Held) → is_some (option_map node_of o) ≡ is_some o
 some_mapped None = refl
 some_mapped (Some h) = refl
 
--- a path in the folder is there where its name is below it
+-- a path in the folder is there if its name is below it
 there : (es : List (Path × Held)) (folder : Path) (name : List ℕ) → is_some (node_at (disk_of es) (folder ++ name ∷ [])) ≡ list_any (bytes_eq name) (names_below folder (keys_of es))
 there es folder name = ap is_some (get_disk es (folder ++ name ∷ [])) ∙ some_mapped (lookup (is_at (path_cmp (folder ++ name ∷ []))) es) ∙ sym (listed es folder name)
 

@@ -92,7 +92,7 @@ picture_image choice start (Did change ∷ older) d sound h = image_more choice 
 picture_image choice start (Broke change left ∷ older) d sound h = image_more choice start change older d (λ before. picture_image choice start older before sound.0) h
 picture_image choice start (Synced ∷ older) d sound h = (h, subst IsTree (sym h) (sound_tree start older sound))
 
--- ---- the picture of all is what reads give now, where no call broke off
+-- ---- the picture of all is what reads give now, if no call broke off
 
 all_made : (change : Change) (older before d : Disk) → before ≡ older → CanDo change older → IsTried change before d → d ≡ done change older
 all_made change older before d same can (inl made) = made.1 ∙ ap (done change) same
@@ -100,7 +100,7 @@ all_made change older before d same can (inr left) = absurd (left.0 (subst (λ (
 
 -- ---- a picture that is made call by call
 
--- where no call is since the sync it is the disk of the sync
+-- if there was no call since the sync, it is the disk of the sync
 begun_picture : (choice : Choice) (start : Disk) (calls : List Call) (d : Disk) → length (changes_since calls) ≡ 0 → d ≡ disk_after start calls → AreTried (chosen choice (changes_since calls)) (synced_disk start calls) d
 begun_picture choice start [] d none is = is
 begun_picture choice start (Did change ∷ older) d none is = absurd (omega (arith, none))
@@ -173,7 +173,7 @@ counts_more start calls n call synced within at other since counts k from to = e
       omega (arith, before, more, here, last)
 ]
 
--- and begin anew behind one that is
+-- and begin anew after one that is
 pub counts_anew : (start : Disk) (calls : List MemCall) (n : ℕ) (call : MemCall) → n < length calls → call ≡ get_or calls n call → call ≡ kinds.Synced → CountsTo start calls (n + 1) (n + 1)
 counts_anew start calls n call within at is k from to =
     let last : k ≡ n + 1 = omega (arith, from, to) in
@@ -181,7 +181,7 @@ counts_anew start calls n call within at is k from to =
     let here = ap (λ (m : ℕ). length (changes_since (all_calls start (take m calls)))) last in
     omega (arith, none, here, last)
 
--- the calls behind it are as many as the changes since
+-- the calls after it are as many as the changes since
 pub count_since : (log : Log) (calls : List MemCall) (synced : ℕ) → log.calls ≡ all_calls log.start calls → synced ≤ length calls → CountsTo log.start calls synced (length calls) → length calls - synced ≡ length (changes_since log.calls)
 count_since log calls synced is within counts =
     let all : length (changes_since (all_calls log.start (take (length calls) calls))) + synced ≡ length calls = counts (length calls) within (omega arith) in

@@ -78,7 +78,7 @@ coded_change =
     code_by ChangeCode (coded× coded_ℕ (coded× coded_path (coded× coded_path (coded× coded_ℕ (coded_list coded_ℕ)))))
     code_of of_code of_code_of
 
--- a call is stored as its change, if it is one, and what it left where it failed
+-- a call is stored as its change, if it is one, and what it left if it failed
 abbrev pub CallCode : Type 0
 CallCode = Option (Change × Option Disk)
 

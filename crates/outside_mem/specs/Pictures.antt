@@ -13,7 +13,7 @@ changes_since (Did change ∷ older) = change ∷ changes_since older
 changes_since (Broke change left ∷ older) = change ∷ changes_since older
 changes_since (Synced ∷ older) = []
 
--- the disk at the last sync, or at the start where there was none
+-- the disk at the last sync, or at the start if there was none
 abbrev pub synced_disk : Disk → List Call → Disk
 synced_disk start [] = start
 synced_disk start (Did change ∷ older) = synced_disk start older
@@ -26,7 +26,7 @@ synced_disk start (Synced ∷ older) = disk_after start older
 abbrev pub three_of : List Change → Change → List Change → List (List Change)
 three_of newer change older = (newer ++ older) ∷ (change ∷ []) ∷ (newer ++ filled change ∷ older) ∷ []
 
--- those of each of the changes behind the newer ones
+-- those of each of the changes after the newer ones
 abbrev pub three_of_each : List Change → List Change → List (List Change)
 three_of_each newer [] = []
 three_of_each newer (change ∷ older) = three_of newer change older ++ three_of_each (newer ++ change ∷ []) older
@@ -37,7 +37,7 @@ pictured since = [] ∷ since ∷ map filled since ∷ three_of_each [] since
 
 -- ---- the disk of a picture
 
--- a change was made where it can be, and where it can't be nothing was
+-- a change was made if it can be, and if it can't be nothing was
 abbrev pub IsTried : Change → Disk → Disk → Type 0
 IsTried change old new = (CanDo change old × (new ≡ done change old)) ⊎ (¬ CanDo change old × (new ≡ old))
 

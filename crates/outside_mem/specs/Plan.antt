@@ -5,7 +5,7 @@ use Rattle.outside.specs.Calls.{risen}
 use Rattle.outside.specs.declared.folder.FolderErr.{FolderErr}
 use Rattle.outside.specs.declared.folder.FolderErr.TheVariants.{Failed, Unfit, Memory}
 
--- The calls so far, the faults so far, and the numbers, from 0, of the calls that shall fail: before they do anything, or, where
+-- The calls so far, the faults so far, and the numbers, from 0, of the calls that shall fail: before they do anything, or, if
 -- they change a folder, after a part of the change.
 pub record Plan : Type 0 where
   pub calls : ℕ

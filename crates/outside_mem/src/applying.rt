@@ -59,7 +59,7 @@ impl MemDisk {
         self.is_folder(&path.parent()) && !self.is_folder(path)
     }
 
-    // Whether a file stands there with at least so many bytes.
+    // Whether a file is there with at least so many bytes.
     fn has_bytes(&self, path: &VaultPath, count: u64) -> bool
         ensures { IsTrue result ↔ CanDo (SetLen path.now count) self.now }
     {

@@ -4,7 +4,7 @@ ghost use Rattle.outside_mem.specs.Kept.{change_of, own_bytes, with_bytes, halve
 use std::alloc::{AllocError, Global};
 use vault_path::VaultPath;
 
-/// The byte that an image has where bytes were written.
+// The byte that an image has where bytes were written.
 const FILL: u8 = 0xA5;
 
 /// A change of a folder. Clauses see it by `change_of`.
@@ -64,7 +64,7 @@ impl MemChange {
         Ok(self.with_bytes(fills))
     }
 
-    // The same change with these bytes in place of its own, where it has any.
+    // The same change with these bytes in place of its own, if it has any.
     fn with_bytes(&self, bytes: Vec<u8>) -> MemChange
         ensures { change_of result ≡ with_bytes (change_of self.now) bytes.items }
     {

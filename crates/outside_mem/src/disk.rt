@@ -58,21 +58,21 @@ impl MemDisk {
         }
     }
 
-    /// Whether a folder stands there.
+    /// Whether a folder is there.
     pub fn is_folder(&self, path: &VaultPath) -> bool
         ensures { IsTrue result ↔ IsFolder self.now path.now }
     {
         matches!(self.kind(path), Some(Kind::Dir))
     }
 
-    /// Whether a file stands there.
+    /// Whether a file is there.
     pub fn is_file(&self, path: &VaultPath) -> bool
         ensures { IsTrue result ↔ IsFile self.now path.now }
     {
         self.bytes_at(path).is_some()
     }
 
-    /// The bytes of the file that stands there.
+    /// The bytes of the file that is there.
     pub fn bytes_at(&self, path: &VaultPath) -> Option<&[u8]>
         ensures { MatchOption result (¬ IsFile self.now path.now) (λ bytes. node_at self.now path.now ≡ Some (file bytes.now)) }
     {
@@ -83,7 +83,7 @@ impl MemDisk {
         }
     }
 
-    /// Whether an empty folder below the top stands there.
+    /// Whether an empty folder below the top is there.
     pub fn is_bare(&self, path: &VaultPath) -> bool
         ensures { IsTrue result ↔ IsBare self.now path.now }
     {

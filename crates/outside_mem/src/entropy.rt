@@ -68,7 +68,7 @@ impl Entropy for SeedEntropy {
 
     ghost faults = { λ s. s.plan.faults };
 
-    /// Fails at a listed call, and where there aren't as many words.
+    // Fails at a listed call, and if there aren't as many words.
     fn fill(&mut self, out: &mut [u8]) -> Result<(), Failed>
         requires { length out.old % 4 ≡ 0 }
         ensures drawn { OnOk result (drawn_bytes self.new ≡ drawn_bytes self.old ++ out.new) }

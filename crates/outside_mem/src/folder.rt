@@ -152,7 +152,7 @@ impl MemFolder {
         }
     }
 
-    /// The folder after a change, where that can be made, and else as it is.
+    /// The folder after a change, if that can be made, and else as it is.
     pub(crate) fn with_change(mut self, change: MemChange) -> Result<MemFolder, AllocError>
         ensures start { IfOk result (λ folder. folder.log.start ≡ self.log.start) }
         ensures made { IfOk result (λ folder. IsTried (change_of change) (now self.log) (now folder.log)) }
@@ -211,7 +211,7 @@ impl MemFolder {
         Ok(())
     }
 
-    // A changing call. It fails where it is listed, and where memory is refused.
+    // A changing call. It fails if it is listed, and if memory is refused.
     fn change(&mut self, change: MemChange) -> Result<(), FolderErr>
         ensures done { OnOk result (HasDone (change_of change) self.old.log self.new.log) }
         ensures unfit { IsErrOf result FolderErr.Unfit → ¬ CanDo (change_of change) (now self.old.log) }
@@ -253,7 +253,7 @@ impl MemFolder {
         self.plan.next_fails()
     }
 
-    // Breaks off a change, where it can be made and memory isn't refused.
+    // Breaks off a change, if it can be made and memory isn't refused.
     fn break_where_fit(&mut self, change: MemChange)
         ensures broken { HasBroken (change_of change) self.old.log self.new.log }
         ensures counts { (self.new.changes ≡ self.old.changes) × (self.new.plan ≡ self.old.plan) }
@@ -294,7 +294,7 @@ impl Reads for MemFolder {
 
     ghost changes = { λ s. s.changes };
 
-    /// Fails at a listed call alone.
+    // Fails at a listed call alone.
     fn kind(&mut self, path: &VaultPath) -> Result<Option<Kind>, FolderErr>
         ensures kind { IfOk result (λ kind. kind ≡ kind_at (now self.old.log) path.now) }
         ensures tree { IsTree (now self.old.log) }
@@ -310,7 +310,7 @@ impl Reads for MemFolder {
         Ok(self.disk().kind(path))
     }
 
-    /// Fails at a listed call alone.
+    // Fails at a listed call alone.
     fn list(&mut self, alloc: Global, path: &VaultPath) -> Result<Vec<Text>, FolderErr>
         ensures names { IfOk result (λ names. IsFolder (now self.old.log) path.now × IsListing (now self.old.log) path.now names.items) }
         ensures unfit { IsErrOf result FolderErr.Unfit → ¬ IsFolder (now self.old.log) path.now }
@@ -330,7 +330,7 @@ impl Reads for MemFolder {
             .map_err(|_| FolderErr::Memory)
     }
 
-    /// Fails at a listed call alone.
+    // Fails at a listed call alone.
     fn read(&mut self, path: &VaultPath, at: u64, out: &mut [u8]) -> Result<usize, FolderErr>
         ensures count { IfOk result (λ n. n ≤ length out.old) }
         ensures rest { IfOk result (λ n. KeepsFrom n out.old out.new) }
@@ -354,7 +354,7 @@ impl Reads for MemFolder {
 }
 
 impl Folder for MemFolder {
-    /// Fails at a listed call, and where memory is refused. It changes nothing then but where it shall break off.
+    // Fails at a listed call, and if memory is refused. It changes nothing then unless it is to break off.
     fn make_dir(&mut self, path: &VaultPath) -> Result<(), FolderErr>
         ensures done { OnOk result (HasDone (MakeDir path.now) self.old.log self.new.log) }
         ensures unfit { IsErrOf result FolderErr.Unfit → ¬ CanDo (MakeDir path.now) (now self.old.log) }
@@ -369,7 +369,7 @@ impl Folder for MemFolder {
         self.change(MemChange::MakeDir(path.copied()))
     }
 
-    /// Fails at a listed call, and where memory is refused. It changes nothing then but where it shall break off.
+    // Fails at a listed call, and if memory is refused. It changes nothing then unless it is to break off.
     fn put(&mut self, path: &VaultPath, bytes: &[u8]) -> Result<(), FolderErr>
         ensures done { OnOk result (HasDone (Put path.now bytes.now) self.old.log self.new.log) }
         ensures unfit { IsErrOf result FolderErr.Unfit → ¬ CanDo (Put path.now bytes.now) (now self.old.log) }
@@ -387,7 +387,7 @@ impl Folder for MemFolder {
         }
     }
 
-    /// Fails at a listed call, and where memory is refused. It changes nothing then but where it shall break off.
+    // Fails at a listed call, and if memory is refused. It changes nothing then unless it is to break off.
     fn write(&mut self, path: &VaultPath, at: u64, bytes: &[u8]) -> Result<(), FolderErr>
         ensures done { OnOk result (HasDone (Write path.now at bytes.now) self.old.log self.new.log) }
         ensures unfit { IsErrOf result FolderErr.Unfit → ¬ CanDo (Write path.now at bytes.now) (now self.old.log) }
@@ -405,7 +405,7 @@ impl Folder for MemFolder {
         }
     }
 
-    /// Fails at a listed call, and where memory is refused. It changes nothing then but where it shall break off.
+    // Fails at a listed call, and if memory is refused. It changes nothing then unless it is to break off.
     fn set_len(&mut self, path: &VaultPath, len: u64) -> Result<(), FolderErr>
         ensures done { OnOk result (HasDone (SetLen path.now len) self.old.log self.new.log) }
         ensures unfit { IsErrOf result FolderErr.Unfit → ¬ CanDo (SetLen path.now len) (now self.old.log) }
@@ -420,7 +420,7 @@ impl Folder for MemFolder {
         self.change(MemChange::SetLen(path.copied(), len))
     }
 
-    /// Fails at a listed call, and where memory is refused. It changes nothing then but where it shall break off.
+    // Fails at a listed call, and if memory is refused. It changes nothing then unless it is to break off.
     fn rename(&mut self, from: &VaultPath, to: &VaultPath) -> Result<(), FolderErr>
         ensures done { OnOk result (HasDone (Move from.now to.now) self.old.log self.new.log) }
         ensures unfit { IsErrOf result FolderErr.Unfit → ¬ CanDo (Move from.now to.now) (now self.old.log) }
@@ -435,7 +435,7 @@ impl Folder for MemFolder {
         self.change(MemChange::Move(from.copied(), to.copied()))
     }
 
-    /// Fails at a listed call, and where memory is refused. It changes nothing then but where it shall break off.
+    // Fails at a listed call, and if memory is refused. It changes nothing then unless it is to break off.
     fn remove_file(&mut self, path: &VaultPath) -> Result<(), FolderErr>
         ensures done { OnOk result (HasDone (RemoveFile path.now) self.old.log self.new.log) }
         ensures unfit { IsErrOf result FolderErr.Unfit → ¬ CanDo (RemoveFile path.now) (now self.old.log) }
@@ -450,7 +450,7 @@ impl Folder for MemFolder {
         self.change(MemChange::RemoveFile(path.copied()))
     }
 
-    /// Fails at a listed call, and where memory is refused. It changes nothing then but where it shall break off.
+    // Fails at a listed call, and if memory is refused. It changes nothing then unless it is to break off.
     fn remove_dir(&mut self, path: &VaultPath) -> Result<(), FolderErr>
         ensures done { OnOk result (HasDone (RemoveDir path.now) self.old.log self.new.log) }
         ensures unfit { IsErrOf result FolderErr.Unfit → ¬ CanDo (RemoveDir path.now) (now self.old.log) }
@@ -465,7 +465,7 @@ impl Folder for MemFolder {
         self.change(MemChange::RemoveDir(path.copied()))
     }
 
-    /// Fails at a listed call, and where memory is refused, and does nothing then.
+    // Fails at a listed call, and if memory is refused, and does nothing then.
     fn sync(&mut self) -> Result<(), FolderErr>
         ensures synced { OnOk result (self.new.log ≡ adds self.old.log Synced) }
         ensures failed { OnErr result (self.new.log ≡ self.old.log) }
@@ -485,7 +485,7 @@ impl Folder for MemFolder {
     }
 }
 
-/// Copies the bytes from a place on, as many as there are and `out` has room for, and says how many.
+// Copies the bytes from a place on, as many as there are and `out` has room for, and says how many.
 fn copy_at(bytes: &[u8], at: u64, out: &mut [u8]) -> usize
     ensures count { result ≡ min (length out.old) (length bytes.now - at) }
     ensures bytes { take result out.new ≡ take result (drop at bytes.now) }

@@ -41,8 +41,8 @@ impl Choice {
 impl MemFolder {
     /// At most `most` folders, each of which begins with what a stop may leave of this one now, and has no calls. The first
     /// has nothing of what was done since the last sync, the second all of it, and the third all with 0xA5 in place of the
-    /// bytes. Then come three for each call since, from the newest on: all but it, it alone, and all with 0xA5 in its place.
-    /// A call that broke off counts whole, and a change that can't be made where others are left out is left out too.
+    /// bytes. Then there are three for each call since, from the newest on: all but it, it alone, and all with 0xA5 in its
+    /// place. A call that broke off counts whole, and a change that can't be made if others are left out is left out too.
     pub fn images(&self, most: usize) -> Result<Vec<MemFolder>, AllocError>
         ensures few { IfOk result (λ images. length images.items ≤ most) }
         ensures stopped { IfOk result (λ images. AllByRecursion (IsStopped self.now.log) images.items) }

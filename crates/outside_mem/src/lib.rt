@@ -1,5 +1,5 @@
 //! The outside of the program in memory, for tests: every object tells what it holds, counts its calls, and fails at listed
-//! calls and where memory is refused, and nowhere else.
+//! calls and if memory is refused, and nowhere else.
 //!
 //! ```
 //! let mut folder = MemFolder::new(alloc)?.failing_at(vec![in alloc; 2]?);

@@ -70,7 +70,7 @@ impl Link for MemLink {
 
     ghost write_faults = { λ l. l.sink.plan.faults };
 
-    /// Reads as its source does.
+    // Reads as its source does.
     fn read(&mut self, out: &mut [u8]) -> Result<usize, Failed>
         ensures count { IfOk result (λ n. n ≡ min (length out.old) (min (length self.old.source.left) (max 1 self.old.source.piece))) }
         ensures rest { IfOk result (λ n. KeepsFrom n out.old out.new) }
@@ -84,7 +84,7 @@ impl Link for MemLink {
         self.reads.read(out)
     }
 
-    /// Writes as its sink does.
+    // Writes as its sink does.
     fn write(&mut self, piece: &[u8]) -> Result<usize, Failed>
         ensures count { IfOk result (λ n. n ≡ min (length piece.now) (max 1 self.old.sink.piece)) }
         ensures bytes { IfOk result (λ n. self.new.sink.taken ≡ self.old.sink.taken ++ take n piece.now) }
@@ -98,7 +98,7 @@ impl Link for MemLink {
     }
 }
 
-/// Links that come in. Clauses see the links that are to come and those that were given back, and its counts.
+/// Incoming links. Clauses see the links that are to come and those that were given back, and its counts.
 #[derive(Drop)]
 pub struct MemListener {
     // The last one comes first.
@@ -179,7 +179,7 @@ impl Listener for MemListener {
 
     ghost faults = { λ l. l.plan.faults };
 
-    /// Fails at a listed call.
+    // Fails at a listed call.
     fn next(&mut self) -> Result<Option<MemLink>, Failed>
         ensures link { IfOk result (λ link. MatchOption link ((self.old.to_come ≡ []) × (self.new.to_come ≡ [])) (λ conn. self.old.to_come ≡ conn ∷ self.new.to_come)) }
         ensures failed { OnErr result (self.new.to_come ≡ self.old.to_come) }
@@ -193,7 +193,7 @@ impl Listener for MemListener {
         Ok(self.coming.pop())
     }
 
-    /// Takes no memory: the link brings its own room.
+    // Takes no memory: the link brings its own room.
     fn back(&mut self, link: MemLink)
         ensures given { self.new.given_back ≡ self.old.given_back ++ link ∷ [] }
         ensures to_come { self.new.to_come ≡ self.old.to_come }

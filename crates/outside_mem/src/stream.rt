@@ -81,7 +81,7 @@ impl Source for MemSource {
 
     ghost faults = { λ s. s.plan.faults };
 
-    /// Gives as many bytes as are left, `out` has room for and a piece has, but at least 1 of some.
+    // Gives as many bytes as are left, `out` has room for and a piece has, but at least 1 of some.
     fn read(&mut self, out: &mut [u8]) -> Result<usize, Failed>
         ensures count { IfOk result (λ n. n ≡ min (length out.old) (min (length self.old.left) (max 1 self.old.piece))) }
         ensures rest { IfOk result (λ n. KeepsFrom n out.old out.new) }
@@ -179,7 +179,7 @@ impl Sink for MemSink {
 
     ghost faults = { λ s. s.plan.faults };
 
-    /// Takes as much as a piece has, but at least 1 byte of some. It fails at a listed call and where memory is refused.
+    // Takes as much as a piece has, but at least 1 byte of some. It fails at a listed call and if memory is refused.
     fn write(&mut self, piece: &[u8]) -> Result<usize, Failed>
         ensures count { IfOk result (λ n. n ≡ min (length piece.now) (max 1 self.old.piece)) }
         ensures bytes { IfOk result (λ n. self.new.taken ≡ self.old.taken ++ take n piece.now) }

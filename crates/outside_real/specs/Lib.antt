@@ -2,4 +2,3 @@ pub mod HostPath
 pub mod Behind
 pub mod Missing
 pub mod Same
-pub mod Untold

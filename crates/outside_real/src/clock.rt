@@ -11,7 +11,7 @@ pub struct HostClock<R> {
     rt: R,
 }
 
-/// The low 32 bits.
+// The low 32 bits.
 fn cut(seconds: u64) -> u32
     ensures { result ≡ seconds % 2 ^ 32 }
 {
@@ -35,7 +35,7 @@ impl<R: SystemClock> HostClock<R> {
 impl<R: SystemClock> Clock for HostClock<R> {
     ghost second = { λ _. None };
 
-    /// The low 32 bits of the seconds since 1970, and 0 where the clock fails or stands before 1970.
+    // The low 32 bits of the seconds since 1970, and 0 if the clock fails or is before 1970.
     fn now(&self) -> u32 {
         cut(self.since_1970().unwrap_or(0))
     }

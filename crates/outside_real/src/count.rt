@@ -4,8 +4,8 @@ ghost use Rattle.outside.specs.Calls.{HasCause, Rose, risen};
 use outside::{Failed, FolderErr};
 use std::io;
 
-/// The count after one more fault. It stands still at its end.
-pub(crate) fn raised(faults: u64) -> u64
+/// The count after one more fault. Saturates.
+pub fn raised(faults: u64) -> u64
     ensures later { faults ≤ result }
     ensures rose { Rose faults result }
 {
@@ -20,7 +20,7 @@ pub(crate) fn count_change(changes: &mut u64)
 }
 
 /// Passes the host's answer on, and counts a failure.
-pub(crate) fn counted<T>(faults: &mut u64, answer: io::Result<T>) -> Result<T, Failed>
+pub fn counted<T>(faults: &mut u64, answer: io::Result<T>) -> Result<T, Failed>
     ensures variant { is_ok result ≡ is_ok answer }
     ensures value { IfOk result (λ value. answer ≡ Ok value) }
     ensures cause { HasCause faults.old faults.new (IsErr result) }

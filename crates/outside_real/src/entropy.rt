@@ -32,7 +32,7 @@ impl<R: Files> OsEntropy<R> {
         }
     }
 
-    /// Fills a buffer from the device.
+    // Fills a buffer from the device.
     fn draw(&mut self, out: &mut [u8]) -> io::Result<()>
         ensures device { OnOk result ((before : R.File) × (after : R.File) × IfSome self.old.device (λ device. device ≡ before)
             × (self.new.device ≡ Some after) × Consumes (R.File.remaining before) (R.File.remaining after) out.new) }

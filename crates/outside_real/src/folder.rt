@@ -12,9 +12,9 @@ use vault_path::{Text, VaultPath};
 /// A folder on disk. It tells nothing of what it holds.
 ///
 /// What is neither a file nor a folder, as a device, a FIFO or a link, is named by `list`, but `kind` finds nothing there, and
-/// other calls answer `Unfit`. The folder's own path may be a link; where it leads to no folder, `kind` fails. A name that
-/// isn't UTF-8 makes a listing fail. New files and folders are for their owner alone. `put` writes over a file that is there
-/// and then cuts it. `sync` flushes what was touched; once a flush has failed, each sync fails.
+/// other calls answer `Unfit`. The folder's own path may be a link; if it leads to no folder, `kind` fails. A name that isn't
+/// UTF-8 makes a listing fail. New files and folders are for their owner alone. `put` writes over a file that is there and
+/// then cuts it. `sync` flushes what was touched; once a flush has failed, each sync fails.
 #[derive(Drop)]
 pub struct HostFolder<R> {
     host: Host<R>,
@@ -24,7 +24,7 @@ pub struct HostFolder<R> {
 
 impl<R: Files + Drop> HostFolder<R> {
     /// The folder at a path, which may be missing; at the empty one nothing is. It reserves the room in which later calls
-    /// compose their paths, and fails only where memory runs out.
+    /// compose their paths, and fails only if memory runs out.
     pub fn new(rt: R, alloc: Global, path: &str) -> Result<HostFolder<R>, AllocError>
         ensures base { IfOk result (λ folder. base_of folder ≡ path.now) }
         ensures faults { IfOk result (λ folder. ⟦<HostFolder<R> as Reads>⟧.faults folder ≡ 0) }

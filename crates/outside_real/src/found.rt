@@ -77,7 +77,7 @@ pub(crate) fn kind_of(found: Found) -> Option<Kind>
     }
 }
 
-/// What the host has at a path. A link at its end is followed only where it is that of the folder itself.
+/// What the host has at a path. A link at its end is followed only if it is that of the folder itself.
 pub(crate) fn found_at(rt: &impl Files, text: &str, is_top: bool) -> Result<Found, FolderErr>
     ensures { IsOkUnless result FolderErr.Failed }
 {

@@ -32,7 +32,7 @@ fn failed(_error: io::Error) -> FolderErr
     FolderErr::Failed
 }
 
-/// The host finds that the path isn't what the call needs.
+// The host finds that the path isn't what the call needs.
 fn is_unfit(error: &io::Error) -> bool
     ensures { IsTrue result ↔ IsMisfit error.now }
 {
@@ -43,7 +43,7 @@ fn is_unfit(error: &io::Error) -> bool
         )
 }
 
-/// Why a change failed: the path isn't what it needs, or the host failed.
+// Why a change failed: the path isn't what it needs, or the host failed.
 fn change_error(error: io::Error) -> FolderErr
     ensures unfit { IsMisfit error → result ≡ FolderErr.Unfit }
     ensures failed { ¬ IsMisfit error → result ≡ FolderErr.Failed }
@@ -64,7 +64,7 @@ fn push_name(alloc: Global, names: &mut Vec<Text>, name: &str) -> Result<(), All
     Ok(())
 }
 
-/// The names of all that is in a folder.
+// The names of all that is in a folder.
 fn names_in<R: Files>(rt: &R, alloc: Global, text: &str) -> Result<Vec<Text>, FolderErr> {
     let mut names = Vec::new(alloc);
     for entry in fs::read_dir(&(rt, alloc), text).map_err(failed)? {
@@ -74,7 +74,7 @@ fn names_in<R: Files>(rt: &R, alloc: Global, text: &str) -> Result<Vec<Text>, Fo
     Ok(names)
 }
 
-/// Flushes what is at a path. Where nothing is, that is so by what is flushed of the folder above.
+// Flushes what is at a path. If nothing is there, flushing the folder above makes that last.
 fn flush_path<R: Files>(rt: &R, paths: &mut PathBuffer, path: &VaultPath) -> Result<(), FolderErr>
     ensures no_memory { IsOkUnless result FolderErr.Failed }
     ensures base { string_bytes paths.new.base ≡ string_bytes paths.old.base }
@@ -118,7 +118,7 @@ impl<R: Files> Host<R> {
         })
     }
 
-    /// What the host has at a path, whose text is composed.
+    // What the host has at a path, whose text is composed.
     fn find(&mut self, path: &VaultPath) -> Result<Found, FolderErr>
         ensures failed { IsOkUnless result FolderErr.Failed }
         ensures text { string_bytes self.new.paths.room ≡ host_path (string_bytes self.old.paths.base) path.now }
@@ -128,7 +128,7 @@ impl<R: Files> Host<R> {
         found_at(&self.rt, self.paths.text(), path.is_empty())
     }
 
-    /// The same, where the folder itself is there: else nothing is known to be absent.
+    // The same, if the folder itself is there: else nothing is known to be absent.
     fn find_inside(&mut self, path: &VaultPath) -> Result<Found, FolderErr>
         ensures failed { IsOkUnless result FolderErr.Failed }
         ensures base { string_bytes self.new.paths.base ≡ string_bytes self.old.paths.base }
@@ -139,7 +139,7 @@ impl<R: Files> Host<R> {
         }
     }
 
-    /// Whether the folder itself is there.
+    // Whether the folder itself is there.
     fn is_there(&self) -> bool {
         fs::metadata(&self.rt, self.paths.base()).is_ok_and(|metadata| metadata.is_dir())
     }
@@ -177,14 +177,14 @@ impl<R: Files> Host<R> {
         }
     }
 
-    /// Has the next sync flush what is at a path. Where there is no room to keep the path, it is flushed now.
+    // Has the next sync flush what is at a path. If there is no room to keep the path, it is flushed now.
     fn touch(&mut self, path: &VaultPath) {
         if !self.touched.keep(path) && flush_path(&self.rt, &mut self.paths, path).is_err() {
             self.flush_failed = true;
         }
     }
 
-    /// The same of a path at which something was made, moved or removed.
+    // The same of a path at which something was made, moved or removed.
     fn touch_name(&mut self, path: &VaultPath) {
         self.touch(path);
         self.touch(&path.parent());

@@ -1,4 +1,4 @@
-//! The real host behind the traits of `outside`: a folder on disk, the standard streams, random bytes and the clock.
+//! The real host behind the traits of `outside`: a folder on disk, random bytes and the clock.
 //!
 //! ```
 //! let mut folder = HostFolder::new(&rt, rt.alloc(), "/srv/vault")?;
@@ -6,48 +6,38 @@
 //! folder.sync()?; // fsync of the file and of the folder that it is in
 //! ```
 //!
-//! This is the trusted edge of a server. No clause can say what a file, a standard stream, the random device or the clock
+//! This is the trusted edge of a server. No clause can say what a file, the random device or the clock
 //! gives or takes, so no object over the host tells its contents. What is proved of each call is its shape: it is safe,
 //! its counts stay within the buffers, it leaves the rest of a buffer as it was, and it answers that it failed, or that
-//! its condition fails, only after raising the object's count of faults, which stands still at 2^64 - 1. A folder counts
-//! the calls that change it, and fails each `sync` after a flush that failed. Trusted is the rest: that the system's calls
-//! do what their manuals say, that `/dev/urandom` gives bytes that nobody can foresee, that the clock is right, and that
+//! its condition fails, only after raising the object's count of faults, which saturates at 2^64 - 1. A folder counts the
+//! calls that change it, and fails each `sync` after a flush that failed. Trusted is the rest: that the system's calls do
+//! what their manuals say, that `/dev/urandom` gives bytes that nobody can foresee, that the clock is right, and that
 //! nobody else changes the folder.
 //!
-//! A link, a source and a sink stand over any reader and writer, and tell what these tell. Over bytes in memory
+//! A link, a source and a sink are over any reader and writer, and tell what these tell. Over bytes in memory
 //! (`StreamLink::over`, `StdSource::over`, `StdSink::over`) everything that their traits say of contents is proved of the
 //! code that serves the standard streams; of those only std's own reader and writer are trusted.
 //!
-//! Clients over TCP or a Unix socket come to a `Socket`, which several `SocketListen` share, one for each worker.
-//!
-//! Where another process does, no file outside of the folder is cut or written by way of a link at the end of a path: what
-//! is opened is compared (device, inode, kind) with what was seen before a byte is read or written, a new file is made
-//! only where there is nothing, and no file is cut by opening. These stay open, as std has neither `openat` nor flags for
-//! `open`: a file that is swapped for a FIFO just before a read or a flush makes that call wait for a writer; a folder on
-//! the way that is swapped for a link is followed; a rename or a removal takes what has the name by then.
+//! If another process does, no file outside of the folder is cut or written by way of a link at the end of a path: what is
+//! opened is compared (device, inode, kind) with what was seen before a byte is read or written, a new file is made only
+//! if there is nothing, and no file is cut by opening. These stay open, as std has neither `openat` nor flags for `open`:
+//! a file that is swapped for a FIFO just before a read or a flush makes that call wait for a writer; a folder on the way
+//! that is swapped for a link is followed; a rename or a removal takes what has the name by then.
 #![tactic(auto)]
 
 mod clock;
 mod count;
-mod ends;
 mod entropy;
 mod folder;
 mod found;
 mod host;
-mod link;
-mod listen;
 mod opened;
 mod path_buffer;
-mod socket;
-mod stream;
 mod touched;
 mod transfer;
 
 pub use clock::HostClock;
-pub use ends::{Incoming, Outgoing, Output, Untold};
+pub use count::{counted, raised};
 pub use entropy::OsEntropy;
 pub use folder::HostFolder;
-pub use link::{HostLink, StreamLink};
-pub use listen::HostListen;
-pub use socket::{Socket, SocketLink, SocketListen};
-pub use stream::{NullSink, StdSink, StdSource};
+pub use transfer::{read_one, read_some, write_some};

@@ -9,13 +9,13 @@ use std::io::{Error, ErrorKind, Seek, SeekFrom, Write};
 use std::os::unix::fs::{DirBuilderExt, OpenOptionsExt};
 use std::rt::Files;
 
-/// A new file is read and written by its owner alone, as far as the host's mask lets it be.
+// A new file is read and written by its owner alone, as far as the host's mask lets it be.
 const FILE_MODE: u32 = 0o600;
 
-/// The same of a new folder, which its owner enters too.
+// The same of a new folder, which its owner enters too.
 const DIR_MODE: u32 = 0o700;
 
-/// Opens what was seen at a path. It fails where something else stands there now. Nothing is cut by opening.
+// Opens what was seen at a path. It fails if something else is there now. Nothing is cut by opening.
 fn open_seen<R: Files>(rt: &R, text: &str, how: &OpenOptions, seen: Found) -> io::Result<R::File> {
     let file = how.open(rt, text)?;
     if is_same(seen, found_of(&file.metadata()?)) {
@@ -31,14 +31,14 @@ fn to_read() -> OpenOptions {
     how
 }
 
-/// To write, and to read as well: a FIFO that is opened for both doesn't wait for another process.
+// To write, and to read as well: a FIFO that is opened for both doesn't wait for another process.
 fn to_write() -> OpenOptions {
     let mut how = OpenOptions::new();
     how.read(true).write(true);
     how
 }
 
-/// To make a file where nothing is. A link isn't followed.
+// For a new file, which is made only if nothing is there. A link isn't followed.
 fn to_make() -> OpenOptions {
     let mut how = OpenOptions::new();
     how.write(true).create_new(true).mode(FILE_MODE);
@@ -66,7 +66,7 @@ pub(crate) fn make_file<R: Files>(rt: &R, text: &str, bytes: &[u8]) -> io::Resul
     file.write_all(bytes)
 }
 
-/// Writes these bytes over those of a file, and then cuts it behind them.
+/// Writes these bytes over those of a file, and then cuts it after them.
 pub(crate) fn replace_bytes<R: Files>(
     rt: &R,
     text: &str,

@@ -8,10 +8,10 @@ use std::alloc::{AllocError, Global};
 use std::str;
 use vault_path::VaultPath;
 
-/// What the longest part takes: 255 bytes after a slash.
+// What the longest part takes: 255 bytes after a slash.
 const LONGEST_PART: usize = 256;
 
-/// What the parts of the longest path take, of which there are 6.
+// What the parts of the longest path take, of which there are 6.
 const LONGEST_PARTS: usize = 6 * LONGEST_PART;
 
 /// A folder's own path, and room for the host's text of any path in it.
@@ -74,7 +74,7 @@ fn compose(base: &str, room: &mut String, path: &VaultPath)
     }
 }
 
-/// Appends a slash and a part, for which there is room.
+// Appends a slash and a part, for which there is room.
 fn push_part(room: &mut String, part: &[u8])
     requires good { IsTrue (is_part part.now) }
     requires fits { string_len room.old + LONGEST_PART ≤ string_capacity room.old }

@@ -3,11 +3,11 @@ ghost use Rattle.std.specs.Prelude.{◌≡◌, [], Contains, IsTrue};
 use std::alloc::{AllocError, Global};
 use vault_path::VaultPath;
 
-/// How many paths are kept for the next sync.
+// How many paths are kept for the next sync.
 const MOST: usize = 128;
 
-/// What an earlier process may have left unflushed, and the start of a server builds on: the folder itself, and in it the
-/// folder of all others, the journal and the file that the first journal is made in.
+// What an earlier process may have left unflushed, and the start of a server builds on: the folder itself, and in it the
+// folder of all others, the journal and the file that the first journal is made in.
 const FIRST: [&[u8]; 3] = [b"d", b"served.journal", b"served.journal.new"];
 
 /// The paths that the next sync flushes.

@@ -5,10 +5,10 @@ ghost use Rattle.outside.specs.Calls.{KeepsFrom};
 use std::io;
 use std::io::{Error, ErrorKind, Read, Write};
 
-/// How many bytes go through the stack at a time.
+// How many bytes go through the stack at a time.
 const CHUNK: usize = 8192;
 
-/// One read, tried again where a signal cuts it short.
+// One read, tried again if a signal cuts it short.
 fn read_once<I: Read>(input: &mut I, out: &mut [u8]) -> io::Result<usize>
     ensures count { IfOk result (λ n. n ≤ length out.old) }
     ensures bytes { IfOk result (λ n. Consumes (I.remaining input.old) (I.remaining input.new) (take n out.new)) }
@@ -25,7 +25,7 @@ fn read_once<I: Read>(input: &mut I, out: &mut [u8]) -> io::Result<usize>
 }
 
 /// Reads some bytes, at most `out` has room for, and says how many. The rest of `out` is as it was.
-pub(crate) fn read_some<I: Read>(input: &mut I, out: &mut [u8]) -> io::Result<usize>
+pub fn read_some<I: Read>(input: &mut I, out: &mut [u8]) -> io::Result<usize>
     ensures count { IfOk result (λ n. n ≤ length out.old) }
     ensures rest { IfOk result (λ n. KeepsFrom n out.old out.new) }
     ensures bytes { IfOk result (λ n. Consumes (I.remaining input.old) (I.remaining input.new) (take n out.new)) }
@@ -40,7 +40,7 @@ pub(crate) fn read_some<I: Read>(input: &mut I, out: &mut [u8]) -> io::Result<us
 }
 
 /// Reads one byte, if `out` has room for it, and says how many it read. The rest of `out` is as it was.
-pub(crate) fn read_one<I: Read>(input: &mut I, out: &mut [u8]) -> io::Result<usize>
+pub fn read_one<I: Read>(input: &mut I, out: &mut [u8]) -> io::Result<usize>
     ensures count { IfOk result (λ n. n ≤ min 1 (length out.old)) }
     ensures rest { IfOk result (λ n. KeepsFrom n out.old out.new) }
     ensures bytes { IfOk result (λ n. Consumes (I.remaining input.old) (I.remaining input.new) (take n out.new)) }
@@ -58,7 +58,8 @@ pub(crate) fn read_one<I: Read>(input: &mut I, out: &mut [u8]) -> io::Result<usi
     Ok(count)
 }
 
-/// Reads until `out` is full or the end comes, and says how many bytes it read. The rest of `out` is as it was.
+/// Reads until `out` is full or the end is reached, and says how many bytes it read. The rest of `out` is as it
+/// was.
 pub(crate) fn read_full<I: Read>(input: &mut I, out: &mut [u8]) -> io::Result<usize>
     ensures count { IfOk result (λ n. n ≤ length out.old) }
     ensures rest { IfOk result (λ n. KeepsFrom n out.old out.new) }
@@ -78,7 +79,7 @@ pub(crate) fn read_full<I: Read>(input: &mut I, out: &mut [u8]) -> io::Result<us
 
 /// Writes some bytes from the front of a piece, at least one unless it is empty, and says how many. The writer has no buffer, so
 /// nothing is flushed: a flush could fail after the bytes were taken.
-pub(crate) fn write_some<O: Write>(output: &mut O, piece: &[u8]) -> io::Result<usize>
+pub fn write_some<O: Write>(output: &mut O, piece: &[u8]) -> io::Result<usize>
     ensures count { IfOk result (λ n. n ≤ length piece.now) }
     ensures some { IfOk result (λ n. 0 < length piece.now → 0 < n) }
     ensures bytes { IfOk result (λ n. Appends (O.contents output.old) (O.contents output.new) (take n piece.now)) }

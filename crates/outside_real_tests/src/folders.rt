@@ -20,7 +20,7 @@ fn path_of(names: &[&[u8]]) -> Result<VaultPath, Fail> {
     Ok(path)
 }
 
-/// A folder `d`, a file `d/f` of the bytes `abc`, and a link `d/link` to it.
+// A folder `d`, a file `d/f` of the bytes `abc`, and a link `d/link` to it.
 fn fill(rt: &HostRuntime, place: &str, folder: &mut HostFolder<&HostRuntime>) -> Result<(), Fail> {
     fs::create_dir(rt, place)?;
     folder.make_dir(&path_of(&[b"d"])?)?;
@@ -30,7 +30,7 @@ fn fill(rt: &HostRuntime, place: &str, folder: &mut HostFolder<&HostRuntime>) ->
     Ok(())
 }
 
-/// The bytes of `d/f`, and behind them what `out` had.
+// The bytes of `d/f`, and after them what `out` had.
 fn bytes_of_f(folder: &mut HostFolder<&HostRuntime>) -> Result<[u8; 6], Fail> {
     let mut out = *b"------";
     folder.read(&path_of(&[b"d", b"f"])?, 0, &mut out)?;

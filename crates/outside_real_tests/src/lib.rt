@@ -7,3 +7,5 @@ mod folders;
 mod objects;
 #[cfg(test)]
 mod script;
+#[cfg(test)]
+mod sockets;

@@ -1,10 +1,9 @@
 //! The standard streams, random bytes and the clock.
 
 use crate::script::Script;
+use host_links::{HostLink, HostListen, NullSink, StdSink, StdSource, StreamLink};
 use outside::{Clock, Entropy, Failed, Link, Listener, Sink, Source};
-use outside_real::{
-    HostClock, HostLink, HostListen, NullSink, OsEntropy, StdSink, StdSource, StreamLink,
-};
+use outside_real::{HostClock, OsEntropy};
 use std::test::Fail;
 
 #[test]

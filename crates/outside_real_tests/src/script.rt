@@ -5,7 +5,7 @@ use std::fmt::Display;
 use std::io;
 use std::io::{BufRead, ErrorKind, Input, Lines};
 
-/// How many bytes the output takes at a time.
+// How many bytes the output takes at a time.
 const TAKEN: usize = 2;
 
 #[derive(Drop)]

@@ -155,7 +155,7 @@ unnamed_none path (x ∷ xs) each none = by_first path x
     (λ here. absurd (cc_none (sym (file_here path x xs here) ∙ none)))
     (λ there. (not_here path x each.0 there, unnamed_none path xs each.1 (sym (file_there path x xs there) ∙ none)))
 
--- a file's deed behind deeds that don't name it
+-- a file's deed after deeds that don't name it
 other_way : (path : Path) (x : PlainDeed) → IsWaiting x → NotIn path (names x) → NoneIn (names x) (path ∷ [])
 other_way path (Reshapes named len ranges) waits apart = ((λ e. apart.0 (sym e), tt), tt)
 other_way path (MakesDir named) waits apart = absurd waits

@@ -122,7 +122,7 @@ same_deeds (Reshapes p len rs ∷ ds) (Reshapes q len' ss ∷ es) a b same =
     (λ i. Reshapes (x i) (y i) (ranges.0 i) ∷ more.0 i, more.1)
 same_deeds ds es a b same = absurd cc
 
--- so where it is as it was, both are
+-- so if it is as it was, both are
 pub same_laid : (ds es : List PlainDeed) (a b : Log) → laid_log ds a ≡ laid_log es b → (ds ≡ es) × (a ≡ b)
 same_laid ds es a b same =
     let start : a.start ≡ b.start = ap (λ (l : Log). l.start) same in
@@ -131,7 +131,7 @@ same_laid ds es a b same =
     let both = same_deeds ds es a.calls b.calls rest in
     (both.0, λ i. record { start = start i; calls = both.1 i })
 
--- and of a log that may be told: it is told still, and where it is, what waits is as it was
+-- and of a log that may be told: it is told still, and if it is, what waits is as it was
 pub same_told : (ds es : List PlainDeed) (a b : Option Log) → option_map (laid_log ds) a ≡ option_map (laid_log es) b → (a ≡ b) × (IsSome a → ds ≡ es)
 same_told ds es None None same = (refl, λ some. let no : false ≡ true = some in absurd cc)
 same_told ds es None (Some b) same = absurd cc

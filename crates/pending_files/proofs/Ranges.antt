@@ -109,7 +109,7 @@ first_of (r ∷ rs) = r.0
 zero_not : {i : ℕ} → suc i ≡ 0 → ⊥
 zero_not e = omega arith
 
--- at the gap for a place stands a range that begins there
+-- at the gap for a place is a range that begins there
 pub chunk_over : (at : ℕ) (bytes : List ℕ) (rs : Ranges) (i : ℕ) (r : ℕ × List ℕ) (rest : Ranges) → IsGap at rs i → drop i rs ≡ r ∷ rest → r.0 ≡ at → with_chunk at bytes rs ≡ insert (remove rs i) i (at, bytes)
 chunk_over at bytes [] zero r rest gap here e = absurd cc
 chunk_over at bytes [] (suc i) r rest gap here e = absurd cc

@@ -1,4 +1,4 @@
--- The bytes of a file after its ranges, where these are cut or a chunk is put among them.
+-- The bytes of a file after its ranges, if these are cut or a chunk is put among them.
 use Rattle.std.proofs.Common.{◌≡◌, ⊎_elim, ℕ, ◌+◌, ◌-◌, ◌≤◌, ◌<◌, max, List, [], ◌∷◌, length, get_or, take, Bool, true, false, refl, sym, ap, subst, ◌∙◌, arith, length-take}
 use Rattle.std.specs.Prelude.{◌==◌}
 use Rattle.std.proofs.lemmas.Bool.{cases_lt, lt-ltb, le-ltb, eqb-true, eq-eqb}
@@ -56,7 +56,7 @@ cut_written n from most (r ∷ rs) was are can =
     subst (λ (l : Ranges). IsCutWritten n l (r ∷ rs) was) (sym is)
     (⊎_elim
     (λ (inside : n - r.0 < length r.1).
-    -- the range goes past the length, and all others lie behind it
+    -- the range goes past the length, and all others lie after it
     let cut = overwritten was r.0 (take (n - r.0) r.1) in
     let short : length (take (n - r.0) r.1) ≡ n - r.0 = omega (arith, length-take (n - r.0) r.1) in
     let behind : n ≤ r.0 + 32796 = omega (arith, are.2) in

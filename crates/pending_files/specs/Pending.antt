@@ -81,7 +81,7 @@ header_length = 68
 abbrev pub sealed_length : ℕ
 sealed_length = 32796
 
--- where a chunk begins: behind the header and as many full sealed chunks
+-- where a chunk begins: after the header and as many full sealed chunks
 abbrev pub IsPlace : ℕ → Type 0
 IsPlace at = (index : ℕ) × (at ≡ header_length + sealed_length * index)
 

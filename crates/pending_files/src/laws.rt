@@ -9,7 +9,7 @@ ghost use Rattle.pending_files.specs.Pending.{ArePending, IsPlace, file_of, cut_
 ghost use Rattle.pending_files.specs.Laid.{laid, CanWait, LookAlike};
 ghost use Rattle.pending_files.specs.Later.{CanReshape, IsReshaped, IsChangedTo, IsWhole};
 
-/// What waits can be done where each of its files can be reshaped; then each of them is, and all else is as it was. It does
+/// What waits can be done if each of its files can be reshaped; then each of them is, and all else is as it was. It does
 /// nothing.
 pub fn doing_what_waits()
     ensures can { (deeds : List PlainDeed) (old : Disk) → ArePending deeds
@@ -21,7 +21,7 @@ pub fn doing_what_waits()
         → file_of path deeds ≡ None → node_at later path ≡ node_at old path }
 {}
 
-/// With a cut that waits, the file that was to be is cut, where it is as long; all else will be as it was to be. It does
+/// With a cut that waits, the file that was to be is cut, if it is as long; all else will be as it was to be. It does
 /// nothing.
 pub fn cutting_what_waits()
     ensures { (deeds : List PlainDeed) (old later : Disk) (path : Path) (bytes : List ℕ) (len : ℕ) → ArePending deeds → ArePending (cut_in path len deeds)
@@ -29,8 +29,8 @@ pub fn cutting_what_waits()
         → (next : Disk) × DoesAll (in_order (cut_in path len deeds)) old next × IsChangedTo path (take len bytes) later next }
 {}
 
-/// With a chunk that waits, the file that was to be has it at its place and is cut, where no gap is left and the chunk is full
-/// or the last one; all else will be as it was to be. It does nothing.
+/// With a chunk that waits, the file that was to be has it at its place and is cut, if no gap is left and the chunk is full or
+/// the last one; all else will be as it was to be. It does nothing.
 pub fn putting_in_what_waits()
     ensures { (deeds : List PlainDeed) (old later : Disk) (path : Path) (bytes : List ℕ) (size at : ℕ) (sealed : List ℕ) → ArePending deeds → ArePending (put_in path size at sealed deeds)
         → DoesAll (in_order deeds) old later → node_at later path ≡ Some (file bytes) → IsPlace at → length sealed ≤ sealed_length

@@ -69,7 +69,7 @@ impl Pending {
         }
     }
 
-    /// The length in bytes that a file will have, where changes of it wait.
+    /// The length in bytes that a file will have, if changes of it wait.
     pub fn len_of(&self, path: &VaultPath) -> Option<u64>
         ensures { result ≡ option_map (λ found. found.0) (file_of path.now self.now) }
     {
@@ -79,7 +79,7 @@ impl Pending {
         }
     }
 
-    /// Puts a sealed chunk at its place of a file, `at` bytes behind its beginning, in place of one that waits there; the
+    /// Puts a sealed chunk at its place of a file, `at` bytes after its beginning, in place of one that waits there; the
     /// file has `size` bytes from now on. It takes no memory.
     pub fn put_chunk(&mut self, path: &VaultPath, size: u64, at: u64, sealed: &[u8])
         requires room { HasRoom self.old path.now 1 }

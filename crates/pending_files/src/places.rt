@@ -1,4 +1,4 @@
-//! Where the changes of a file stand among those that wait, and a chunk among a file's.
+//! Where the changes of a file are among those that wait, and a chunk among a file's.
 
 ghost use Rattle.std.specs.Prelude.{◌≡◌, Some, None, MatchOption};
 ghost use Rattle.deeds.specs.Plain.{plains, plain_ranges};

@@ -42,7 +42,7 @@ pub(crate) fn read_reshaped<R: Reads>(
     Ok(count)
 }
 
-/// How many bytes a file of this length has from byte `at` on, at most as many as there is room for.
+// How many bytes a file of this length has from byte `at` on, at most as many as there is room for.
 fn shown_count(len: u64, at: u64, room: usize) -> usize
     ensures { result ≡ min room (len - at) }
 {
@@ -54,7 +54,7 @@ fn shown_count(len: u64, at: u64, room: usize) -> usize
     }
 }
 
-/// Lays ranges of a file in their order over a window of it that begins at byte `at`.
+// Lays ranges of a file in their order over a window of it that begins at byte `at`.
 fn overlay(ranges: &[Range], at: u64, window: &mut [u8])
     ensures long { length window.new ≡ length window.old }
     ensures shown { (was : List ℕ) → CanWrite (plain_ranges ranges.now) was → Shows at was window.old
@@ -65,7 +65,7 @@ fn overlay(ranges: &[Range], at: u64, window: &mut [u8])
     }
 }
 
-/// Lays bytes that begin at byte `start` of a file over a window of it that begins at byte `at`.
+// Lays bytes that begin at byte `start` of a file over a window of it that begins at byte `at`.
 fn lay(start: u64, bytes: &[u8], at: u64, window: &mut [u8])
     ensures long { length window.new ≡ length window.old }
     ensures shown { (was : List ℕ) → start ≤ length was → Shows at was window.old → Shows at (overwritten was start bytes.now) window.new }

@@ -10,7 +10,7 @@ use deeds::{Deed, Range};
 use std::alloc::{AllocError, Global};
 use vault_path::VaultPath;
 
-/// The bytes of a full sealed chunk.
+// The bytes of a full sealed chunk.
 const SEALED_LENGTH: usize = 32_796;
 
 /// The most chunks that wait, and the most files.
@@ -38,7 +38,7 @@ pub(crate) fn new_lists(alloc: Global) -> Result<Vec<Vec<Range>>, AllocError>
     Ok(lists)
 }
 
-/// Takes a file's ranges out of what waits, or a spare list where none wait.
+/// Takes a file's ranges out of what waits, or a spare list if none wait.
 pub(crate) fn take_ranges(
     deeds: &mut Vec<Deed>,
     lists: &mut Vec<Vec<Range>>,
@@ -63,7 +63,7 @@ pub(crate) fn take_ranges(
     }
 }
 
-/// The ranges of a file's deed.
+// The ranges of a file's deed.
 fn ranges_in(deed: Deed) -> Vec<Range>
     requires { InList deed }
     ensures ranges { plain_ranges result.items ≡ its_ranges (plain deed) }
@@ -75,7 +75,7 @@ fn ranges_in(deed: Deed) -> Vec<Range>
     }
 }
 
-/// Puts a deed behind the others.
+/// Puts a deed after the others.
 pub(crate) fn add(deeds: &mut Vec<Deed>, deed: Deed)
     requires lent { AreLent deeds.old }
     requires list { InList deed }
@@ -109,7 +109,7 @@ pub(crate) fn cut_ranges(ranges: &mut Vec<Range>, len: u64, buffers: &mut Vec<Ve
     }
 }
 
-/// The part of a range before a length.
+// The part of a range before a length.
 fn cut_range(mut range: Range, len: u64) -> Range
     requires { range.at < len }
     ensures at { result.at ≡ range.at }
@@ -123,7 +123,7 @@ fn cut_range(mut range: Range, len: u64) -> Range
     range
 }
 
-/// Puts a range behind the others.
+// Puts a range after the others.
 fn push_range(ranges: &mut Vec<Range>, range: Range)
     requires list { IsList ranges.old }
     requires buffer { IsBuffer range.bytes }
@@ -137,7 +137,7 @@ fn push_range(ranges: &mut Vec<Range>, range: Range)
     }
 }
 
-/// Takes a buffer back.
+// Takes a buffer back.
 fn give_back(buffers: &mut Vec<Vec<u8>>, buffer: Vec<u8>)
     requires buffers { AreBuffers buffers.old }
     requires buffer { IsBuffer buffer }
@@ -168,7 +168,7 @@ pub(crate) fn forget(deed: Deed, lists: &mut Vec<Vec<Range>>, buffers: &mut Vec<
     give_list_back(lists, ranges);
 }
 
-/// Takes a list back whose ranges are gone.
+// Takes a list back whose ranges are gone.
 fn give_list_back(lists: &mut Vec<Vec<Range>>, list: Vec<Range>)
     requires lists { AreLists lists.old }
     requires list { IsEmptyList list }
@@ -201,7 +201,7 @@ pub(crate) fn put_range(ranges: &mut Vec<Range>, at: u64, sealed: &[u8], buffers
     }
 }
 
-/// A buffer for a chunk at a place: that of the range that begins there, which goes, or a spare one.
+// A buffer for a chunk at a place: that of the range that begins there, which goes, or a spare one.
 fn buffer_for(ranges: &mut Vec<Range>, index: usize, at: u64, buffers: &mut Vec<Vec<u8>>) -> Vec<u8>
     requires gap { IsGap at (plain_ranges ranges.old.items) index }
     requires list { IsList ranges.old }
@@ -226,7 +226,7 @@ fn buffer_for(ranges: &mut Vec<Range>, index: usize, at: u64, buffers: &mut Vec<
     }
 }
 
-/// A buffer with these bytes in place of its own.
+// A buffer with these bytes in place of its own.
 fn filled(mut buffer: Vec<u8>, bytes: &[u8]) -> Vec<u8>
     requires buffer { IsBuffer buffer }
     requires short { length bytes.now ≤ sealed_length }

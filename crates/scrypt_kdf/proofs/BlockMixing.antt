@@ -53,7 +53,7 @@ AreWords-salsa x = AreWords-add_words (double_round (double_round (double_round 
 
 -- ---- the halves
 
--- a block more is written behind the n that stand from a place on
+-- a block more is written after the n that are there from a place on
 half-more : (f : ℕ → List ℕ) (from n at k : ℕ) (t u x : List ℕ) → bytes_of_words (take (16 * n) (drop from t)) ≡ first_blocks f n → length x ≡ 16
     → bytes_of_words x ≡ f n → at ≡ from + 16 * n → at + 16 ≤ length t → u ≡ put_mid at k t x
     → bytes_of_words (take (16 * (n + 1)) (drop from u)) ≡ first_blocks f (n + 1)
@@ -72,12 +72,12 @@ half-more f from n at k t u x before long made place within written =
     ∙ ap (λ (l : List ℕ). done ++ l) (take_at x (drop k (drop at t)) 16 long) in
     ap bytes_of_words cut ∙ bytes_of_words-append done x ∙ ap₂ (λ (p q : List ℕ). p ++ q) before made ∙ sym (first_blocks-more f n)
 
--- what stands before the place of a write stays
+-- what is before the place of a write stays
 half-before : (from n at k : ℕ) (t u x : List ℕ) → from + 16 * n ≤ at → at ≤ length t → u ≡ put_mid at k t x → take (16 * n) (drop from u) ≡ take (16 * n) (drop from t)
 half-before from n at k t u x behind within written =
     sym (drop-take from (16 * n) u) ∙ ap (drop from) (ap (take (from + 16 * n)) written ∙ take-put_mid_below at k t x (from + 16 * n) behind within) ∙ drop-take from (16 * n) t
 
--- what stands behind it too
+-- what follows it too
 half-behind : (from n at k : ℕ) (t u x : List ℕ) → at + k ≤ from → at ≤ length t → length x ≡ k → u ≡ put_mid at k t x
     → take (16 * n) (drop from u) ≡ take (16 * n) (drop from t)
 half-behind from n at k t u x before within long written =

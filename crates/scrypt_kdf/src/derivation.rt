@@ -23,7 +23,7 @@ fn block(password: &[u8], salt: &[u8], turns: u32, number: usize) -> [u8; BLOCK]
 }
 
 /// Fills `out` with what PBKDF2 (RFC 8018, 5.2) with HMAC-SHA-256 makes of a password and a salt of
-/// any lengths in `turns` iterations. The standard allows at most (2^32 - 1)·32 bytes; behind them
+/// any lengths in `turns` iterations. The standard allows at most (2^32 - 1)·32 bytes; after them
 /// the number of a block goes on from 0.
 pub fn pbkdf2(password: &[u8], salt: &[u8], turns: u32, out: &mut [u8])
     requires { 0 < turns }

@@ -142,7 +142,7 @@ fn ro_mix(cost: usize, r: usize, part: &mut [u8], table: &mut [u32], x: &mut [u3
     LittleEndian::write_u32_into(x, part);
 }
 
-// ROMix of each of `p` parts of 128·r bytes; `table`, `x` and `y` are room for it.
+/// ROMix of each of `p` parts of 128·r bytes; `table`, `x` and `y` are room for it.
 pub(crate) fn mix_each(
     cost: usize,
     r: usize,

@@ -3,7 +3,7 @@
 ghost use Rattle.std.specs.Prelude.{◌≡◌, [], ◌∷◌};
 ghost use Rattle.scrypt_kdf.specs.Salsa.{add_words, double_round, quarter, salsa};
 
-// The words of a block.
+/// The words of a block.
 pub(crate) const WORDS: usize = 16;
 
 const DOUBLE_ROUNDS: usize = 4;
@@ -66,7 +66,7 @@ fn add_onto(target: &mut [u32; WORDS], words: &[u32; WORDS])
     }
 }
 
-// Salsa20/8 in place.
+/// Salsa20/8 in place.
 #[inline(always)]
 pub(crate) fn salsa(x: &mut [u32; WORDS])
     ensures { x.new ≡ salsa x.old }

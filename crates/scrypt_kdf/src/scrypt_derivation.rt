@@ -6,7 +6,7 @@ use crate::mixing::{PART, ROW, mix_each};
 use std::alloc::{AllocError, Global};
 use thiserror::Error;
 
-// How often 128 bytes may stand in the table, or in the parts: 2^30 bytes.
+// How often 128 bytes may be in the table, or in the parts: 2^30 bytes.
 const MAX_COUNT: u64 = (1 << 30) / PART as u64;
 
 /// Why a key can't be derived by scrypt.

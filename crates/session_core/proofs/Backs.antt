@@ -63,7 +63,7 @@ tails : (x y : Exchange) (xs ys : List Exchange) → x ∷ xs ≡ y ∷ ys → x
 unfolding rest_of
 tails x y xs ys e = ap rest_of e
 
--- an exchange in the middle is left, where all are
+-- an exchange in the middle is left, if all are
 middle : (f : ℕ) (before after : List Exchange) (e : Exchange) → IsLeftBy f (before ++ e ∷ after) → effect f e ≡ leaves
 middle f [] after e left = left.0
 middle f (x ∷ before) after e left = middle f before after e left.1

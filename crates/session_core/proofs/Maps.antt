@@ -14,7 +14,7 @@ use Rattle.session_core.proofs.Place.{none_before_at, none_beside, none_in_gap, 
 abbrev pub as_map : Entries → map.FinMap nat_cmp Fid
 as_map l = map.from_entries l
 
--- two numbers tie where they are equal
+-- two numbers tie if they are equal
 pub ties : (q k : ℕ) → eq_by_cmp nat_cmp q k ≡ eqb k q
 ties q k = grind (arith, nat_tests)
 

@@ -69,7 +69,7 @@ last_name_is (s ∷ stats) (suc fuel) given good le =
     let fits : length (stats_bytes stats) ≤ fuel = omega (arith, f.long, ap (λ (w : List ℕ). length w) cons, le) in
     rw cons (rw (some, f.name_length, f.name, f.size, f.rest_is) (last_name_is stats fuel (Some s.name) good.1 fits))
 
--- the first of the stats that bytes are, and those behind it
+-- the first of the stats that bytes are, and those after it
 pub record Next (left : List PlainStat) (bytes : List ℕ) : Type 0 where
   pub first : PlainStat
   pub others : List PlainStat
@@ -98,7 +98,7 @@ all_read bytes stats given is good =
 pub some_left : (bytes : List ℕ) → false ≡ (length bytes == 0) → 0 < length bytes
 some_left bytes e = grind (arith, nat_tests, e)
 
--- no bytes are left where no stats are
+-- no bytes are left if no stats are
 pub none_left : (left : List PlainStat) (bytes : List ℕ) → bytes ≡ stats_bytes left → AllByRecursion IsTreeStat left → true ≡ (length bytes == 0) → left ≡ []
 none_left [] bytes is good e = refl
 none_left (s ∷ left) bytes is good e =

@@ -46,7 +46,7 @@ on (x ∷ reads) g z =
     ∙ ap (λ (w : List Given). cond (list_any begins reads) w (x ∷ (reads ++ g ∷ []))) (on reads g z)
     ∙ picked (list_any begins reads) (since_begun reads) (x ∷ reads) g
 
--- the last name in bytes, where there are any, is that of their last stat
+-- the last name in bytes, if there are any, is that of their last stat
 name_alike : (n : ℕ) (bytes : List ℕ) (o p : Option (List ℕ)) → eqb (length bytes) 0 ≡ false → length bytes ≡ suc n → last_name (suc n) o bytes ≡ last_name (suc n) p bytes
 unfolding last_name
 name_alike n bytes o p some len = rw (some) refl

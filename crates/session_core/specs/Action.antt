@@ -76,11 +76,11 @@ protocol = codes "9P2000"
 abbrev pub unknown_version : List ℕ
 unknown_version = codes "unknown"
 
--- the protocol's name stands before the first period (version(5))
+-- the protocol's name is before the first period (version(5))
 abbrev pub is_protocol : List ℕ → Bool
 is_protocol version = bytes_eq (before_first (λ b. b == 46) version) protocol
 
--- all fids are freed, and a size is agreed only where the version is
+-- all fids are freed, and a size is agreed only if the version is
 abbrev pub version_action : ℕ → List ℕ → Action
 version_action msize version =
     if nat_lt msize least_message then refuses texts.message_size_too_small fresh

@@ -13,7 +13,7 @@ nothing = (0, record { node = 0; is_dir = false; opened = None })
 abbrev pub fid_at : Entries → ℕ → ℕ
 fid_at l i = let entry = slice_index_or l i nothing in entry.0
 
--- the fids rise, so none comes twice
+-- the fids rise, so none occurs twice
 abbrev pub IsStrictlySorted : Entries → Type 0
 IsStrictlySorted l = (i j : ℕ) → i < j → j < length l → fid_at l i < fid_at l j
 

@@ -23,7 +23,7 @@ use Rattle.session_core.specs.Action.{says, asks, refuses}
 use Rattle.session_core.specs.Outcome.{walk_outcome, outcome, outcome_of}
 use Rattle.session_core.specs.Change.{changed, size_after, CanSet, CanChange}
 
--- an action of the code, where an answer is written into these bytes
+-- an action of the code, if an answer is written into these bytes
 abbrev pub plain_action : List ℕ → State → Action → session.Action
 plain_action old s (actions.Say answer change) = says (plain_r answer old) (changed s change [])
 plain_action old s (actions.Ask request) = asks (plain_request request)
@@ -52,7 +52,7 @@ IsSuited s (t.stat f) (stat n) bytes = (n ≤ stat_limit) × (length bytes ≡ n
 IsSuited s (t.wstat f c) done bytes = ⊤
 IsSuited s message reply bytes = ⊥
 
--- where the bytes of a reply stand in the R-message: a stat's behind its n[2], others behind their count[4]
+-- where the bytes of a reply are in the R-message: a stat's after its n[2], others after their count[4]
 abbrev pub bytes_offset : PlainRequest → ℕ
 bytes_offset (asked.look n) = READ_OFFSET
 bytes_offset (asked.walk n names) = READ_OFFSET
@@ -79,12 +79,12 @@ pub record IsAskable (s : State) (message : PlainTMessage) (request : Request) :
   pub in_place : (reply : PlainReply) (bytes out : List ℕ) → IsReplyTo (plain_request request) reply bytes
       → AreInPlace message reply out (bytes_put (plain_request request) reply (drop (bytes_offset (plain_request request)) out))
 
--- a reply that can be answered with these bytes, which stand in a buffer
+-- a reply that can be answered with these bytes, which are in a buffer
 pub record IsAnswerable (s : State) (message : PlainTMessage) (reply : PlainReply) (out bytes : List ℕ) : Type 0 where
   pub suited : IsSuited s message reply bytes
   pub in_place : AreInPlace message reply out bytes
 
--- an R-message that has a spelling of at most so many bytes, and a change that can be made where these bytes were read
+-- an R-message that has a spelling of at most so many bytes, and a change that can be made if these bytes were read
 pub record IsSayable (s : State) (most : ℕ) (answer : RMessage) (change : Change) (bytes : List ℕ) : Type 0 where
   pub form : HasForm answer
   pub size : r_size answer ≤ most

@@ -18,7 +18,7 @@ use Rattle.session_core.specs.Action.{protocol}
 use Rattle.session_core.specs.Outcome.{last_name}
 use Rattle.session_core.specs.Session.{Exchanged}
 
--- what stood in a frame, and what was answered to it
+-- what was in a frame, and what was answered to it
 pub record Exchange : Type 0 where
   pub given : Result PlainMessage WireErr
   pub answer : PlainRMessage
@@ -37,7 +37,7 @@ answer_in (Err fault) answer = None
 abbrev pub version_answer : Exchange → Option PlainRMessage
 version_answer e = answer_in e.given e.answer
 
--- the size that an Rversion agrees to, where it names the protocol
+-- the size that an Rversion agrees to, if it names the protocol
 abbrev pub agreed_by : PlainRMessage → Option ℕ
 agreed_by (r.version msize version) = if bytes_eq version protocol then Some msize else None
 agreed_by answer = None
@@ -59,7 +59,7 @@ pub data Effect : Type 0 where
   follows : ℕ → Effect
 
 -- a Tversion frees all fids, and a Tremove its fid also when it is refused; else what an Rerror answers leaves all fids. A walk sets
--- newfid where it gave a qid for each of its names, to the last of them; one without names lets it follow the walk's fid
+-- newfid if it gave a qid for each of its names, to the last of them; one without names lets it follow the walk's fid
 abbrev pub effect_by : ℕ → PlainTMessage → PlainRMessage → Effect
 effect_by f (t.version msize version) answer = frees
 effect_by f (t.attach g afid uname aname) (r.attach q) = if g == f then puts q None else leaves
@@ -106,7 +106,7 @@ since_begun (g ∷ reads) = if list_any (λ g. g.offset == 0) reads then since_b
 abbrev pub gave_some : Given → Bool
 gave_some g = not (length g.bytes == 0)
 
--- the name in the last stat that was given since the directory was begun: it stands in the last of these reads that gave any bytes
+-- the name in the last stat that was given since the directory was begun: it is in the last of these reads that gave any bytes
 abbrev pub last_given : List Given → Option (List ℕ)
 last_given reads = option_and_then (λ g. last_name (length g.bytes) None g.bytes) (last_or None (filter gave_some (since_begun reads)))
 
@@ -145,7 +145,7 @@ pub record LookedBack (f : ℕ) (past : List Exchange) : Type 0 where
   pub past_is : past ≡ before ++ last ∷ after
   pub left : IsLeftBy f after
 
--- What a fid is after these exchanges, where it is in use: what the last of them that set or freed it has left, and, of an open
+-- What a fid is after these exchanges, if it is in use: what the last of them that set or freed it has left, and, of an open
 -- directory, how far it was read since.
 pub data FidIs : List Exchange → ℕ → Option Fid → Type 0 where
   never_set : (past : List Exchange) (f : ℕ) → IsLeftBy f past → FidIs past f None
@@ -157,7 +157,7 @@ pub data FidIs : List Exchange → ℕ → Option Fid → Type 0 where
 
 -- ---- the law
 
--- a frame is answered: this stood in it and was answered to it
+-- a frame is answered: this was in it and was answered to it
 pub record Leads (s : State) (e : Exchange) (next : State) : Type 0 where
   pub frame : List ℕ
   pub second : ℕ

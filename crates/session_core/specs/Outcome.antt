@@ -20,8 +20,8 @@ pub record Outcome : Type 0 where
 abbrev pub outcome : PlainRMessage → State → Option Outcome
 outcome answer next = Some (record { answer = answer; next = next })
 
--- The name in the last of the whole stats that bytes are, or else one that was given before. In a stat (stat(5)) size[2] stands first, and
--- the name's length[2] behind 41 bytes.
+-- The name in the last of the whole stats that bytes are, or else one that was given before. In a stat (stat(5)) size[2] is first, and the
+-- name's length[2] after 41 bytes.
 unfoldable pub last_name : ℕ → Option (List ℕ) → List ℕ → Option (List ℕ)
 last_name zero given bytes = given
 last_name (suc fuel) given bytes =
@@ -47,7 +47,7 @@ abbrev pub walk_outcome : State → ℕ → List (List ℕ) → List Qid → Sta
 walk_outcome s newfid names qids =
     if length qids == length names then option_map_or (λ q. set s newfid (closed q)) (last_or None qids) s else s
 
--- By message and reply. After a refusal the session is as it was, but that a Tremove has freed its fid; None where the reply has another
+-- By message and reply. After a refusal the session is as it was, but that a Tremove has freed its fid; None if the reply has another
 -- form than its request asks for, which no object gives.
 abbrev pub outcome_of : State → PlainTMessage → PlainReply → List ℕ → Option Outcome
 outcome_of s (t.remove f) (refused refusal) bytes = outcome (r.error (refusal_text refusal)) (free s f)

@@ -23,7 +23,7 @@ slot_view s = record {
 abbrev pub HasRoom : Inside → Type 0
 HasRoom s = name_room ≤ string_capacity s.last
 
--- an open fid, without where the name lies in memory
+-- an open fid, but not where the name lies in memory
 abbrev pub plain_opened : OpenFid → Opened
 plain_opened o = record { mode = o.mode; offset = o.offset; count = o.count; last = option_copied o.last }
 

@@ -52,7 +52,7 @@ fresh = record { size = None; fids = map.empty }
 abbrev pub limit : State → ℕ
 limit s = option_map_or (λ size. size) s.size most_message
 
--- a fid for a node that a qid tells of, not open
+-- a fid for a node that a qid names, not open
 abbrev pub closed : Qid → Fid
 closed q = record { node = q.path; is_dir = (q.kind == 0x80); opened = None }
 

@@ -22,29 +22,29 @@ use crate::texts::{Denial, denial_text};
 use ninep_wire::{RMessage, TMessage};
 use tree_model::{Names, Request, StatChange};
 
-/// No fid (NOFID, intro(5)).
+// No fid (NOFID, intro(5)).
 const NO_FID: u32 = u32::MAX;
 
-/// The number of the root.
+// The number of the root.
 const ROOT: u64 = 0;
 
-/// The smallest size of messages that is agreed to, in bytes.
+// The smallest size of messages that is agreed to, in bytes.
 const MIN_MESSAGE: u32 = 2048;
 
 /// How many bytes of a message a read leaves to its header (iounit, open(5)).
 pub(crate) const HEADER_ROOM: u32 = 24;
 
-/// The bits that a mode may have (open(5)): OREAD to OEXEC, and OTRUNC.
+// The bits that a mode may have (open(5)): OREAD to OEXEC, and OTRUNC.
 const MODE_BITS: u8 = 0x13;
 
-/// Those of them that say how a fid is open, and OWRITE and ORDWR among these.
+// Those of them that say how a fid is open, and OWRITE and ORDWR among these.
 const ACCESS_BITS: u8 = 3;
 
 const WRITE: u8 = 1;
 
 const READ_WRITE: u8 = 2;
 
-/// The bits that permissions may have (stat(5)): DMDIR, and rwx for owner, group and others.
+// The bits that permissions may have (stat(5)): DMDIR, and rwx for owner, group and others.
 const PERM_BITS: u32 = 0x8000_01ff;
 
 const DMDIR: u32 = 0x8000_0000;
@@ -61,7 +61,7 @@ pub(crate) enum Action<'a> {
 
 // ---- tests of fids
 
-/// The node of a fid in use.
+// The node of a fid in use.
 fn node_of(session: &Session, fid: u32) -> Result<u64, Denial>
     ensures { MatchResult result
         (λ node. (found : Fid) × (map.get session.now.fids fid ≡ Some found) × (found.node ≡ node))
@@ -73,7 +73,7 @@ fn node_of(session: &Session, fid: u32) -> Result<u64, Denial>
     }
 }
 
-/// Where a fid is that is in use and not open.
+// Where a fid is that is in use and not open.
 fn closed_fid(session: &Session, fid: u32) -> Result<Place, Denial>
     ensures { MatchResult result
         (λ place. (map.get session.now.fids fid ≡ Some (placed place)) × (place.mode ≡ None))
@@ -88,7 +88,7 @@ fn closed_fid(session: &Session, fid: u32) -> Result<Place, Denial>
     }
 }
 
-/// A fid that is open.
+// A fid that is open.
 fn open_fid(session: &Session, fid: u32) -> Result<OpenFid<'_>, Denial>
     ensures { MatchResult result
         (λ found. map.get session.now.fids fid ≡ Some (plain_open_fid found))
@@ -103,7 +103,7 @@ fn open_fid(session: &Session, fid: u32) -> Result<OpenFid<'_>, Denial>
     }
 }
 
-/// Whether a fid that isn't in use can be.
+// Whether a fid that isn't in use can be.
 fn test_unused(session: &Session, fid: u32) -> Result<(), Denial>
     ensures { MatchResult result
         (λ _. ((action : acts.Action) → with_unused session.now fid action ≡ action) × CanSet session.now fid)
@@ -118,7 +118,7 @@ fn test_unused(session: &Session, fid: u32) -> Result<(), Denial>
     Ok(())
 }
 
-/// Whether a walk from a fid in use may set newfid.
+// Whether a walk from a fid in use may set newfid.
 fn test_newfid(session: &Session, fid: u32, newfid: u32) -> Result<(), Denial>
     requires { map.contains_key session.now.fids fid ≡ true }
     ensures { MatchResult result
@@ -193,7 +193,7 @@ fn create_request<'a>(
     })
 }
 
-/// A read of at most so many bytes by a fid that is open for it.
+// A read of at most so many bytes by a fid that is open for it.
 fn read_from<'a>(
     session: &Session,
     found: &OpenFid<'a>,
@@ -283,7 +283,7 @@ fn stat_request<'a>(session: &Session, fid: u32) -> Result<Request<'a>, Denial>
     })
 }
 
-/// Whether a wstat asks to change nothing, which is to commit all that is pending (stat(5)).
+// Whether a wstat asks to change nothing, which is to commit all that is pending (stat(5)).
 fn touches_nothing(change: &StatChange<'_>) -> bool
     ensures { result ≡ touches_nothing (plain_change change.now) }
 {
@@ -320,7 +320,7 @@ fn wstat_request<'a>(
 
 // ---- messages that are answered at once
 
-/// Whether the protocol's name stands before the first period of a version (version(5)).
+// Whether the protocol's name is before the first period of a version (version(5)).
 fn is_protocol(version: &str) -> bool
     ensures { result ≡ is_protocol version.now }
 {
@@ -390,7 +390,7 @@ fn clunk_action<'a>(session: &Session, fid: u32) -> Result<Action<'a>, Denial>
 
 // ---- all messages
 
-/// Of a session that has agreed to a size.
+// Of a session that has agreed to a size.
 fn agreed_action<'a>(session: &'a Session, message: &TMessage<'a>) -> Result<Action<'a>, Denial>
     requires names { HasNames message.now }
     requires size { length (t_fields (plain_t message.now)) + 7 ≤ most_message }
@@ -425,7 +425,7 @@ fn agreed_action<'a>(session: &'a Session, message: &TMessage<'a>) -> Result<Act
     }
 }
 
-/// Without a size that is agreed there is nothing but Tversion.
+// Without a size that is agreed there is nothing but Tversion.
 fn action_without<'a>(session: &Session, message: &TMessage<'_>) -> Result<Action<'a>, Denial>
     ensures action { IsActionOf session.now (action_without session.now (plain_t message.now)) result }
     ensures form { IfOk result (IsFormed session.now (plain_t message.now)) }
@@ -436,7 +436,7 @@ fn action_without<'a>(session: &Session, message: &TMessage<'_>) -> Result<Actio
     }
 }
 
-/// A refusal that changes nothing.
+// A refusal that changes nothing.
 fn refuse<'a>(session: &Session, denial: Denial) -> Action<'a>
     ensures action { (old : List ℕ) → plain_action old session.now result ≡ refuses (denial_text denial) session.now }
     ensures form { (message : t.PlainTMessage) → IsFormed session.now message result }

@@ -21,10 +21,10 @@ use byteorder::{ByteOrder, LittleEndian};
 use ninep_wire::{RMessage, TMessage, WireErr, read_message, write_reply};
 use tree_model::{Reply, Request, TreeObject};
 
-/// The offset of a message's tag (intro(5)).
+// The offset of a message's tag (intro(5)).
 const TAG_OFFSET: usize = 5;
 
-/// The offsets of an Rread's bytes and of an Rstat's stat (read(5), stat(5)).
+// The offsets of an Rread's bytes and of an Rstat's stat (read(5), stat(5)).
 const READ_OFFSET: usize = 11;
 
 const STAT_OFFSET: usize = 9;
@@ -36,7 +36,7 @@ fn tag_at(frame: &[u8]) -> u16
     LittleEndian::read_u16(&frame[TAG_OFFSET..])
 }
 
-/// What a frame that is no message is refused with.
+// What a frame that is no message is refused with.
 fn denial_of(fault: WireErr) -> Denial
     ensures { (s : State) → action_on s (Err fault) ≡ refuses (denial_text result) s }
 {
@@ -71,7 +71,7 @@ fn write_error(denial: Denial, tag: u16, out: &mut [u8]) -> usize
     write_message(&message, tag, out)
 }
 
-/// Where the bytes of a reply have their place in the R-message.
+// Where the bytes of a reply have their place in the R-message.
 fn bytes_offset(request: &Request<'_>) -> usize
     ensures { result ≡ bytes_offset (plain_request request.now) }
 {
@@ -90,7 +90,7 @@ fn bytes_offset(request: &Request<'_>) -> usize
     }
 }
 
-/// Asks the object, whose bytes go straight to their place in the R-message.
+// Asks the object, whose bytes go straight to their place in the R-message.
 fn ask<B: TreeObject>(request: &Request<'_>, object: &mut B, now: u32, out: &mut [u8]) -> Reply
     requires can { (n : ℕ) → count_limit ≤ n → CanAsk request.now n }
     requires room { most_message ≤ length out.old }
@@ -104,7 +104,7 @@ fn ask<B: TreeObject>(request: &Request<'_>, object: &mut B, now: u32, out: &mut
     object.ask(request, now, &mut out[offset..])
 }
 
-/// Answers a message whose request was answered.
+// Answers a message whose request was answered.
 fn finish(
     session: &mut Session,
     message: &TMessage<'_>,

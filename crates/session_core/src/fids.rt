@@ -10,7 +10,7 @@ use crate::slot::{Place, Slot};
 use std::alloc::{AllocError, Global};
 use std::marker::Model;
 
-/// The most fids in use.
+// The most fids in use.
 const FID_LIMIT: usize = 1024;
 
 /// The fids in use in their order, and slots for the others. Clauses see a finite map.
@@ -36,7 +36,7 @@ impl Model for FidTable {
     ghost invariant = { IsTable };
 }
 
-/// Where a fid is, or where it would go.
+// Where a fid is, or where it would go.
 fn search(used: &[(u32, Slot)], fid: u32) -> Result<usize, usize>
     requires { IsStrictlySorted used.now }
     ensures found { IfOk result (IsAt used.now fid) }

@@ -12,15 +12,15 @@ ghost use Rattle.session_core.specs.declared.last_name.TheConstants.{NAME_LENGTH
 
 use byteorder::{ByteOrder, LittleEndian};
 
-/// Where a name's length stands in a stat, and where the name (stat(5)).
+// Where a name's length is in a stat, and where the name (stat(5)).
 const NAME_LENGTH_OFFSET: usize = 41;
 
 const NAME_OFFSET: usize = 43;
 
-/// The bytes of a stat's size, which doesn't count itself.
+// The bytes of a stat's size, which doesn't count itself.
 const SIZE_LENGTH: usize = 2;
 
-/// The name in the stat that stands first in bytes, and what follows the stat.
+// The name in the stat that is first in bytes, and what follows the stat.
 fn first_name(bytes: &[u8]) -> (&[u8], &[u8])
     requires { StartsWithStat bytes.now }
     ensures name { result.0.now ≡ take (little_number 2 (drop NAME_LENGTH_OFFSET bytes.now)) (drop NAME_OFFSET bytes.now) }
@@ -35,7 +35,7 @@ fn first_name(bytes: &[u8]) -> (&[u8], &[u8])
     (name, rest)
 }
 
-/// The name in the last of whole stats, if there is one.
+// The name in the last of whole stats, if there is one.
 fn last_name_bytes(stats: &[u8]) -> Option<&[u8]>
     requires { AreStats (length stats.now) stats.now }
     ensures last { (given : Option (List ℕ)) → last_name (length stats.now) given stats.now ≡ option_or (option_copied result) given }

@@ -17,7 +17,7 @@ use crate::texts::refusal_text;
 use ninep_wire::{RMessage, TMessage};
 use tree_model::{Qid, Refusal, Reply};
 
-/// At the node that a qid tells of, not open.
+// At the node that a qid names, not open.
 fn closed_at(qid: &Qid) -> Place
     ensures { placed result ≡ closed qid.now }
 {
@@ -28,7 +28,7 @@ fn closed_at(qid: &Qid) -> Place
     }
 }
 
-/// At the node that a qid tells of, open with a mode.
+// At the node that a qid names, open with a mode.
 fn open_at(qid: &Qid, mode: u8) -> Place
     ensures { placed result ≡ open_with mode qid.now }
 {
@@ -39,7 +39,7 @@ fn open_at(qid: &Qid, mode: u8) -> Place
     }
 }
 
-/// After a refusal the session is as it was, but that a remove has freed its fid.
+// After a refusal the session is as it was, but that a remove has freed its fid.
 fn refused_outcome<'a>(
     session: &Session,
     message: &TMessage<'_>,
@@ -57,7 +57,7 @@ fn refused_outcome<'a>(
     }
 }
 
-/// The root is attached, or a node is open.
+// The root is attached, or a node is open.
 fn qid_outcome<'a>(session: &Session, message: &TMessage<'_>, qid: Qid) -> (RMessage<'a>, Change)
     requires good { HasGoodSize session.now }
     requires suited { HasSuited session.now (plain_t message.now) (asked.qid qid) }
@@ -84,7 +84,7 @@ fn qid_outcome<'a>(session: &Session, message: &TMessage<'_>, qid: Qid) -> (RMes
     }
 }
 
-/// newfid is put at the last node, where all names were walked.
+// newfid is put at the last node, if all names were walked.
 fn walk_change(newfid: u32, names: u16, count: usize, qids: &[Qid; 16]) -> Change
     requires count { count ≤ walk_limit }
     ensures { IsWalkChange newfid names (take count qids.now) result }

@@ -37,7 +37,7 @@ impl Session {
     ghost use Rattle.session_core.specs.Change.{changed, size_after, CanChange};
     ghost use Rattle.session_core.specs.Session.{HasAnswered};
 
-    /// A session before its first message, with room for 1,024 fids and a name of 1,024 bytes for each. It is refused where
+    /// A session before its first message, with room for 1,024 fids and a name of 1,024 bytes for each. It is refused if
     /// memory ran out.
     pub fn new(alloc: Global) -> Result<Session, AllocError>
         ensures { IfOk result (λ session. session ≡ fresh) }

@@ -7,7 +7,7 @@ use crate::last_name::last_name;
 use std::alloc::{AllocError, Global};
 use std::marker::Model;
 
-/// The longest name of a tree, in bytes.
+// The longest name of a tree, in bytes.
 const NAME_ROOM: usize = 1024;
 
 /// Where a fid is put: at a node, open with a mode or not.
@@ -29,7 +29,7 @@ pub(crate) struct OpenFid<'a> {
     pub last: Option<&'a str>,
 }
 
-/// How a fid is open; the name stands in the slot.
+// How a fid is open; the name is in the slot.
 #[derive(Clone, Copy)]
 struct Opening {
     mode: u8,
@@ -47,7 +47,7 @@ pub(crate) struct Slot {
     last: String,
 }
 
-/// Puts a name into the room for it.
+// Puts a name into the room for it.
 fn keep(room: &mut String, name: &str)
     requires fits { length name.now ≤ string_capacity room.old }
     ensures name { string_bytes room.new ≡ name.now }
@@ -94,7 +94,7 @@ impl Slot {
         self.node
     }
 
-    /// The fid where it is open.
+    /// The fid if it is open.
     pub fn open_fid(&self) -> Option<OpenFid<'_>>
         ensures { MatchOption result (self.now.opened ≡ None) (λ fid. self.now ≡ plain_open_fid fid) }
     {
@@ -114,7 +114,7 @@ impl Slot {
         })
     }
 
-    /// Where the fid is, where it isn't open.
+    /// Where the fid is, if it isn't open.
     pub fn closed_place(&self) -> Option<Place>
         ensures { MatchOption result (is_some self.now.opened ≡ true) (λ place. (self.now ≡ placed place) × (place.mode ≡ None)) }
     {

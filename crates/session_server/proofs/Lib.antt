@@ -1,4 +1,7 @@
 pub mod Links
-pub mod SoFar
+pub mod TalkSoFar
 pub mod Stops
 pub mod Whole
+pub mod Counting
+pub mod ShareSoFar
+pub mod Sharing

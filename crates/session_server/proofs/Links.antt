@@ -28,7 +28,7 @@ reads_more (Some o) None c x y h k = absurd h
 reads_more (Some o) (Some m) None x y h k = absurd k
 reads_more (Some o) (Some m) (Some n) x y h k = h ∙ ap (λ (w : List ℕ). x ++ w) k ∙ sym (append_assoc x y n)
 
--- what was read, with what holds of what is left where that is told
+-- what was read, with what holds of what is left if that is told
 pub reads_with : (P : List ℕ → Type 0) (a b : Option (List ℕ)) (x : List ℕ) → Reads a b x → Told b P → Changes a b (λ old new. (old ≡ x ++ new) × P new)
 reads_with P None None x h p = tt
 reads_with P None (Some m) x h p = absurd h
@@ -47,7 +47,7 @@ writes_more (Some o) None c x y h k = absurd h
 writes_more (Some o) (Some m) None x y h k = absurd k
 writes_more (Some o) (Some m) (Some n) x y h k = k ∙ ap (λ (w : List ℕ). w ++ y) h ∙ append_assoc o x y
 
--- the front of a buffer, after a part behind it was written
+-- the front of a buffer, after a part after it was written
 pub front_put : (a n k : ℕ) (xs ys : List ℕ) → a ≤ length xs → n ≤ length ys → take (a + n) (put_mid a k xs ys) ≡ take a xs ++ take n ys
 front_put a n k xs ys le fits =
     let front : length (take a xs) ≡ a = omega (arith, length-take a xs) in

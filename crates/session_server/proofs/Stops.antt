@@ -12,7 +12,7 @@ use Rattle.session_server.specs.Talk.{size_of, IsSize, IsPart, IsReadUp}
 use Rattle.session_server.specs.Steps.{Reads, StopsAt, Completes}
 use Rattle.session_server.proofs.Links.{reads_then, reads_with, front_put}
 
--- the size stands in the first four bytes
+-- the size is in the first four bytes
 size_front : (xs rest : List ℕ) → 4 ≤ length xs → size_of (take 4 xs ++ rest) ≡ size_of xs
 size_front xs rest le =
     let long : 4 ≤ length (take 4 xs) = omega (arith, length-take 4 xs) in

@@ -101,7 +101,7 @@ no_bad_size s (o ∷ others) rest new fitting is four bad =
     in
     bad (subst (λ (n : ℕ). IsSize s n) (sym size) (fitting.framed.long, fitting.fits))
 
--- what the end says, where the link told what was left before and after
+-- what the end says, if the link told what was left before and after
 served_at : (before after : LinkView) (end : SessionEnd) (messages answered : List (List ℕ)) (last : State) (rest new : List ℕ)
     → Begins messages answered last (rest ++ new) → length messages < 2 ^ 32 → before.left ≡ Some (concat messages) → after.left ≡ Some new
     → EndsWith last rest end → EndsAfter (length answered) end → IsReadUp end new

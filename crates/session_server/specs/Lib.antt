@@ -3,3 +3,7 @@ pub mod Served
 pub mod Steps
 pub mod Whole
 pub mod Backward
+pub mod Ends
+pub mod Shares
+pub mod Links
+pub mod Workers

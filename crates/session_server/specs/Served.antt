@@ -10,7 +10,7 @@ use Rattle.session_server.specs.declared.ending.SessionEnd.TheVariants as ends
 use Rattle.session_server.specs.Talk.{Talk, IsTaken, IsReadUp}
 
 -- There is a talk that was held on a link, which ended so and in which this was asked: the bytes that were read are its input, and those
--- that the link took are its answers. Where the clock tells its second, all was asked then.
+-- that the link took are its answers. If the clock tells its second, all was asked then.
 pub record TalkedOn (before after : LinkView) (second : Option ℕ) (end : SessionEnd) (asked : List Asked) : Type 0 where
   pub input : List ℕ
   pub answers : List (List ℕ)
@@ -50,8 +50,8 @@ abbrev pub TalkedOnEach : {C : Type 0} → (C → LinkView) → Option ℕ → L
 TalkedOnEach view second [] asked = asked ≡ []
 TalkedOnEach view second (link ∷ links) asked = FirstTalked view second link asked (λ others. TalkedOnEach view second links others)
 
--- A listener gave the first of its links and got them back: as many as its share of the sessions, or all where there were fewer, or, where
--- it failed, up to then.
+-- A listener gave the first of its links and got them back: as many as its share of the sessions, or all if there were fewer, or, if it
+-- failed, up to then.
 pub record GaveBack {C : Type 0} (share : ℕ) (failed : Type 0) (before after : ListenerView C) (links : List (ServedLink C)) : Type 0 where
   pub few : length links ≤ share
   pub came : Changes before.to_come after.to_come (λ old new.

@@ -8,7 +8,7 @@ use Rattle.session_server.specs.declared.full.Filled.{Filled}
 use Rattle.session_server.specs.declared.full.Filled.TheVariants as fills
 use Rattle.session_server.specs.Talk.{EndsWith, IsReadUp}
 
--- these bytes were read, where the link tells
+-- these bytes were read, if the link tells
 abbrev pub Reads : Option (List ℕ) → Option (List ℕ) → List ℕ → Type 0
 Reads left left' bytes = TakesFront left left' bytes
 
@@ -22,7 +22,7 @@ count_of n fills.Whole = n
 count_of n (fills.Ended k) = k
 count_of n (fills.Fault k) = k
 
--- where not all n were read, fewer were, and the input ended only where nothing is left of it
+-- if not all n were read, fewer were, and the input ended only if nothing is left of it
 abbrev pub IsShort : ℕ → Option (List ℕ) → Filled → Type 0
 IsShort n left fills.Whole = ⊤
 IsShort n left (fills.Ended k) = (k < n) × Told left (λ bytes. bytes ≡ [])
@@ -32,7 +32,7 @@ abbrev pub IsFault : Filled → Type 0
 IsFault (fills.Fault k) = ⊤
 IsFault filled = ⊥
 
--- the ends that come while a message is read
+-- the ends that happen while a message is read
 abbrev pub IsReadEnd : SessionEnd → Type 0
 IsReadEnd ends.Done = ⊤
 IsReadEnd (ends.Cut had wanted) = ⊤
@@ -47,6 +47,6 @@ pub record StopsAt (first : List ℕ) (s : State) (left left' : Option (List ℕ
   pub ends : EndsWith s (first ++ more) end
   pub kind : IsReadEnd end
 
--- the rest of a message was read behind its first bytes
+-- the rest of a message was read after its first bytes
 abbrev pub Completes : List ℕ → Option (List ℕ) → Option (List ℕ) → List ℕ → Type 0
 Completes first left left' bytes = (more : List ℕ) × (bytes ≡ first ++ more) × Reads left left' more

@@ -52,7 +52,7 @@ abbrev pub EndsWith : State → List ℕ → SessionEnd → Type 0
 EndsWith s rest ends.Done = rest ≡ []
 -- it ended within one
 EndsWith s rest (ends.Cut had wanted) = (0 < length rest) × (had ≡ length rest) × IsPart s rest wanted
--- a size came that no message may have, and nothing after it was read
+-- a size was read that no message may have, and nothing after it was read
 EndsWith s rest (ends.BadFrame size) = (length rest ≡ 4) × (size_of rest ≡ size) × (IsSize s size → ⊥)
 EndsWith s rest ends.ReadFault = (wanted : ℕ) × IsPart s rest wanted
 EndsWith s rest ends.WriteFault = rest ≡ []
@@ -88,7 +88,7 @@ pub record IsCutShort (answers : List (List ℕ)) (taken : List ℕ) : Type 0 wh
   pub some : 0 < length lost
   pub taken_is : taken ≡ concat earlier ++ part
 
--- what the link took of the answers: all of them, but where a write failed not all of the last
+-- what the link took of the answers: all of them, but if a write failed not all of the last
 abbrev pub IsTaken : SessionEnd → List (List ℕ) → List ℕ → Type 0
 IsTaken ends.WriteFault answers taken = IsCutShort answers taken
 IsTaken ends.Done answers taken = taken ≡ concat answers

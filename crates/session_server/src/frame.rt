@@ -13,7 +13,7 @@ use byteorder::{ByteOrder, LittleEndian};
 use outside::Link;
 use session_core::Session;
 
-/// The bytes of a message's size, and those of its header (intro(5)).
+// The bytes of a message's size, and those of its header (intro(5)).
 const SIZE_LEN: usize = 4;
 
 const HEADER_LEN: u32 = 7;
@@ -39,7 +39,7 @@ fn read_size<L: Link>(link: &mut L, frame: &mut [u8]) -> Result<u32, SessionEnd>
     }
 }
 
-// Reads the rest of a message behind its size.
+// Reads the rest of a message after its size.
 fn read_rest<L: Link>(link: &mut L, size: u32, frame: &mut [u8]) -> Result<(), SessionEnd>
     requires low { 7 ≤ size }
     requires high { size ≤ length frame.old }

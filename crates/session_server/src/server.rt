@@ -1,7 +1,7 @@
 //! A session over one link.
 
 ghost use Rattle.std.specs.Prelude.{◌≡◌, ◌≤◌, length, IfOk, vec_len};
-ghost use Rattle.outside.specs.Views.{link_view};
+ghost use Rattle.outside.specs.Views.{link_in};
 ghost use Rattle.session_core.specs.State.{most_message, fresh};
 ghost use Rattle.session_server.specs.Served.{HasTalked};
 
@@ -13,8 +13,8 @@ use session_core::{MAX_MESSAGE, Session};
 use std::alloc::{AllocError, Global};
 use tree_model::TreeObject;
 
-/// The most messages that one session answers. It keeps a session's work finite: at the rate of a million messages a second it
-/// is reached after more than an hour.
+// The most messages that one session answers. It keeps a session's work finite: at the rate of a million messages a second it
+// is reached after more than an hour.
 const MESSAGE_LIMIT: u64 = 1 << 32;
 
 // Room for the largest message.
@@ -38,8 +38,8 @@ fn answer_messages<L: Link, B: TreeObject, K: Clock>(
     requires frame { most_message ≤ length frame.old }
     requires out { most_message ≤ length out.old }
     ensures talked { HasTalked B.stands object.old object.new
-        (link_view L.left L.taken L.read_faults L.write_faults link.old)
-        (link_view L.left L.taken L.read_faults L.write_faults link.new) (K.second clock.now) result }
+        (link_in L.Link link.old)
+        (link_in L.Link link.new) (K.second clock.now) result }
 {
     let mut answered: u64 = 0;
     while answered < MESSAGE_LIMIT {
@@ -59,7 +59,7 @@ fn answer_messages<L: Link, B: TreeObject, K: Clock>(
 
 /// Serves one link until its session ends. Each answer is written whole before a byte of the next message is read, so a client
 /// may wait for each answer. The session's fids and two buffers of 65,560 bytes are taken at the start, and no
-/// memory after them; where it is refused, nothing was read. `clock` gives the seconds of the requests, since 1970-01-01.
+/// memory after them; if it is refused, nothing was read. `clock` gives the seconds of the requests, since 1970-01-01.
 pub fn serve_session<L: Link, B: TreeObject, K: Clock>(
     alloc: Global,
     link: &mut L,
@@ -68,8 +68,8 @@ pub fn serve_session<L: Link, B: TreeObject, K: Clock>(
 ) -> SessionEnd
     // There is one talk that was held: what was asked in it is what the object stands for from now on.
     ensures talked { HasTalked B.stands object.old object.new
-        (link_view L.left L.taken L.read_faults L.write_faults link.old)
-        (link_view L.left L.taken L.read_faults L.write_faults link.new) (K.second clock.now) result }
+        (link_in L.Link link.old)
+        (link_in L.Link link.new) (K.second clock.now) result }
 {
     let Ok(session) = Session::new(alloc) else {
         return SessionEnd::Memory;

@@ -1,26 +1,9 @@
 //! Answers of every form.
 
+use crate::answers::expect_answers;
 use crate::frames::*;
 use crate::obliging::Obliging;
-use std::alloc::{AllocError, Global};
-use std::process::Abort;
 use std::test::Fail;
-
-// After the first messages of a session, each row's frame has its answer.
-fn expect_answers(
-    rt: &impl Abort,
-    alloc: Global,
-    count: usize,
-    rows: &[Row],
-) -> Result<(), AllocError> {
-    let mut out = buffer(alloc)?;
-    let mut session = session_after(alloc, count, &mut out)?;
-    for (frame, expected) in rows {
-        let answer = said(&mut session, &mut Obliging::new(), frame, &mut out);
-        assert_eq!(rt; answer, *expected, "{frame:?}");
-    }
-    Ok(())
-}
 
 // Fid 1 is at a node, not open.
 const CREATED: [Row; 9] = [
@@ -70,7 +53,7 @@ const CREATED: [Row; 9] = [
 
 #[test]
 fn a_create_opens_what_it_makes(rt: HostRuntime) -> Result<(), Fail> {
-    expect_answers(&rt, rt.alloc(), 3, &CREATED)?;
+    expect_answers(&rt, rt.alloc(), &mut Obliging::new(), 3, &CREATED)?;
     Ok(())
 }
 
@@ -110,6 +93,6 @@ const CHANGED: [Row; 9] = [
 
 #[test]
 fn a_stat_is_told_and_changed_until_the_node_is_removed(rt: HostRuntime) -> Result<(), Fail> {
-    expect_answers(&rt, rt.alloc(), 3, &CHANGED)?;
+    expect_answers(&rt, rt.alloc(), &mut Obliging::new(), 3, &CHANGED)?;
     Ok(())
 }

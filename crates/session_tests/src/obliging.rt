@@ -5,20 +5,9 @@ ghost use Rattle.outside.specs.Calls.{KeepsFrom};
 ghost use Rattle.tree_model.specs.Wire.{stat_limit};
 ghost use Rattle.tree_model.specs.Asked.{IsOneStat};
 
+use crate::one_file::{FILE, ROOT, STAT};
 use ninep_wire::write_stat;
-use tree_model::{Qid, Reply, Request, Stat, TreeObject};
-
-const ROOT: Qid = Qid {
-    kind: Qid::DIRECTORY,
-    version: 0,
-    path: 0,
-};
-
-const FILE: Qid = Qid {
-    kind: Qid::FILE,
-    version: 0,
-    path: 1,
-};
+use tree_model::{Qid, Reply, Request, TreeObject};
 
 const MADE_FILE: Qid = Qid {
     kind: Qid::FILE,
@@ -32,20 +21,6 @@ const MADE_DIRECTORY: Qid = Qid {
     path: 2,
 };
 
-const STAT: Stat<'static> = Stat {
-    kind: 0,
-    device: 0,
-    qid: FILE,
-    mode: 420,
-    accessed: 100,
-    modified: 100,
-    length: 5,
-    name: "a",
-    owner: "vault",
-    group: "vault",
-    modifier: "vault",
-};
-
 // The stat of `a`, at the front of a buffer.
 fn put_stat(buffer: &mut [u8]) -> u32
     requires { stat_limit ≤ length buffer.old }
@@ -55,8 +30,8 @@ fn put_stat(buffer: &mut [u8]) -> u32
     write_stat(&STAT, buffer) as u32
 }
 
-/// A tree where each name is a file that holds as many `x` as are read, and each change is done. Its directories list nothing. It
-/// notes where it was last read.
+/// A tree in which each name is a file that holds as many `x` as are read, and each change is done. Its directories list nothing.
+/// It notes where it was last read.
 #[derive(Drop)]
 pub struct Obliging {
     pub at: u64,

@@ -9,7 +9,7 @@ use outside_mem::SetClock;
 use session_server::{SessionEnd, serve_session};
 use std::test::Fail;
 
-/// A client that sends and takes a byte at a time. It sends nothing of a message before it has the whole answer to the one before.
+// A client that sends and takes a byte at a time. It sends nothing of a message before it has the whole answer to the one before.
 #[derive(Drop)]
 struct PatientClient<'a> {
     rows: &'a [Row],
@@ -71,7 +71,7 @@ const TALK: [Row; 6] = [
     (ATTACH, ATTACH_SAID),
     (WALK, WALK_SAID),
     (OPEN, OPEN_SAID),
-    (READ, READ_SAID),
+    (READ, READ_XS_SAID),
     (CLUNK, CLUNK_SAID),
 ];
 

@@ -1,5 +1,6 @@
 //! What a session has room for.
 
+use crate::answers::{buffer, said, session_after};
 use crate::frames::*;
 use crate::obliging::Obliging;
 use std::alloc::{AllocError, Global};
@@ -20,7 +21,7 @@ fn walk_to(newfid: u32) -> [u8; 17] {
 fn there_are_1024_fids(rt: HostRuntime) -> Result<(), Fail> {
     let mut out = buffer(rt.alloc())?;
     let mut tree = Obliging::new();
-    let mut session = session_after(rt.alloc(), 2, &mut out)?;
+    let mut session = session_after(rt.alloc(), &mut Obliging::new(), 2, &mut out)?;
     for fid in 1..1024 {
         let answer = said(&mut session, &mut tree, &walk_to(fid), &mut out);
         assert_eq!(rt; answer, WALKED_NOWHERE, "{fid}");
@@ -58,7 +59,7 @@ fn longest_walk(alloc: Global) -> Result<Vec<u8>, AllocError> {
 #[test]
 fn the_longest_walk_has_a_qid_for_each_name(rt: HostRuntime) -> Result<(), Fail> {
     let mut out = buffer(rt.alloc())?;
-    let mut session = session_after(rt.alloc(), 2, &mut out)?;
+    let mut session = session_after(rt.alloc(), &mut Obliging::new(), 2, &mut out)?;
     let frame = longest_walk(rt.alloc())?;
     let answer = said(&mut session, &mut Obliging::new(), &frame, &mut out);
     assert_eq!(rt;
@@ -75,7 +76,7 @@ fn the_longest_walk_has_a_qid_for_each_name(rt: HostRuntime) -> Result<(), Fail>
 #[test]
 fn the_largest_read_fills_the_largest_size(rt: HostRuntime) -> Result<(), Fail> {
     let mut out = buffer(rt.alloc())?;
-    let mut session = session_after(rt.alloc(), 4, &mut out)?;
+    let mut session = session_after(rt.alloc(), &mut Obliging::new(), 4, &mut out)?;
     // 65,536 bytes and 2^32 - 1 bytes of fid 1, the latter from 2^64 - 1 on.
     let rows: [(&[u8], u64); 2] = [
         (

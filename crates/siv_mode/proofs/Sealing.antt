@@ -53,7 +53,7 @@ counted_twice ctr tag text makes =
     let same_length : length (xor_bytes text stream) ≡ length text = omega arith in
     ap (λ k. xor_bytes (xor_bytes text stream) (keystream ctr (first_counter tag) ((k + 15) / 16))) same_length ∙ xor_bytes-twice text stream (omega arith)
 
--- what is accepted, and that the text is what comes back
+-- what is accepted, and that the text is what is returned
 pub opened_is : (mac ctr : List ℕ → List ℕ) (ad : Option (List ℕ)) (sealed : List ℕ) → s2v mac ad (siv_text ctr sealed) ≡ take 16 sealed → siv_opened mac ctr ad sealed ≡ Some (siv_text ctr sealed)
 unfolding siv_opened
 opened_is mac ctr ad sealed same =
@@ -105,7 +105,7 @@ sealed_is mac ctr ad sealed text makes is =
     (λ i. counted ctr (opened.0 i) (opened.1 i)) ∙ counted_twice ctr (take 16 sealed) (drop 16 sealed) makes in
     sym (take-append-drop 16 sealed) ∙ (λ i. sym opened.0 i ++ sym back i)
 
--- where something opens, it was sealed from that text alone; where nothing does, from none
+-- if something opens, it was sealed from that text alone; if nothing does, from none
 pub opens_alone : (mac ctr : List ℕ → List ℕ) (ad : Option (List ℕ)) (sealed text other : List ℕ) → MakesBlocks mac → MakesBlocks ctr → siv_opened mac ctr ad sealed ≡ Some text
     → sealed ≡ siv_sealed mac ctr ad other → text ≡ other
 opens_alone mac ctr ad sealed text other makes makes' here is =

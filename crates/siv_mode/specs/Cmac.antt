@@ -6,7 +6,7 @@ use Rattle.aes_block.specs.Bytes.{xor_bytes, number_of, bytes_of}
 abbrev pub zero_block : List ℕ
 zero_block = replicate 16 0
 
--- a block moved left by one bit; where the bit that leaves is 1, the constant 87 is xored in (6.1)
+-- a block moved left by one bit; if the bit that leaves is 1, the constant 87 is xored in (6.1)
 unfoldable pub doubled : List ℕ → List ℕ
 doubled b = bytes_of 16 (if nat_lt (number_of b) (2 ^ 127) then 2 * number_of b else bit_xor (2 * number_of b) (2 ^ 128 + 0x87))
 
@@ -23,13 +23,13 @@ unfoldable pub chained : (List ℕ → List ℕ) → List ℕ → ℕ → List �
 chained cipher text zero = zero_block
 chained cipher text (suc n) = cipher (xor_bytes (chained cipher text n) (block_at text n))
 
--- the last block of a text, xored with the first subkey where it is whole, else padded and xored with the second (6.2, step 4)
+-- the last block of a text, xored with the first subkey if it is whole, else padded and xored with the second (6.2, step 4)
 abbrev pub last_block : (List ℕ → List ℕ) → List ℕ → List ℕ
 last_block cipher b =
     if length b == 16 then xor_bytes (doubled (cipher zero_block)) b
     else xor_bytes (doubled (doubled (cipher zero_block))) (padded b)
 
--- how many blocks stand before the last one, which isn't empty unless the text is
+-- how many blocks are before the last one, which isn't empty unless the text is
 abbrev pub blocks_before_last : ℕ → ℕ
 blocks_before_last n = (n - 1) / 16
 

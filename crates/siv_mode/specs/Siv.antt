@@ -43,7 +43,7 @@ counted ctr tag text = xor_bytes text (keystream ctr (first_counter tag) ((lengt
 unfoldable pub siv_sealed : (List ℕ → List ℕ) → (List ℕ → List ℕ) → Option (List ℕ) → List ℕ → List ℕ
 siv_sealed mac ctr ad text = s2v mac ad text ++ counted ctr (s2v mac ad text) text
 
--- what the bytes behind the tag decrypt to, right or wrong (2.7)
+-- what the bytes after the tag decrypt to, right or wrong (2.7)
 abbrev pub siv_text : (List ℕ → List ℕ) → List ℕ → List ℕ
 siv_text ctr sealed = counted ctr (take 16 sealed) (drop 16 sealed)
 

@@ -2,7 +2,7 @@ ghost use Rattle.std.specs.Prelude.{◌≡◌, length};
 ghost use Rattle.aes_block.specs.Bytes.{AreBytes};
 
 use aes_block::Key256;
-use aes_lanes::LaneKey;
+use aes_kernels::LaneKey;
 use std::marker::Model;
 
 /// The two keys of a vault, each of 32 bytes, ready for use.

@@ -40,7 +40,7 @@ fn xor_masks(text: &mut [u8], start: usize, masks: &[[u8; BLOCK_LEN]])
     }
 }
 
-// Encrypts or decrypts a text in place, with the counters that its tag begins (RFC 5297, 2.5).
+/// Encrypts or decrypts a text in place, with the counters that its tag begins (RFC 5297, 2.5).
 pub(crate) fn apply_keystream<K: BlockKey>(key: &K, tag: [u8; 16], text: &mut [u8])
     ensures { text.new ≡ counted (K.cipher key.now) tag text.old }
 {

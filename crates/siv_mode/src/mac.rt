@@ -15,7 +15,7 @@ pub fn cmac<K: BlockKey>(key: &K, text: &[u8]) -> [u8; 16]
     mac.finish(key)
 }
 
-// A message authentication code of a text that comes in pieces.
+/// A message authentication code of a text that comes in pieces.
 #[derive(Drop)]
 pub(crate) struct RunningMac {
     // The cipher chained over the blocks that are known not to be the last.
@@ -40,7 +40,7 @@ impl RunningMac {
         }
     }
 
-    // Takes the next piece of the text.
+    /// Takes the next piece of the text.
     pub(crate) fn absorb<K: BlockKey>(&mut self, key: &K, piece: &[u8])
         ensures { (text : List ℕ)
             → HasAbsorbed (K.cipher key.now) self.old.chain self.old.block self.old.filled text
@@ -81,7 +81,7 @@ impl RunningMac {
         self.filled = 0;
     }
 
-    // The code of the whole text.
+    /// The code of the whole text.
     pub(crate) fn finish<K: BlockKey>(self, key: &K) -> [u8; 16]
         ensures { (text : List ℕ)
             → HasAbsorbed (K.cipher key.now) self.chain self.block self.filled text

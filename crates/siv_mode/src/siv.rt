@@ -15,7 +15,7 @@ use thiserror::Error;
 #[error("the tag differs")]
 pub struct BadTag;
 
-/// The bytes of a tag, which stands before the text that it seals (RFC 5297, 2.6).
+/// The bytes of a tag, which is before the text that it seals (RFC 5297, 2.6).
 pub const TAG_LEN: usize = 16;
 
 /// The block of 16 bytes that S2V makes of an associated string, if there is one, and a text
@@ -121,7 +121,7 @@ pub fn open<K: BlockKey>(
     }
 }
 
-// Decrypts what is behind the tag of a sealed text, whether it is right or wrong, and returns the tag.
+// Decrypts what is after the tag of a sealed text, whether it is right or wrong, and returns the tag.
 fn decrypt<K: BlockKey>(ctr: &K, sealed: &[u8], out: &mut [u8]) -> [u8; TAG_LEN]
     requires { length sealed.now ≡ length out.old + TAG_LEN }
     ensures tag { result ≡ take TAG_LEN sealed.now }

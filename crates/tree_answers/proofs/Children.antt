@@ -1,4 +1,4 @@
--- The stats of a directory's nodes behind a name, by the next node behind it.
+-- The stats of a directory's nodes after a name, by the next node after it.
 use Rattle.std.proofs.Common.{◌≡◌, ◌≢◌, ℕ, ◌==◌, Bool, true, not, ◌&&◌, List, [], ◌∷◌, map, Option, Some, None, is_gt, Less, Equal, Greater, refl, sym, ap, ◌∙◌, eq-eqb, eqb-true}
 use Rattle.std.specs.Cmp.Lexicographic.{nat_list_cmp_total}
 use Rattle.std.specs.FinMap as finmap
@@ -84,7 +84,7 @@ module _ (contents : ℕ → Content) (tree : HeldTree) (parent : ℕ) (good : I
   behind_by_is None name h = tt
   behind_by_is (Some last) name h = greater_from (name_cmp name last) h
 
-  -- no entry behind the name is before the next node's
+  -- no entry after the name is before the next node's
   none_before : (last : Option (List ℕ)) (number : ℕ) (next : IsNext tree parent last number) (g : Child) → In g entries → is_behind last g.0 ≡ true → name_cmp g.0 next.node.kept.name ≡ Less → ⊥
   none_before last number next g h past less =
       let other = given_child g (in_entries g given h) in
@@ -99,7 +99,7 @@ module _ (contents : ℕ → Content) (tree : HeldTree) (parent : ℕ) (good : I
       let turned : name_cmp other.node.kept.name next.node.kept.name ≡ Greater = less_not_greater next.node.kept.name other.node.kept.name above in
       absurd (cc (below, turned))
 
-  -- behind a name stands the stat of the next node, and then those behind that
+  -- after a name there is the stat of the next node, and then those after that
   pub next_stats : (last : Option (List ℕ)) (number : ℕ) (next : IsNext tree parent last number)
       → stats_behind rows parent last ≡ spelled_stat (stat_at (live_row contents (number, next.node))) ∷ stats_behind rows parent (Some next.node.kept.name)
   next_stats last number next =

@@ -1,4 +1,4 @@
--- The entries of a map of names: which they are, and those behind a name.
+-- The entries of a map of names: which they are, and those after a name.
 use Rattle.std.proofs.Common.{◌≡◌, ◌⊎◌, ℕ, Bool, true, false, ◌&&◌, T, List, [], ◌∷◌, filter, Option, Some, None, is_lt, is_gt, nat_cmp, Ordering, Less, Equal, Greater, inl, inr, refl, sym, ap, subst, ◌∙◌}
 use Rattle.std.specs.Cmp.Lexicographic.{slice_cmp, nat_list_cmp_total}
 use Rattle.std.specs.Ordering.{ordering_reverse}
@@ -26,7 +26,7 @@ greater_from Less h = absurd cc
 greater_from Equal h = absurd cc
 greater_from Greater h = refl
 
--- what is behind a name that is behind another is behind that
+-- what is after a name that is after another is after that
 behind_on : (last : Option (List ℕ)) (a b : List ℕ) → name_cmp a b ≡ Less → is_behind last a ≡ true → is_behind last b ≡ true
 behind_on None a b less behind = refl
 behind_on (Some last) a b less behind =
@@ -123,7 +123,7 @@ module _ {X : Type 0} where
       subst (In f) (sym (finmap.entries-insert nat_list_cmp_total (map_of es) e.0 e.1))
       (stays_in e.0 e.1 f (finmap.entries (map_of es)) (sole e (inl refl)) (entries_in f es (λ g i. sole g (inr i)) h))
 
-  -- ---- those behind a name
+  -- ---- those after a name
 
   below_in : (name : List ℕ) (es : List (Named X)) → T (below_all name_cmp name es) → (f : Named X) → In f es → name_cmp name f.0 ≡ Less
   below_in name [] below f h = absurd h
@@ -142,7 +142,7 @@ module _ {X : Type 0} where
       by true is rest = absurd (fail e (inl refl) is)
       by false is rest = cond-false (p e) _ _ is ∙ rest
 
-  -- behind a name stands the first entry behind it, and then those behind that one
+  -- after a name there is the first entry after it, and then those after that one
   pub first_behind : (last : Option (List ℕ)) (f : Named X) (es : List (Named X)) → T (is_sorted name_cmp es) → In f es → is_behind last f.0 ≡ true
       → ((g : Named X) → In g es → is_behind last g.0 ≡ true → name_cmp g.0 f.0 ≡ Less → ⊥) → filter (behind last) es ≡ f ∷ filter (behind (Some f.0)) es
   first_behind last f [] sorted h is first = absurd h

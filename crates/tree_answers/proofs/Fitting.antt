@@ -77,11 +77,11 @@ module _ (old new : List ℕ) (used : ℕ) (text : List ℕ) (put : IsPut old ne
       ap (λ (w : List ℕ). length w) new_is
       ∙ omega (arith, length-append (take used old ++ text) (drop (length text) (drop used old)), front_all, length-drop (length text) (drop used old), length-drop used old, put.within)
 
-  -- what is behind it stays as it was before that too
+  -- what is after it stays as it was before that too
   pub put_keeps : (first : List ℕ) → drop used old ≡ drop used first → drop (used + length text) new ≡ drop (used + length text) first
   put_keeps first rest = put_back ∙ sym (drop-drop (length text) used old) ∙ ap (drop (length text)) rest ∙ drop-drop (length text) used first
 
-  -- the front grows by what of the stats comes next
+  -- the front grows by what of the stats is next
   pub put_more : (room : ℕ) (all : List ℕ) (stats : List (List ℕ)) → length old ≡ room → all ≡ take used old ++ concat (fitting (room - used) (text ∷ stats))
       → all ≡ take (used + length text) new ++ concat (fitting (room - (used + length text)) stats)
   put_more room all stats long so_far =

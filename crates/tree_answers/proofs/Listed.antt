@@ -18,7 +18,7 @@ use Rattle.tree_answers.proofs.Children.{next_stats, no_stats}
 use Rattle.tree_answers.proofs.Shown.{stat_is, stat_length}
 use Rattle.tree_answers.proofs.Fitting.{some_fit, none_fit, part_length, front_of, front_count}
 
--- behind a name stands the stat of the next node, as it is shown, and then those behind that node's name
+-- after a name there is the stat of the next node, as it is shown, and then those after that node's name
 pub shown_next : (contents : ℕ → Content) (tree : HeldTree) (parent : ℕ) → IsTree tree → AreSizes tree contents → (last : Option (List ℕ)) (number : ℕ) (node : HeldNode) (name : List ℕ)
     → IsNext tree parent last number → node_in tree number ≡ Some node → name ≡ node.kept.name
     → stats_behind (live_rows contents tree) parent last ≡ spelled_stat (stat_in number node) ∷ stats_behind (live_rows contents tree) parent (Some name)
@@ -34,7 +34,7 @@ shown_next contents tree parent good sizes last number node name next there is =
 abbrev pub counts : ℕ → List ℕ → Answer
 counts k bytes = record { reply = count k; bytes = bytes }
 
--- behind a copy of a name is behind the name
+-- after a copy of a name is after the name
 pub of_copy : (tree : HeldTree) (number most : ℕ) (copy after : Option (List ℕ)) (answer : Answer) → copy ≡ after → IsSizedStepOf tree (list number copy most) answer → IsSizedStepOf tree (list number after most) answer
 of_copy tree number most copy after answer same = subst (λ (a : Option (List ℕ)). IsSizedStepOf tree (list number a most) answer) same
 

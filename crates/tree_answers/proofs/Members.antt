@@ -65,7 +65,7 @@ module _ {A : Type 0} (t : A → Bool) where
       by true is h rest = let same : x ≡ y = cc in (inl same, ap t same ∙ is)
       by false is h rest = onward (rest h)
 
-  -- where none is found none passes
+  -- if none is found none passes
   pub none_passes : (xs : List A) → find t xs ≡ None → (x : A) → In x xs → t x ≡ true → ⊥
   none_passes [] none x h pass = h
   none_passes (y ∷ xs) none x h pass = by (t y) refl none h (none_passes xs)

@@ -1,4 +1,4 @@
--- Answers that are the step's where the contents have the lengths that their sizes tell.
+-- Answers that are the step's if the contents have the lengths that their sizes give.
 use Rattle.std.proofs.Common.{◌≡◌, ◌<◌, ◌^◌, ℕ, List, length, Some, None, refl, sym, ap, ap₂, ◌∙◌}
 use Rattle.tree_model.specs.declared.refusal.Refusal.TheVariants as refusals
 use Rattle.tree_model.specs.Wire.{spelled_stat}

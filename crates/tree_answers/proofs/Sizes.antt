@@ -1,4 +1,4 @@
--- Contents of host files have the lengths that the files' sizes tell.
+-- Contents of host files have the lengths that the files' sizes give.
 use Rattle.std.proofs.Common.{◌≡◌, ℕ, true, false, Bool, ◌==◌, List, length, Option, Some, None, IsSome, unwrap_or, refl, sym, ap, ◌∙◌, eqb-true, eq-eqb}
 use Rattle.std.specs.Option.{option_and_then}
 use Rattle.outside.specs.Disk.{Disk, node_at as thing_at, file as host_file}
@@ -51,7 +51,7 @@ path_there tree number size good is = by (node_of tree number) refl is
     by None there is = absurd cc
     by (Some node) there is = moved node there (path_under node.kept (parent_folder tree node.kept) size (folder_there tree number size node good there is) is)
 
--- the contents of host files that are as long as the tree says have the lengths that their sizes tell, if each content does
+-- the contents of host files that are as long as the tree says have the lengths that their sizes give, if each content does
 pub sizes_from : (s : Sealing) (d : Disk) (tree : HeldTree) (contents : ℕ → Content) → IsTree tree
     → ((number : ℕ) (path : List (List ℕ)) → path_of tree number ≡ Some path → HasHostFile s d contents number path)
     → ((number size : ℕ) (path : List (List ℕ)) (bytes : List ℕ) → path_of tree number ≡ Some path → size_of tree number ≡ Some size → thing_at d path ≡ Some (host_file bytes) → length bytes ≡ size)

@@ -11,9 +11,9 @@ use Rattle.tree_model.specs.Rows.{Content, Row, Rows, is_dir, row_of, child_of, 
 use Rattle.tree_model.specs.Asked.{PlainReply, walk}
 use Rattle.tree_model.specs.Step.{says, dot_dot, found, found_by_name, name_refusal, walked_by, walk_on, walk_from, walk_answer}
 use Rattle.tree_model.proofs.Steps.{step_walk}
-use Rattle.name_cipher.specs.declared.name.BadName.{BadName}
-use Rattle.name_cipher.specs.declared.name.BadName.TheVariants as bad_names
-use Rattle.name_cipher.specs.Faults.{IsFault}
+use Rattle.vault_names.specs.declared.name.BadName.{BadName}
+use Rattle.vault_names.specs.declared.name.BadName.TheVariants as bad_names
+use Rattle.vault_names.specs.Faults.{IsFault}
 use Rattle.clear_tree.specs.Kept.{What, KeptFile, KeptLink, KeptDir, KeptBad, kind_of}
 use Rattle.live_tree.specs.Held.{HeldNode, HeldTree, IsTree, IsNamed, IsFree, node_of, live_row, live_rows}
 use Rattle.live_tree.proofs.Rows.{has_node}

@@ -74,7 +74,7 @@ names_after N k bytes rest below is behind = subst (λ (r : List ℕ). AreNames 
 
 -- ---- the way so far
 
--- whatever way goes on from a node along the names that are left, the whole way is that one behind the nodes so far
+-- whatever way goes on from a node along the names that are left, the whole way is that one after the nodes so far
 abbrev pub GoesOn : HeldTree → ℕ → List (List ℕ) → ℕ → List (List ℕ) → List Qid → Type 0
 GoesOn tree from names at left front = (qids : List Qid) (end : Option Refusal) → IsWay tree at left qids end → IsWay tree from names (front ++ qids) end
 

@@ -46,11 +46,11 @@ IsOwn reply = ⊤
 
 -- ---- stats
 
--- the length of the content of a host file of this size, and 0 where no content has it
+-- the length of the content of a host file of this size, and 0 if no content has it
 abbrev pub length_by : ℕ → ℕ
 length_by size = unwrap_or (clear_length size) 0
 
--- the contents of a tree's files and links are as long as the sizes of their host files tell
+-- the contents of a tree's files and links are as long as the sizes of their host files say
 abbrev pub AreSizes : HeldTree → (ℕ → Content) → Type 0
 AreSizes tree contents = (number size : ℕ) → size_of tree number ≡ Some size → content_length (contents number) ≡ length_by size
 

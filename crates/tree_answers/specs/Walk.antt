@@ -6,8 +6,8 @@ use Rattle.tree_model.specs.declared.refusal.Refusal.TheVariants as refusals
 use Rattle.tree_model.specs.declared.stat.Qid.{Qid}
 use Rattle.tree_model.specs.Rows.{Content, Row, Rows, row_of}
 use Rattle.tree_model.specs.Step.{walk_from}
-use Rattle.name_cipher.specs.declared.name.BadName.{BadName}
-use Rattle.name_cipher.specs.declared.name.BadName.TheVariants as bad_names
+use Rattle.vault_names.specs.declared.name.BadName.{BadName}
+use Rattle.vault_names.specs.declared.name.BadName.TheVariants as bad_names
 use Rattle.clear_tree.specs.Kept.{What, KeptFile, KeptLink, KeptDir, KeptBad}
 use Rattle.live_tree.specs.Held.{HeldNode, HeldTree, node_of, live_rows}
 use Rattle.tree_answers.specs.Answers.{qid_in}

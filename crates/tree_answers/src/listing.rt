@@ -19,9 +19,9 @@ use std::alloc::{AllocError, Global};
 use tree_model::{Refusal, Reply};
 use vault_path::Text;
 
-/// The answer to a request for the stats of the nodes of a directory whose names stand behind `after`, of all where there
-/// is none. As many whole stats as fit into `count` bytes are put into the front of `buffer`, in the order of the names'
-/// bytes. The error comes where memory runs out for a copy of `after`; nothing is put then.
+/// The answer to a request for the stats of the nodes of a directory whose names follow `after`, of all if there is none.
+/// As many whole stats as fit into `count` bytes are put into the front of `buffer`, in the order of the names' bytes.
+/// The error is returned if memory runs out for a copy of `after`; nothing is put then.
 pub fn list(
     alloc: Global,
     tree: &LiveTree,
@@ -76,7 +76,7 @@ fn copied(alloc: Global, name: Option<&[u8]>) -> Result<Option<Text>, AllocError
     }
 }
 
-// Puts the stats of a directory's nodes behind a name into `room`, from its front on, as many as fit, and returns how many bytes they have.
+// Puts the stats of a directory's nodes after a name into `room`, from its front on, as many as fit, and returns how many bytes they have.
 fn put_stats(tree: &LiveTree, parent: u64, after: Option<&Text>, room: &mut [u8]) -> usize
     requires { IsTree tree.now }
     ensures bytes { (contents : ℕ → Content) → AreSizes tree.now contents → take result room.new ≡
@@ -98,7 +98,7 @@ fn put_stats(tree: &LiveTree, parent: u64, after: Option<&Text>, room: &mut [u8]
     used
 }
 
-// The first node of a directory behind a name, with its number.
+// The first node of a directory after a name, with its number.
 fn next_node<'a>(
     tree: &'a LiveTree,
     parent: u64,

@@ -10,9 +10,9 @@ ghost use Rattle.tree_answers.specs.Walk.{ForRows, IsWay, IsWhole, StandsFor, ba
 use crate::nodes::{is_tree, qid};
 use clear_tree::What;
 use live_tree::LiveTree;
-use name_cipher::{BadName, clear_name};
 use std::alloc::{AllocError, Global};
 use tree_model::{Names, Qid, Refusal, Reply};
+use vault_names::{BadName, clear_name};
 
 // The name of a node's parent.
 const PARENT: &[u8] = b"..";
@@ -21,8 +21,8 @@ const PARENT: &[u8] = b"..";
 const WALK_LIMIT: usize = 16;
 
 /// The answer to a walk from the node of a number along names, of which there are 16 at most: the qids of the nodes on the
-/// way, up to the first name that is refused, or the refusal of the first name. The error comes where memory runs out for a
-/// name's form NFC, whichever name it is; no part of the way is the answer then.
+/// way, up to the first name that is refused, or the refusal of the first name. The error is returned if memory runs out
+/// for a name's form NFC, whichever name it is; no part of the way is the answer then.
 pub fn walk(
     alloc: Global,
     tree: &LiveTree,
@@ -131,7 +131,7 @@ fn follow(alloc: Global, tree: &LiveTree, from: u64, names: &Names<'_>) -> Resul
     })
 }
 
-// The first name that is spelled by bytes, and what stands behind it.
+// The first name that is spelled by bytes, and what follows it.
 fn split_name(bytes: &[u8]) -> (&[u8], &[u8])
     requires { (2 ≤ length bytes.now) × (2 + (slice_index bytes.now 0 + 256 * slice_index bytes.now 1) ≤ length bytes.now) }
     ensures name { result.0.now ≡ take (slice_index bytes.now 0 + 256 * slice_index bytes.now 1) (drop 2 bytes.now) }

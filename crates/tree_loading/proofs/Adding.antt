@@ -1,4 +1,4 @@
--- The nodes of one directory are put behind the others, one by one.
+-- The nodes of one directory are put after the others, one by one.
 use Rattle.std.proofs.Common.{◌≡◌, ℕ, suc, ◌+◌, ◌-◌, ◌<◌, ◌≤◌, Bool, true, List, [], ◌∷◌, ◌++◌, append_assoc, append-nil, length, length-append, Option, Some, None, IsSome, Contains, refl, sym, ap, ◌∙◌, subst, inl, inr, ◌⊎◌, arith, slice_get, leb, leb-true}
 use Rattle.std.specs.declared.cmp.Ordering.{Ordering}
 use Rattle.std.specs.declared.cmp.Ordering.TheVariants.{Less}
@@ -26,9 +26,9 @@ use Rattle.clear_tree.specs.Scan.{Found, IsFound, names_of}
 use Rattle.clear_tree.specs.Loading.{AreAdded, KeepsIdentifiers, with_found, with_claims}
 use Rattle.clear_tree.proofs.Places.{get_left, get_last, get_cases}
 use Rattle.clear_tree.proofs.Turns.{added_none, added_more}
-use Rattle.directory_scan.specs.declared.found.FoundNode.{FoundNode}
-use Rattle.directory_scan.specs.Format.{sealing_of}
-use Rattle.directory_scan.specs.Scanned.{found_of, all_found}
+use Rattle.tree_loading.specs.declared.found.FoundNode.{FoundNode}
+use Rattle.tree_loading.specs.Format.{sealing_of}
+use Rattle.tree_loading.specs.Scanned.{found_of, all_found}
 use Rattle.tree_loading.specs.declared.nodes.Loading.{Loading}
 use Rattle.tree_loading.specs.Under.{is_claimed, HasOwnFolder, HaveOwnFolders, IsBehindLast, EndsBefore, IsDirectoryAt}
 use Rattle.tree_loading.specs.Added.{AddsNode, AddsAll, Pushes}
@@ -51,7 +51,7 @@ module _ (keys : KeyPair) (old new : KeptTree) (parent : ℕ) (name : List ℕ) 
       let both : ◌≡◌ {A = Option KeptNode} (Some last) (Some push.node) = sym h ∙ ap (node_of new) n ∙ at in
       cc
 
-  -- a name behind this one stands behind the last node now
+  -- a name after this one follows the last node now
   pub pushed_behind : (next : List ℕ) → slice_cmp nat_cmp name next ≡ Less → IsBehindLast new parent next
   pushed_behind next less last h below =
       let is : last ≡ push.node = last_is last h in
@@ -86,7 +86,7 @@ module _ (keys : KeyPair) (old new : KeptTree) (parent : ℕ) (name : List ℕ) 
 abbrev pub Rest : Type 0
 Rest = List (List ℕ × FoundNode)
 
--- each name that is left stands behind the last node
+-- each name that is left follows the last node
 abbrev pub AreBehind : KeptTree → ℕ → Rest → Type 0
 AreBehind tree parent rest = AllByRecursion (λ (x : List ℕ × FoundNode). IsBehindLast tree parent x.0) rest
 
@@ -104,7 +104,7 @@ rest_behind keys old new parent x rest all push is sorted =
 pub rest_sorted : (x : List ℕ × FoundNode) (rest all : Rest) → all ≡ x ∷ rest → AreSorted all → AreSorted rest
 rest_sorted x rest all is sorted = sorted_tail (slice_cmp nat_cmp) x.0 (names_of (all_found rest)) (subst AreSorted is sorted)
 
--- at first each name stands behind the nodes of the directories before
+-- at first each name follows the nodes of the directories before
 first_less : (a b : ℕ) (m n : List ℕ) → a < b → ordering_then (nat_cmp a b) (slice_cmp nat_cmp m n) ≡ Less
 first_less a b m n l = ap (λ (o : Ordering). ordering_then o (slice_cmp nat_cmp m n)) (sym (nat_cmp_is a b Less l))
 

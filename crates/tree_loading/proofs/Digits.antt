@@ -4,8 +4,8 @@ use Rattle.std.proofs.lemmas.List.{take_all}
 use borrow.Rule.Slice.PartMut.{put_mid}
 use Rattle.vault_path.specs.Parts.{is_path}
 use Rattle.siv_mode.specs.Keys.{KeyPair}
-use Rattle.dir_paths.specs.Folder.{folder_of, base32, hash_of}
-use Rattle.dir_paths.proofs.PartLemmas.{is_path-digits}
+use Rattle.vault_names.specs.Folder.{folder_of, base32, hash_of}
+use Rattle.vault_names.proofs.PartLemmas.{is_path-digits}
 use Rattle.clear_tree.specs.Places.{host_folder}
 use Rattle.tree_loading.specs.Under.{HasFolder}
 

@@ -10,15 +10,15 @@ use Rattle.outside.specs.Disk.{Disk, Node as Thing, folder as Folder, file as By
 use Rattle.outside.specs.Calls.{Told}
 use Rattle.outside.proofs.Told.{told_both}
 use Rattle.siv_mode.specs.Keys.{KeyPair}
-use Rattle.dir_paths.specs.Folder.{folder_of}
+use Rattle.vault_names.specs.Folder.{folder_of}
 use Rattle.clear_tree.specs.Places.{is_folder}
 use Rattle.clear_tree.specs.Kept.{KeptTree, KeptDir, IsKept}
 use Rattle.clear_tree.specs.Built.{root_alone, root_node}
 use Rattle.clear_tree.specs.Loading.{IsLoading, HasNodes}
 use Rattle.clear_tree.proofs.Turns.{begun}
 use Rattle.clear_tree.proofs.Loaded.{loading_ends}
-use Rattle.directory_scan.specs.Format.{sealing_of}
-use Rattle.tree_loading.specs.declared.fault.LoadErr.{LoadErr}
+use Rattle.tree_loading.specs.Format.{sealing_of}
+use Rattle.tree_loading.specs.declared.load_fault.LoadErr.{LoadErr}
 use Rattle.tree_loading.specs.declared.nodes.Loading.{Loading}
 use Rattle.tree_loading.specs.Clear.{HasTooMany}
 use Rattle.tree_loading.specs.Under.{is_claimed, HasFolder}

@@ -1,6 +1,13 @@
+pub mod Files
+pub mod Paths
+pub mod Sealings
+pub mod Cases
+pub mod Names
+pub mod Gathering
+pub mod Listing
 pub mod Digits
 pub mod Settling
 pub mod Adding
 pub mod Turning
 pub mod Ending
-pub mod Reading
+pub mod UndamagedReads

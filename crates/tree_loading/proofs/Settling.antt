@@ -15,7 +15,7 @@ use Rattle.clear_tree.specs.Places.{host_folder, is_folder}
 use Rattle.clear_tree.specs.declared.node.What.TheVariants as what
 use Rattle.clear_tree.specs.Kept.{KeptDir, KeptBad}
 use Rattle.clear_tree.specs.Scan.{ShownText}
-use Rattle.directory_scan.specs.Format.{sealing_of, is_identifier}
+use Rattle.tree_loading.specs.Format.{sealing_of, is_identifier}
 use Rattle.tree_loading.specs.Under.{is_claimed, HasFolder}
 use Rattle.tree_loading.specs.Settled.{IsSettled, Claims}
 

@@ -15,10 +15,10 @@ use Rattle.clear_tree.specs.Scan.{Found, IsScanned}
 use Rattle.clear_tree.specs.Loading.{IsLoading, AreAdded, HasNodes}
 use Rattle.clear_tree.proofs.Places.{in_at, get_there}
 use Rattle.clear_tree.proofs.Turns.{IsNext, IsMarked, next_row, what_is, opened, turn_dir, turn_other, too_many, folder_present, nat_cases}
-use Rattle.directory_scan.specs.Format.{sealing_of}
-use Rattle.directory_scan.specs.declared.found.FoundNode.{FoundNode}
-use Rattle.directory_scan.specs.Scanned.{ScannedFolder, all_found, found_of}
-use Rattle.tree_loading.specs.declared.fault.LoadErr.TheVariants.{TooMany}
+use Rattle.tree_loading.specs.Format.{sealing_of}
+use Rattle.tree_loading.specs.declared.found.FoundNode.{FoundNode}
+use Rattle.tree_loading.specs.Scanned.{ScannedFolder, all_found, found_of}
+use Rattle.tree_loading.specs.declared.load_fault.LoadErr.TheVariants.{TooMany}
 use Rattle.tree_loading.specs.declared.nodes.Loading.{Loading}
 use Rattle.tree_model.specs.Step.{node_limit}
 use Rattle.tree_loading.specs.Under.{is_claimed, HasFolder, HasOwnFolder, IsReady}

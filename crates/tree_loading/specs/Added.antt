@@ -8,12 +8,12 @@ use Rattle.clear_tree.specs.Queue.{Row}
 use Rattle.clear_tree.specs.Kept.{KeptNode, KeptTree}
 use Rattle.clear_tree.specs.Scan.{Found, IsFound}
 use Rattle.clear_tree.specs.Loading.{AreLoaded, AreAdded, with_found}
-use Rattle.directory_scan.specs.Format.{sealing_of}
+use Rattle.tree_loading.specs.Format.{sealing_of}
 use Rattle.tree_loading.specs.declared.nodes.Loading.{Loading}
 use Rattle.tree_loading.specs.Under.{is_claimed, HasOwnFolder}
 use Rattle.tree_loading.specs.Settled.{Claims}
 
--- a node of this name is put behind the others, in the directory of this number
+-- a node of this name is put after the others, in the directory of this number
 pub record Pushes (keys : KeyPair) (old new : KeptTree) (parent : ℕ) (name : List ℕ) : Type 0 where
   pub node : KeptNode
   pub behind : new.nodes ≡ old.nodes ++ node ∷ []
@@ -26,7 +26,7 @@ pub record AddsNode (keys : KeyPair) (d : Disk) (parent : ℕ) (found : Found) (
   pub tree : new.tree ≡ with_found (sealing_of keys) (folders_of (sealing_of keys) d).present (is_claimed old.claims) parent old.tree found
   pub claims : Claims keys old.claims new.claims found.shown
 
--- All nodes that were found in the directory of a row, behind what is kept of the rows.
+-- All nodes that were found in the directory of a row, after what is kept of the rows.
 abbrev pub AddsAll : KeyPair → Disk → ℕ → List Found → Loading → Loading → Type 0
 AddsAll keys d parent found old new = (rows : List Row) (above : Path) (identifier : List ℕ) → AreLoaded (sealing_of keys) d rows parent old.tree (is_claimed old.claims)
     → slice_get rows parent ≡ Some (above, Dir identifier) → ((f : Found) → Contains found f → IsFound (sealing_of keys) d identifier f)

@@ -4,11 +4,11 @@ use Rattle.outside.specs.Disk.{Disk}
 use Rattle.outside.specs.Calls.{Told}
 use Rattle.siv_mode.specs.Keys.{KeyPair}
 use Rattle.tree_model.specs.Rows.{Rows}
-use Rattle.dir_paths.specs.Folder.{folder_of}
+use Rattle.vault_names.specs.Folder.{folder_of}
 use Rattle.clear_tree.specs.Rows.{IsClear as IsClearUnder}
 use Rattle.clear_tree.specs.Kept.{KeptTree, IsKept, TellsRows}
 use Rattle.clear_tree.specs.Loading.{HasNodes}
-use Rattle.directory_scan.specs.Format.{sealing_of}
+use Rattle.tree_loading.specs.Format.{sealing_of}
 
 -- the folder of the root, whose identifier is the empty text
 abbrev pub root_folder : KeyPair → List (List ℕ)
@@ -18,7 +18,8 @@ root_folder keys = folder_of keys []
 abbrev pub IsClear : KeyPair → Disk → ℕ → Rows → Type 0
 IsClear keys disk now rows = IsClearUnder (sealing_of keys) disk now rows
 
--- What is kept of a disk tells the rows that it stands for, with the contents of its files and links.
+-- What is kept of a disk determines the rows that it stands for, with the contents of its files and
+-- links.
 abbrev pub LoadingIsClear : Type 0
 LoadingIsClear = (keys : KeyPair) (disk : Disk) (tree : KeptTree) → IsKept (sealing_of keys) disk tree → TellsRows (sealing_of keys) disk tree
 

@@ -1,5 +1,12 @@
+pub mod Format
+pub mod Ciphers
+pub mod ScanFaults
+pub mod Scanned
+pub mod Reading
+pub mod Showing
+pub mod Entries
 pub mod Clear
-pub mod Faults
+pub mod LoadFaults
 pub mod Under
 pub mod Settled
 pub mod Added

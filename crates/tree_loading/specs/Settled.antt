@@ -7,7 +7,7 @@ use Rattle.clear_tree.specs.Places.{folders_of}
 use Rattle.clear_tree.specs.Built.{kept_what}
 use Rattle.clear_tree.specs.Scan.{Shown}
 use Rattle.clear_tree.specs.Loading.{new_what, names_again, with_claims}
-use Rattle.directory_scan.specs.Format.{sealing_of}
+use Rattle.tree_loading.specs.Format.{sealing_of}
 use Rattle.tree_loading.specs.declared.naming.Settled.{Settled}
 use Rattle.tree_loading.specs.Under.{is_claimed}
 

@@ -7,8 +7,8 @@ use Rattle.clear_tree.specs.Places.{host_folder}
 use Rattle.clear_tree.specs.Kept.{KeptDir, KeptNode, KeptTree, folder_in, node_of}
 use Rattle.clear_tree.specs.Scan.{IsScanned}
 use Rattle.clear_tree.specs.Loading.{IsLoading, HasNodes}
-use Rattle.directory_scan.specs.Format.{sealing_of}
-use Rattle.directory_scan.specs.Scanned.{ScannedFolder}
+use Rattle.tree_loading.specs.Format.{sealing_of}
+use Rattle.tree_loading.specs.Scanned.{ScannedFolder}
 use Rattle.tree_loading.specs.declared.nodes.Loading.{Loading}
 use Rattle.tree_model.specs.Step.{node_limit}
 use Rattle.tree_loading.specs.Under.{is_claimed}

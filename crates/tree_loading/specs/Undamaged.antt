@@ -1,4 +1,4 @@
--- A vault's disk without damage, as far as it can be told: every node is what the format makes, every byte of a content opens, and
+-- A vault's disk without damage, as far as it can be seen: every node is what the format makes, every byte of a content opens, and
 -- nothing is marked.
 use Rattle.std.specs.Prelude.{◌≡◌, ◌≢◌, ⊤, ℕ, false, IsTrue}
 use Rattle.std.specs.List.{AllByRecursion}

@@ -12,7 +12,7 @@ use Rattle.tree_model.specs.Step.{node_limit}
 use Rattle.clear_tree.specs.Places.{host_folder}
 use Rattle.clear_tree.specs.Kept.{What, KeptFile, KeptLink, KeptDir, KeptBad, KeptNode, KeptTree, folder_in, node_of}
 use Rattle.clear_tree.specs.Built.{place_cmp, place_of}
-use Rattle.directory_scan.specs.Format.{sealing_of}
+use Rattle.tree_loading.specs.Format.{sealing_of}
 
 -- whether a folder is among those that are named
 abbrev pub is_claimed : BTreeSet (List ℕ) → List ℕ → Bool
@@ -34,7 +34,7 @@ HasOwnFolder keys (KeptBad text) = Unit {0}
 abbrev pub HaveOwnFolders : KeyPair → KeptTree → Type 0
 HaveOwnFolders keys tree = (number : ℕ) (node : KeptNode) → node_of tree number ≡ Some node → HasOwnFolder keys node.what
 
--- a name of a directory stands behind the last node, if that isn't the root
+-- a name of a directory follows the last node, if that isn't the root
 abbrev pub IsBehindLast : KeptTree → ℕ → List ℕ → Type 0
 IsBehindLast tree parent name = (last : KeptNode) → node_of tree (length tree.nodes - 1) ≡ Some last → length tree.nodes - 1 ≢ root
     → place_cmp (place_of last) (parent, name) ≡ Less

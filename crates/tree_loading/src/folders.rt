@@ -1,9 +1,9 @@
 ghost use Rattle.std.specs.Prelude.{◌≤◌, length};
-ghost use Rattle.directory_scan.specs.Format.{identifier_limit};
+ghost use Rattle.tree_loading.specs.Format.{identifier_limit};
 ghost use Rattle.tree_loading.specs.Under.{HasFolder};
 
-use dir_paths::folder_of;
 use siv_mode::VaultKeys;
+use vault_names::folder_of;
 use vault_path::VaultPath;
 
 /// The 32 characters of the folder of an identifier.

@@ -1,3 +1,19 @@
+//! The clear tree of a vault's folder, directory by directory, loaded into memory.
+//!
+//! # One directory
+//!
+//! What the folder of one directory shows: its nodes by name, and whether it has foreign entries (Cryptomator's vault
+//! format 8).
+//!
+//! ```
+//! let folder = folder_of(&keys, identifier);
+//! let scanned = scan(alloc, &mut vault, &keys, identifier, &folder)?;
+//! let tidy = !scanned.has_foreign();
+//! let nodes = scanned.into_nodes();
+//! ```
+//!
+//! # The whole tree
+//!
 //! The clear tree of a vault's folder, loaded into memory.
 //!
 //! ```
@@ -7,12 +23,25 @@
 //! ```
 #![tactic(auto)]
 
-mod fault;
+mod entry;
 mod folders;
+mod found;
+mod laws;
+mod load_fault;
 mod loading;
 mod naming;
 mod nodes;
+mod place;
+mod reading;
+mod scan_fault;
+mod scanned;
+mod scanning;
 mod turns;
 
-pub use fault::LoadErr;
+pub use found::{FoundNode, Shown};
+pub use laws::are_ciphers;
+pub use load_fault::LoadErr;
 pub use loading::{load, loading_is_clear, undamaged_is_read};
+pub use scan_fault::ScanErr;
+pub use scanned::Scanned;
+pub use scanning::scan;

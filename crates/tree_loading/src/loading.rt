@@ -5,23 +5,23 @@ ghost use Rattle.outside.specs.Images.{disk_in};
 ghost use Rattle.tree_model.specs.Step.{node_limit};
 ghost use Rattle.clear_tree.specs.Kept.{IsKept};
 ghost use Rattle.clear_tree.specs.Loading.{IsLoading};
-ghost use Rattle.directory_scan.specs.Format.{sealing_of};
+ghost use Rattle.tree_loading.specs.Format.{sealing_of};
 ghost use Rattle.tree_loading.specs.Clear.{HasTooMany, LoadingIsClear, root_folder};
 ghost use Rattle.tree_loading.specs.Undamaged.{UndamagedIsRead};
 ghost use Rattle.tree_loading.specs.Under.{IsReady, is_claimed};
 ghost use Rattle.tree_loading.specs.Turned.{FindsTooMany, GoesOn};
 
-use crate::fault::LoadErr;
 use crate::folders::characters_of;
+use crate::load_fault::LoadErr;
 use crate::naming::is_there;
 use crate::nodes::Loading;
 use crate::turns::turn;
 use clear_tree::Tree;
-use dir_paths::folder_of;
 use outside::Reads;
 use siv_mode::VaultKeys;
 use std::alloc::Global;
 use std::collections::BTreeSet;
+use vault_names::folder_of;
 
 /// Loads the tree of a vault's folder: each directory by its identifier from the root on, breadth first, in O(n log n) for
 /// n nodes and entries. `threshold` is the vault's shortening threshold; it decides nothing, since a name of any length is
@@ -52,7 +52,7 @@ pub fn load<R: Reads>(
     Ok(tree)
 }
 
-/// What loads a tree tells the rows that the disk stands for. It does nothing.
+/// What loading keeps of a disk determines the rows that the disk stands for. It does nothing.
 pub fn loading_is_clear()
     ensures { LoadingIsClear }
 {}

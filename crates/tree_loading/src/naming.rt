@@ -6,19 +6,19 @@ ghost use Rattle.outside.specs.Images.{disk_in};
 ghost use Rattle.clear_tree.specs.Places.{is_folder};
 ghost use Rattle.clear_tree.specs.Built.{kept_what};
 ghost use Rattle.clear_tree.specs.Scan.{ShownText};
-ghost use Rattle.directory_scan.specs.Format.{is_identifier};
-ghost use Rattle.directory_scan.specs.Scanned.{shown_of};
+ghost use Rattle.tree_loading.specs.Format.{is_identifier};
+ghost use Rattle.tree_loading.specs.Scanned.{shown_of};
 ghost use Rattle.tree_loading.specs.Under.{HasOwnFolder};
 ghost use Rattle.tree_loading.specs.Settled.{IsSettled, Claims};
 
-use crate::fault::LoadErr;
 use crate::folders::characters_of;
+use crate::found::Shown;
+use crate::load_fault::LoadErr;
 use clear_tree::{What, host_folder};
-use dir_paths::IDENTIFIER_LIMIT;
-use directory_scan::Shown;
 use outside::{Kind, Reads};
 use siv_mode::VaultKeys;
 use std::collections::BTreeSet;
+use vault_names::IDENTIFIER_LIMIT;
 use vault_path::{Text, VaultPath};
 
 /// What a node is, and whether it names a folder that is named already.
@@ -57,7 +57,7 @@ pub(crate) fn settle<R: Reads>(
     }
 }
 
-// A directory, where the text is an identifier whose folder is there and isn't named already, and else a Bad node.
+// A directory, if the text is an identifier whose folder is there and isn't named already, and else a Bad node.
 fn settle_text<R: Reads>(
     from: &mut R,
     keys: &VaultKeys,

@@ -6,18 +6,18 @@ ghost use Rattle.outside.specs.Calls.{HasCause, Told};
 ghost use Rattle.outside.specs.Images.{disk_in};
 ghost use Rattle.tree_model.specs.Step.{node_limit};
 ghost use Rattle.clear_tree.specs.Scan.{names_of};
-ghost use Rattle.directory_scan.specs.Scanned.{all_found, found_of};
+ghost use Rattle.tree_loading.specs.Scanned.{all_found, found_of};
 ghost use Rattle.tree_loading.specs.Under.{IsReady, IsDirectoryAt, HaveOwnFolders, IsBehindLast};
 ghost use Rattle.tree_loading.specs.Added.{AddsNode, AddsAll, Pushes};
 
-use crate::fault::LoadErr;
+use crate::found::FoundNode;
+use crate::load_fault::LoadErr;
 use crate::naming::{Settled, settle};
 use clear_tree::{Node, Tree};
-use directory_scan::FoundNode;
-use name_cipher::Name;
 use outside::Reads;
 use siv_mode::VaultKeys;
 use std::collections::BTreeSet;
+use vault_names::Name;
 
 /// A tree under way, and the folders that its nodes name.
 #[derive(Drop)]
@@ -26,7 +26,7 @@ pub(crate) struct Loading {
     pub(crate) claims: BTreeSet<[u8; 32]>,
 }
 
-/// Puts a node that was found in the directory of a number behind the others.
+/// Puts a node that was found in the directory of a number after the others.
 pub(crate) fn add_node<R: Reads>(
     from: &mut R,
     keys: &VaultKeys,
@@ -61,7 +61,7 @@ pub(crate) fn add_node<R: Reads>(
     Ok(())
 }
 
-/// Puts the nodes that were found in the directory of a number behind the others.
+/// Puts the nodes that were found in the directory of a number after the others.
 pub(crate) fn add_nodes<R: Reads>(
     from: &mut R,
     keys: &VaultKeys,

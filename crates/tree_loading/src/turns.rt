@@ -8,10 +8,11 @@ ghost use Rattle.clear_tree.specs.Scan.{names_of};
 ghost use Rattle.tree_loading.specs.Under.{IsReady, HaveOwnFolders};
 ghost use Rattle.tree_loading.specs.Turned.{GoesOn, IsScanAt, IsNoDirectory, FindsTooMany};
 
-use crate::fault::LoadErr;
+use crate::load_fault::LoadErr;
 use crate::nodes::{Loading, add_nodes};
+use crate::scanned::Scanned;
+use crate::scanning::scan;
 use clear_tree::{Tree, What, host_folder};
-use directory_scan::{Scanned, scan};
 use outside::Reads;
 use siv_mode::VaultKeys;
 use std::alloc::Global;
@@ -19,7 +20,7 @@ use std::alloc::Global;
 // The most nodes that a tree may have.
 const NODE_LIMIT: usize = 1_048_576;
 
-/// The turn of the node of a number: where it is a directory, its folder is scanned and its nodes are put behind the
+/// The turn of the node of a number: if it is a directory, its folder is scanned and its nodes are put after the
 /// others.
 pub(crate) fn turn<R: Reads>(
     alloc: Global,
@@ -52,7 +53,7 @@ pub(crate) fn turn<R: Reads>(
     Ok(())
 }
 
-// What the folder of the node of a number shows, where that is a directory.
+// What the folder of the node of a number shows, if that is a directory.
 fn scan_at<R: Reads>(
     alloc: Global,
     from: &mut R,

@@ -15,7 +15,7 @@ use Rattle.tree_model.specs.Step.{Answer, Stepped, stepped, says, refuses, dot_d
 
 -- ---- the step
 
--- where nothing refuses it, what a request leads to is its work
+-- if nothing refuses it, what a request leads to is its work
 abbrev refused_or : Rows → Option Refusal → Stepped → Stepped
 refused_or rows refusal work = option_map_or (λ refusal. stepped rows (refuses refusal)) refusal work
 
@@ -34,13 +34,13 @@ step_at rows request second row is =
     ap (λ (o : Option Row). refused_or rows (option_map_or (λ row. early rows row request) o (Some refusals.Removed))
     (option_map_or (λ row. work rows row request second) o (stepped rows (refuses refusals.Removed)))) is
 
--- where nothing refuses the request before the work
+-- if nothing refuses the request before the work
 pub step_worked : (rows : Rows) (request : PlainRequest) (second : ℕ) (row : Row) → row_of rows (node_of request) ≡ Some row → early rows row request ≡ None
     → step rows request second ≡ work rows row request second
 step_worked rows request second row is free =
     step_at rows request second row is ∙ ap (λ (o : Option Refusal). refused_or rows o (work rows row request second)) free
 
--- where something does
+-- if something does
 pub step_refused : (rows : Rows) (request : PlainRequest) (second : ℕ) (row : Row) (refusal : Refusal) → row_of rows (node_of request) ≡ Some row → early rows row request ≡ Some refusal
     → step rows request second ≡ stepped rows (refuses refusal)
 step_refused rows request second row refusal is before =
@@ -135,7 +135,7 @@ answer_refusal : (rest : Row → List Qid × Option Refusal) (w : Result Row Ref
 answer_refusal rest (Ok row) other e = let same : walked (qid_of row ∷ (rest row).0) ≡ refused refusals.Removed = ap (λ (a : Answer). a.reply) e in cc
 answer_refusal rest (Err refusal) other e = other (let same : refused refusal ≡ refused refusals.Removed = ap (λ (a : Answer). a.reply) e in cc)
 
--- a walk is never answered by `Removed` where its node is there
+-- a walk is never answered by `Removed` if its node is there
 pub walk_not_removed : (rows : Rows) (row : Row) (names : List (List ℕ)) → walk_answer (walk_from rows row names) ≡ refuses refusals.Removed → ⊥
 unfolding walk_from
 walk_not_removed rows row [] e = let same : walked [] ≡ refused refusals.Removed = ap (λ (a : Answer). a.reply) e in cc

@@ -1,4 +1,5 @@
--- What was asked of a tree and what it answered, as plain data: without where names and bytes lie in memory.
+-- What was asked of a tree and what it answered, as plain data, which leaves out where names and bytes lie
+-- in memory.
 use Rattle.std.specs.Prelude.{◌≡◌, ℕ, ◌≤◌, ◌<◌, List, [], ◌++◌, length, take, drop, filter, Bool, true, false, not, Option, ⊤}
 use Rattle.std.specs.List.{flat_map, AllByRecursion}
 use Rattle.std.specs.Option.{option_copied}
@@ -91,7 +92,7 @@ bytes_put (list n after most) (count k) buffer = take k buffer
 bytes_put (stat_of n) (stat k) buffer = take k buffer
 bytes_put request reply buffer = []
 
--- the bytes of a buffer behind those that a reply put into it are as they were
+-- the bytes of a buffer after those that a reply put into it are as they were
 abbrev pub KeepsRest : PlainRequest → PlainReply → List ℕ → List ℕ → Type 0
 KeepsRest request reply old new =
     drop (length (bytes_put request reply new)) new ≡ drop (length (bytes_put request reply new)) old
@@ -135,7 +136,7 @@ CanAsk (requests.Sync n) room = ⊤
 
 -- ---- the form of a reply
 
--- the qids of a walk: no more than its names, and at least one where it has names
+-- the qids of a walk: no more than its names, and at least one if it has names
 pub record AreWalked (names : List (List ℕ)) (qids : List Qid) : Type 0 where
   pub few : length qids ≤ length names
   pub some : 0 < length names → 0 < length qids

@@ -19,7 +19,7 @@ spliced old at bytes =
 abbrev pub is_met : ℕ → ℕ → ℕ → Bool
 is_met low high i = nat_lt low ((i + 1) * chunk_length) && nat_lt (i * chunk_length) high
 
--- chunk i of these bytes, where each of its bytes is there
+-- chunk i of these bytes, if each of its bytes is there
 abbrev pub sealed_chunk : List (Option ℕ) → ℕ → Option Cell
 sealed_chunk bytes i = option_map (λ clear. good clear) (all_there (take chunk_length (drop (i * chunk_length) bytes)))
 
@@ -40,21 +40,21 @@ cut_cells old n =
     if n % chunk_length == 0 then Some (take (n / chunk_length) old)
     else option_map (λ last. take (n / chunk_length) old ++ last ∷ []) (sealed_chunk (take n (joined_cells old)) (n / chunk_length))
 
--- the chunks after a change of the length to n bytes: a cut, or zeros behind the end
+-- the chunks after a change of the length to n bytes: a cut, or zeros after the end
 abbrev pub resized_cells : List Cell → ℕ → Option (List Cell)
 resized_cells old n =
     let len = length (joined_cells old) in
     if nat_le n len then cut_cells old n else written_cells old len (replicate (n - len) 0)
 
--- a content whose chunks are changed, which is done only where its header opens
+-- a content whose chunks are changed, which is done only if its header opens
 abbrev pub with_chunks : (List Cell → Option (List Cell)) → Content → Option Content
 with_chunks change bad_size = None
 with_chunks change (chunks opens cells) = if opens then option_map (λ cells. chunks true cells) (change cells) else None
 
--- the content after at least one byte is written from an offset on, and None where what would be kept of a chunk doesn't open
+-- the content after at least one byte is written from an offset on, and None if what would be kept of a chunk doesn't open
 unfoldable pub written : Content → ℕ → List ℕ → Option Content
 written content at bytes = with_chunks (λ cells. written_cells cells at bytes) content
 
--- the content after its length is changed, and None where what would be kept of a chunk doesn't open
+-- the content after its length is changed, and None if what would be kept of a chunk doesn't open
 unfoldable pub resized : Content → ℕ → Option Content
 resized content n = with_chunks (λ cells. resized_cells cells n) content

@@ -4,3 +4,5 @@ pub mod Rows
 pub mod Contents
 pub mod Asked
 pub mod Step
+pub mod History
+pub mod Laws

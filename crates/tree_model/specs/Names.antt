@@ -32,7 +32,7 @@ checked_name name =
     option_map_or (λ fault. Err fault) (form_fault name)
     (if nat_lt name_limit (length name) then Err (too_long (length name)) else Ok name)
 
--- the clear name that bytes stand for: their form NFC, where they are UTF-8 and that and they themselves are good. What the bytes alone
+-- the clear name that bytes stand for: their form NFC, if they are UTF-8 and that and they themselves are good. What the bytes alone
 -- refuse is refused before their form NFC is needed
 unfoldable pub clear_name : List ℕ → Result (List ℕ) NameFault
 clear_name bytes =

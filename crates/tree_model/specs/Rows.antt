@@ -16,7 +16,7 @@ pub data Kind : Type 0 where
   link : Kind
   bad : Kind
 
--- a chunk of a file: its clear bytes, or, where it doesn't open, how many there would be
+-- a chunk of a file: its clear bytes, or, if it doesn't open, how many there would be
 pub data Cell : Type 0 where
   good : List ℕ → Cell
   damaged : ℕ → Cell
@@ -39,8 +39,8 @@ pub record Row : Type 0 where
   pub version : ℕ
   pub modified : ℕ
 
--- all nodes; the number that comes next, where each number below it without a row is a node that was removed; and whether
--- an identifier is named twice
+-- all nodes; the next number, below which each number without a row is a node that was removed; and whether an identifier
+-- is named twice
 pub record Rows : Type 0 where
   pub nodes : List Row
   pub next : ℕ
@@ -48,7 +48,7 @@ pub record Rows : Type 0 where
 
 -- ---- content
 
--- the bytes of a chunk, each of them None where it doesn't open
+-- the bytes of a chunk, each of them None if it doesn't open
 abbrev pub cell_bytes : Cell → List (Option ℕ)
 cell_bytes (good bytes) = map (λ b. Some b) bytes
 cell_bytes (damaged n) = replicate n None
@@ -65,13 +65,13 @@ joined (chunks opens cells) = joined_cells cells
 abbrev pub content_length : Content → ℕ
 content_length content = length (joined content)
 
--- all of them, where each of them is there
+-- all of them, if each of them is there
 abbrev pub all_there : {X : Type 0} → List (Option X) → Option (List X)
 all_there [] = Some []
 all_there (None ∷ xs) = None
 all_there (Some x ∷ xs) = option_map (λ rest. x ∷ rest) (all_there xs)
 
--- the bytes from `at` on, at most `most`, where each of them opens
+-- the bytes from `at` on, at most `most`, if each of them opens
 abbrev pub slice_of : Content → ℕ → ℕ → Option (List ℕ)
 slice_of content at most = all_there (take most (drop at (joined content)))
 

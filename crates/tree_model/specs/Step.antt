@@ -206,11 +206,11 @@ bytes_answer (Some bytes) = record { reply = count (length bytes); bytes = bytes
 
 -- ---- listing
 
--- the name stands after the last one that was given
+-- the name follows the last one that was given
 abbrev pub is_behind : Option (List ℕ) → List ℕ → Bool
 is_behind after name = option_map_or (λ last. is_gt (slice_cmp nat_cmp name last)) after true
 
--- the stats of a directory's nodes whose names stand after this one, in the order of the names' bytes
+-- the stats of a directory's nodes whose names follow this one, in the order of the names' bytes
 abbrev pub stats_behind : Rows → ℕ → Option (List ℕ) → List (List ℕ)
 stats_behind rows parent after =
     map (λ named. spelled_stat (stat_at named.1)) (filter (λ named. is_behind after named.0) (finmap.entries (named_children rows parent)))
@@ -236,14 +236,14 @@ list_answer rows row after most = bytes_answer (Some (concat (fitting most (stat
 
 -- ---- writing
 
--- the largest file, and the largest gap behind its end, in bytes
+-- the largest file, and the largest gap past its end, in bytes
 abbrev pub file_limit : ℕ
 file_limit = 2 ^ 40
 
 abbrev pub gap_limit : ℕ
 gap_limit = 1048576
 
--- what keeps a content from being changed up to an end, behind a gap from its own end up to `at`, before its chunks are looked at
+-- what keeps a content from being changed up to an end, after a gap from its own end up to `at`, before its chunks are looked at
 abbrev pub growth_refusal : Content → ℕ → ℕ → Option Refusal
 growth_refusal content at end =
     if is_bad_size content then Some refusals.Damaged
@@ -313,11 +313,11 @@ touches_fixed row c =
     || is_other c.accessed row.modified || is_other_text c.owner owner || is_other_text c.group owner
     || is_other_text c.modifier owner
 
--- the name that is asked for, where its form NFC isn't the node's own
+-- the name that is asked for, if its form NFC isn't the node's own
 abbrev pub new_name : Row → PlainChange → Option (List ℕ)
 new_name row c = option_map_or (λ name. if bytes_eq (nfc_of name) row.name then None else Some name) c.name None
 
--- the length that is asked for, where it isn't the node's own
+-- the length that is asked for, if it isn't the node's own
 abbrev pub new_length : Row → PlainChange → Option ℕ
 new_length row c = option_map_or (λ n. if n == shown_length row then None else Some n) c.length None
 
@@ -333,7 +333,7 @@ length_refusal file content n = growth_refusal content n n
 abbrev pub rename_refusal : Row → List ℕ → Option Refusal
 rename_refusal row name = if row.number == root then None else raw_name_refusal name
 
--- what keeps name and length from being changed, by the name that is asked for and the new length. Where both are given, whether there
+-- what keeps name and length from being changed, by the name that is asked for and the new length. If both are given, whether there
 -- are two changes at a time needs the name's form NFC
 abbrev pub place_refusal : Row → Option (List ℕ) → Option ℕ → Option Refusal
 place_refusal row None None = None
@@ -353,7 +353,7 @@ change_refusal row c =
     else if touches_fixed row c then Some refusals.NotPermitted
     else place_refusal row c.name (new_length row c)
 
--- the node after a change at a second; the mtime that is asked for stands
+-- the node after a change at a second; the mtime that is asked for is kept
 abbrev pub with_mtime : PlainChange → Row → Row
 with_mtime c row = record row { modified = unwrap_or c.modified row.modified }
 
@@ -399,7 +399,7 @@ early rows row (stat_of n) = None
 early rows row (change n c) = change_refusal row c
 early rows row (sync n) = None
 
--- what a request leads to where no refusal came before the work
+-- what a request leads to if no refusal comes before the work
 abbrev pub work : Rows → Row → PlainRequest → ℕ → Stepped
 work rows row (look n) now = stepped rows (says (qid (qid_of row)))
 work rows row (walk n names) now = stepped rows (walk_answer (walk_from rows row names))

@@ -28,7 +28,7 @@ pub record IsQid (q : Qid) : Type 0 where
 
 -- ---- stats
 
--- what a stat says, without where its names lie in memory
+-- what a stat says, but not where its names lie in memory
 pub record PlainStat : Type 0 where
   pub kind : ℕ
   pub device : ℕ

@@ -29,7 +29,7 @@ pub enum Refusal {
     Damaged,
     /// The folder has entries that aren't the vault's, which are never touched.
     Foreign,
-    /// The host path where the new node would stand is taken.
+    /// The host path where the new node would be is taken.
     PlaceTaken(VaultPath),
     /// The store stopped when the commit of this entry failed.
     Stopped(u64),

@@ -1,6 +1,6 @@
 use crate::{Qid, Refusal};
 
-/// The answer to a request. Bytes that belong to it stand in the caller's buffer.
+/// The answer to a request. Bytes that belong to it are in the caller's buffer.
 #[derive(Debug, PartialEq, Eq, Drop)]
 pub enum Reply {
     /// To `Look`, `OpenNode` and `Create`: the node.

@@ -1,6 +1,6 @@
 use crate::StatChange;
 
-/// The names of a walk, as they stand in a message: `count` of them, each its length as 2 bytes, least significant first,
+/// The names of a walk, as they are in a message: `count` of them, each its length as 2 bytes, least significant first,
 /// and then that many bytes.
 #[derive(Clone, Copy, Debug, PartialEq, Eq)]
 pub struct Names<'a> {

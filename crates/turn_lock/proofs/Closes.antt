@@ -84,7 +84,7 @@ module _ {E : Type 0} where
   total_only f (x ∷ xs) (suc i) v e h = let a = h 0 x (λ z. omega arith) refl in let b = total_only f xs i v e (λ j u ne g. h (suc j) u (λ z. ne (omega arith)) g) in omega arith
 
 module _ {S E : Type 0} (stands : S → List (Ended E) → Type 0) where
-  -- where one token has all parts, no other has a ticket, or took the slot
+  -- if one token has all parts, no other has a ticket, or took the slot
   ends : (seats id : ℕ) (s : St stands) (v : View E) (ws : List (View E)) → Kept stands seats s → get_elem? s.views id ≡ some v → IsAll seats v ws
       → (y : S) × (get_elem? s.homes 0 ≡ some (some (Some y))) × IsEnd stands y ws
   ends seats id s v ws k at all =

@@ -22,7 +22,7 @@ late_le : (late : Bool) (parts : ℕ) → (if late then 0 else parts) ≤ parts
 late_le true parts = omega arith
 late_le false parts = omega arith
 
--- a place where something stands is below the length
+-- a place that holds something is below the length
 pub in_range : {A : Type 0} (l : List A) (i : ℕ) (a : A) → get_elem? l i ≡ some a → i < length l
 in_range [] i a e = absurd (some-ne-none a (sym e))
 in_range (x ∷ xs) zero a e = omega arith
@@ -116,7 +116,7 @@ module _ {E : Type 0} where
       ⊎_elim (λ a. ⊎_elim (λ b. h i j t u w a b p q lt) (λ (b : (j ≡ length views) × (r ≡ w)). absurd (not_new w b.1 q)) (snoc_at views r w j f))
       (λ (a : (i ≡ length views) × (r ≡ u)). absurd (not_new u a.1 p)) (snoc_at views r u i e)
 
-  -- a view comes whose number, if any, is new
+  -- a view is added whose number, if any, is new
   pub numbered_snoc : (next : ℕ) (views : List (View E)) (r : View E) → r.met ≡ []
       → ((n : ℕ) → r.number ≡ Some n → (n < next) × (n ≢ 0) × ((i : ℕ) (u : View E) → get_elem? views i ≡ some u → u.number ≡ Some n → ⊥)
       × ((j k : ℕ) (w : View E) (m : Met E) → get_elem? views j ≡ some w → get_elem? w.met k ≡ some m → m.by ≡ Some n → ⊥))
@@ -299,7 +299,7 @@ module _ {S E : Type 0} (stands : S → List (Ended E) → Type 0) where
         placed = inl (id, w, set_here s.views id w (in_range s.views id v at), refl);
       }
 
-  -- the count of turns is found, and where it is the ticket, the slot is taken
+  -- the count of turns is found, and if it is the ticket, the slot is taken
   pub looks : (seats slots id : ℕ) (v : View E) (c : List (ℕ × Option S)) (t : ℕ) → v.ticket ≡ Some t → t < TURN_LIMIT → v.took ≡ false
       → Allows (Kept stands seats) slots id (v, c) 1 (λ x. x) (looked stands (step slots 1 0 0 none) (v, c))
   looks seats slots id v c t has lt free s k _ at _ =
@@ -426,7 +426,7 @@ module _ {S E : Type 0} (stands : S → List (Ended E) → Type 0) where
         (λ z same. let pair : Some y ≡ Some z = ap (λ (l : List (ℕ × Option S)). (get_or l 0 (0, Some y)).1) same in let one : y ≡ z = cc in record { entry = e; is = may.is; after = refl; right = subst (λ (x : S). stands x (v.seen ++ ended_by v e ∷ [])) one right }),
       )
 
-  -- a view comes that can do nothing, or that has the next number
+  -- a view is added that can do nothing, or that has the next number
   pub arrived : (seats next : ℕ) (s : St) (r : View E) (log : List (Ended E)) → seats < TURN_LIMIT → next ≤ seats → Making seats s.views → (r.number ≡ Some 0 → ⊥) → length s.words ≡ 2 → ((n : ℕ) → next ≤ n → turns_by n log ≡ []) → get_or s.words 1 0 ≡ length log
       → ((j : ℕ) (v : View E) → get_elem? s.views j ≡ some v → Fits log (tickets s) v) → Fits log (tickets s) r → Distinct s.views → r.ticket ≡ None → Numbered next (s.views ++ r ∷ [])
       → total parts_of s.views + r.parts ≡ seats → total drawn_of s.views + r.drawn ≡ tickets s → tickets s + (total unspent_of s.views + r.parts) ≤ TURN_LIMIT + seats

@@ -112,7 +112,7 @@ module _ {E : Type 0} where
   abbrev Source : List (View E) → View E → View E → ℕ → Type 0
   Source views w y m = (k : ℕ) (z : Met E) → get_elem? y.met k ≡ some z → z.by ≡ Some m → (w.number ≡ Some m) ⊎ ((j i : ℕ) × (y' : View E) × (get_elem? views j ≡ some y') × (get_elem? y'.met i ≡ some z))
 
-  -- where the numbers stay with their views, but for one that was met
+  -- if the numbers stay with their views, but for one that was met
   numbered_joined : (next id other : ℕ) (views : List (View E)) (v w : View E) → get_elem? views id ≡ some v → get_elem? views other ≡ some w → Numbered next views
       → Numbered next (set (set views id (joined v w)) other spent_view)
   numbered_joined next id other views v w at at' h =
@@ -149,7 +149,7 @@ module _ {E : Type 0} where
       λ i. record { number = v.number; given = v.given; parts = a i; ticket = b i; drawn = c i; took = v.took; seen = longer v.seen u.seen; mine = v.mine; met = [] }
 
 module _ {S E : Type 0} (stands : S → List (Ended E) → Type 0) where
-  -- a token comes that has seen as much
+  -- a token is added that has seen as much
   pub copies : (seats id : ℕ) (v : View E) → Splits (Kept stands seats) id v v (witness v)
   copies seats id v s k at =
       let r : View E = witness v in

@@ -46,14 +46,14 @@ module _ {E : Type 0} where
       elim (eqb x.by n) as (λ (t : Bool). (if t then (x ∷ turns_by n (a ++ b)) else turns_by n (a ++ b)) ≡ (if t then (x ∷ turns_by n a) else turns_by n a) ++ turns_by n b)
       [ true ↦ ap (λ (l : List (Ended E)). x ∷ l) (turns_by-append n a b) | false ↦ turns_by-append n a b ]
 
-  -- where a list has no turn of a number, its beginnings have none
+  -- if a list has no turn of a number, its beginnings have none
   pub turns_by-prefix_none : (n : ℕ) (seen more : List (Ended E)) → turns_by n (seen ++ more) ≡ [] → turns_by n seen ≡ []
   turns_by-prefix_none n [] more e = refl
   turns_by-prefix_none n (x ∷ xs) more e =
       elim (eqb x.by n) as (λ (b : Bool). (if b then (x ∷ turns_by n (xs ++ more)) else turns_by n (xs ++ more)) ≡ [] → (if b then (x ∷ turns_by n xs) else turns_by n xs) ≡ [])
       [ true ↦ (λ h. cc) | false ↦ (λ h. turns_by-prefix_none n xs more h) ] e
 
-  -- a list turns_by-between a beginning and the whole has as many turns of a number as both, where these have the same
+  -- a list between a beginning and the whole has as many turns of a number as both, if these have the same
   pub turns_by-between : (n : ℕ) (log a b : List (Ended E)) → StartsWith log b → StartsWith b a → turns_by n log ≡ turns_by n a → turns_by n log ≡ turns_by n b
   turns_by-between n log a b h k e =
       let one : turns_by n log ≡ turns_by n b ++ turns_by n h.0 = ap (turns_by n) h.1 ∙ turns_by-append n b h.0 in
@@ -66,7 +66,7 @@ module _ {E : Type 0} where
       let none_more : turns_by n h.0 ≡ [] = no_elements (turns_by n h.0) (omega arith) in
       one ∙ (ap (λ (z : List (Ended E)). turns_by n b ++ z) none_more ∙ append-nil (turns_by n b))
 
-  -- the longer of two lists is the second where that is longer, else the first
+  -- the longer of two lists is the second if that is longer, else the first
   pub longer_cases : (xs ys : List (Ended E)) → ((longer xs ys ≡ ys) × (length xs < length ys)) ⊎ ((longer xs ys ≡ xs) × (length ys ≤ length xs))
   longer_cases xs ys = dite (dec_lt (length xs) (length ys))
       (λ l. let t : ltb (length xs) (length ys) ≡ true = grind (arith, nat_tests) in inl (ap (λ (b : Bool). if b then ys else xs) t, l))
@@ -82,7 +82,7 @@ module _ {E : Type 0} where
   longer_right xs ys = ⊎_elim (λ (a : (longer xs ys ≡ ys) × (length xs < length ys)). let e = ap length a.0 in omega arith)
       (λ (a : (longer xs ys ≡ xs) × (length ys ≤ length xs)). let e = ap length a.0 in let l = a.1 in omega arith) (longer_cases xs ys)
 
-  -- turns since, where a number has none more, are others'
+  -- turns since, if a number has none more, are others'
   pub turns_by-others : (n : ℕ) (seen more : List (Ended E)) → turns_by n (seen ++ more) ≡ turns_by n seen → turns_by n more ≡ []
   turns_by-others n seen more e =
       let a = ap length (sym (turns_by-append n seen more) ∙ e) in

@@ -34,7 +34,7 @@ module _ {E : Type 0} where
   abbrev pub turns_of : View E → ℕ
   turns_of v = has_turn v.ticket
 
-  -- what a view says is so, where these are the turns that ended, and the number of tickets drawn
+  -- what a view says is so, if these are the turns that ended, and the number of tickets drawn
   pub record Fits (log : List (Ended E)) (tickets : ℕ) (v : View E) : Type 0 where
     pub starts : StartsWith log v.seen
     pub owns : Owns log v.number v.seen

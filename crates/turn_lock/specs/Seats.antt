@@ -59,7 +59,7 @@ module _ {E : Type 0} where
       pub follows : Follows old history
       pub right : stands value history
 
-    -- with some entry that is told, or with none, the value stands for what was seen and this turn
+    -- with some entry that is named, or with none, the value stands for what was seen and this turn
     pub record MayEnd (tells : Option E → Type 0) (seat : SeatView E) (value : S) : Type 0 where
       pub entry : Option E
       pub told : tells entry

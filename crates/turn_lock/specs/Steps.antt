@@ -1,4 +1,4 @@
--- What each step tells, and what is done with a token between its steps.
+-- What each step shows, and what is done with a token between its steps.
 use Rattle.std.specs.Prelude.{◌≡◌, ◌≢◌, ℕ, ◌<◌, ◌≤◌, min, true, false, List, [], ◌∷◌, ◌++◌, length, map, Option, Some, None, All}
 use mathlib.Core.Option.{some}
 use lib.ListN.{get_elem?}
@@ -57,7 +57,7 @@ module _ {S E : Type 0} where
     pub owns : Owns history me.0.number me.0.seen
     pub right : stands value history
 
-  -- where the ticket was found, its turn has come; else nothing changed
+  -- if the ticket was found, its turn has come; else nothing changed
   abbrev pub looked : (S → List (Ended E) → Type 0) → Step (Option S) → Sat S E → ℕ → Sat S E → Type 0
   looked stands st me found me' = (me.0.ticket ≡ Some found → Enters stands me me' found) × (me.0.ticket ≢ Some found → me' ≡ me)
 
@@ -66,7 +66,7 @@ module _ {S E : Type 0} where
     pub took : me.0.took ≡ true
     pub slot : me.1 ≡ (0, None) ∷ []
 
-  -- with some entry that is told, or with none, the value stands for what was seen and this turn
+  -- with some entry that is named, or with none, the value stands for what was seen and this turn
   pub record MayGive (stands : S → List (Ended E) → Type 0) (told : Option E → Type 0) (v : View E) (value : S) : Type 0 where
     pub entry : Option E
     pub is : told entry

@@ -16,7 +16,7 @@ pub trait History {
     ghost stands: { Self → List (Ended Self.Entry) → Type 0 };
 }
 
-/// Tells which entry a turn makes, if any. It is read by contracts alone, and stored nowhere.
+/// Says which entry a turn makes, if any. It is read by contracts alone, and stored nowhere.
 pub trait Note<E> {
     ghost tells: { Self → Option E → Type 0 };
 }

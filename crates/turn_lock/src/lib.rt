@@ -12,7 +12,7 @@
 //! ```
 //!
 //! The history exists for contracts alone. At run time a lock is two words and a slot, and a turn is three atomic steps beside the loads
-//! of one word while it waits. Nothing is promised of waiting: not that a turn comes, nor fairness beyond the order of tickets.
+//! of one word while it waits. Nothing is promised of waiting: not that a turn is ever given, nor fairness beyond the order of tickets.
 #![tactic(auto)]
 
 mod history;

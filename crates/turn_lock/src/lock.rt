@@ -65,7 +65,7 @@ impl<V: History> TurnLock<V> {
     }
 
     /// Ends the seat's turn and puts the value back, which has to stand for all turns that the seat has seen and this one, with an entry
-    /// of which the note tells, or with none.
+    /// which the note names, or with none.
     pub fn end<N: Note<V::Entry>>(&self, seat: &mut Seat<V>, turn: Turn<V>, note: &N)
         requires own { seat.old.lock ≡ self.now.id }
         requires turn { seat.old.in_turn ≡ true }

@@ -1,4 +1,4 @@
-//! How a lock and its seats are made, and how the value comes back.
+//! How a lock and its seats are made, and how the value is returned.
 ghost use Rattle.std.specs.Prelude.{◌≡◌, ◌<◌, ◌≤◌, List, [], All, IfOk, IfErr, IfSome, Some, vec_len, vec_capacity};
 ghost use Rattle.turn_lock.specs.declared.rule.View.{View};
 ghost use Rattle.turn_lock.specs.Views.{maker};
@@ -15,7 +15,7 @@ use atomic_table::Seat as Token;
 use std::alloc::Global;
 
 impl<V: History> Turnstile<V> {
-    // All seats, where there is room for them. Number 0 has the rights to the other numbers until each has its own.
+    // All seats, if there is room for them. Number 0 has the rights to the other numbers until each has its own.
     fn fill(
         &self,
         mut first: Token<Option<V>, View<V::Entry>>,

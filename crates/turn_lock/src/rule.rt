@@ -3,7 +3,7 @@ use crate::history::{Ended, History};
 use atomic_table::TableRule;
 use std::collections::LinkedList;
 
-/// What a token had seen when it was met, and its number where it was joined. No value of it is made.
+/// What a token had seen when it was met, and its number if it was joined. No value of it is made.
 pub struct Met<E> {
     pub by: Option<u64>,
     pub seen: LinkedList<Ended<E>>,

@@ -11,7 +11,7 @@ use std::marker::Model;
 pub struct Seat<V: History> {
     pub(crate) token: Token<Option<V>, View<V::Entry>>,
     pub(crate) number: u64,
-    // its ticket, where that has no turn
+    // its ticket, if that has no turn
     pub(crate) late: Option<u64>,
 }
 
@@ -31,7 +31,7 @@ impl<V: History> Seat<V> {
     ghost use Rattle.turn_lock.specs.Views.{fresh, seat_view, IsSeat};
     ghost use Rattle.turn_lock.specs.Seats.{new_seat};
 
-    // A seat that has done nothing. Number 0 counts the numbers that it gave away.
+    /// A seat that has done nothing. Number 0 counts the numbers that it gave away.
     pub(crate) fn new(token: Token<Option<V>, View<V::Entry>>, number: u64) -> Self
         requires { (given : ℕ) × (token.me ≡ (record (fresh number) { given = given }, [])) }
         ensures { result ≡ new_seat token.table_id number }
@@ -73,7 +73,7 @@ impl<V: History> Drop for Seat<V> {
     }
 }
 
-/// The value, for one turn. It borrows nothing, and has to be ended: no other turn comes before.
+/// The value, for one turn. It borrows nothing, and has to be ended: there is no other turn before.
 pub struct Turn<V> {
     pub(crate) value: V,
 }

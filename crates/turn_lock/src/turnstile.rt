@@ -219,7 +219,7 @@ impl<V: History> Turnstile<V> {
         self.table.shared.join_seat::<Both>(all, token);
     }
 
-    /// The value, where this token knows all that the tokens with some views knew.
+    /// The value, if this token knows all that the tokens with some views knew.
     pub(crate) fn into_value(self, all: Token<Option<V>, View<V::Entry>>) -> V
         requires own { all.table_id ≡ self.table.shared.table_id }
         requires all { (ws : List (View V.Entry)) × IsAll self.table.shared.key all.me.0 ws }

@@ -12,7 +12,7 @@ use std::{env, io, thread};
 use thiserror::Error;
 use turn_lock::{History, NoEntry, Seat, TurnLock};
 
-/// Why no count is printed.
+// Why no count is printed.
 #[derive(Debug, Drop, Error)]
 enum BenchErr {
     #[error("the words are: turns or mutex, threads, repetitions")]
@@ -23,7 +23,7 @@ enum BenchErr {
     Alloc(#[from] AllocError),
 }
 
-/// A counter that stands for any turns.
+// A counter that stands for any turns.
 #[derive(Drop)]
 struct Counter {
     count: u64,

@@ -10,8 +10,8 @@ use std::thread;
 use std::thread::Threads;
 use turn_lock::{Seat, TurnLock};
 
-/// What threads were told together: the sum of all numbers, and how many numbers were no greater than the one that the same thread was
-/// told before.
+// What threads were told together: the sum of all numbers, and how many numbers were no greater than the one that the same thread was
+// told before.
 #[derive(Drop)]
 struct Told {
     sum: AtomicU64,
@@ -48,7 +48,7 @@ fn add_often<R: Wait>(
     }
 }
 
-// Each seat in a thread of its own, where one can be made.
+// Each seat in a thread of its own, if one can be made.
 fn all_add<R: Threads + Wait + Sync>(
     rt: &R,
     lock: &TurnLock<Counter>,

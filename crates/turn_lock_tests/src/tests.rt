@@ -5,7 +5,7 @@ use std::process::Abort;
 fn eight_threads_lose_no_turn(rt: HostRuntime) {
     let outcome = count_in_threads(&rt, rt.alloc(), 8, 10_000).expect(&rt, "memory");
     assert_eq!(rt; outcome.count, 80_000);
-    // Each number from 0 on was told once, and to each thread in rising order.
+    // Each number from 0 on was returned once, and to each thread in rising order.
     assert_eq!(rt; outcome.sum, 80_000 * 79_999 / 2);
     assert_eq!(rt; outcome.falls, 0);
 }

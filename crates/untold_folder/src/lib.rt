@@ -29,7 +29,7 @@ impl<D> Untelling<D> {
     }
 }
 
-// The count of faults after an answer: one more where the folder failed or the call didn't fit.
+// The count of faults after an answer: one more if the folder failed or the call didn't fit.
 fn counted<T>(faults: u64, answer: &Result<T, FolderErr>) -> u64
     ensures unfit { IsErrOf answer.now FolderErr.Unfit → Rose faults result }
     ensures cause { HasCause faults result (IsErrOf answer.now FolderErr.Failed) }

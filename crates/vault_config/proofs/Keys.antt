@@ -1,4 +1,4 @@
--- Both keys, one behind the other.
+-- Both keys, one after the other.
 use Rattle.std.proofs.Common.{◌≡◌, ℕ, List, [], ◌++◌, length, take, drop, ap, arith}
 use Rattle.std.proofs.lemmas.List.{take_at, drop_at, drop_all, append-nil}
 use borrow.Rule.Slice.PartMut.{put_mid}

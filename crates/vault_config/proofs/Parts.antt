@@ -12,7 +12,7 @@ use Rattle.vault_config.specs.Token.{trimmed, pieces_of, token_of_pieces}
 abbrev is_dot : ℕ → Bool
 is_dot b = b == 46
 
--- how many bytes stand before the first dot
+-- how many bytes are before the first dot
 abbrev front_len : List ℕ → ℕ
 front_len bytes = prefix_len (λ b. not (is_dot b)) bytes
 

@@ -46,7 +46,7 @@ token_of_pieces (header ∷ payload ∷ signature ∷ []) =
     (decoded_object payload)) (decoded_object header)
 token_of_pieces pieces = None
 
--- the token that bytes are, and None where they are none: other than three pieces, a piece that is no base64url, a header or a payload that is no
+-- the token that bytes are, and None if they are none: other than three pieces, a piece that is no base64url, a header or a payload that is no
 -- JSON object
 unfoldable pub token_of : List ℕ → Option Token
 token_of bytes = token_of_pieces (pieces_of (trimmed bytes))

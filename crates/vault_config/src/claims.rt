@@ -16,7 +16,7 @@ pub const MAX_THRESHOLD: u32 = 250;
 // The same, as claims have integers of 64 bits.
 const MAX_CLAIMED_THRESHOLD: u64 = MAX_THRESHOLD as u64;
 
-// The threshold that claims say, tested in the order format, combination, threshold.
+/// The threshold that claims say, tested in the order format, combination, threshold.
 pub(crate) fn check_claims(claims: &Object) -> Result<u32, ConfigErr>
     ensures { MatchResult result (λ n. claims_checked claims.now ≡ Ok n) (λ e. IsFault e (claims_checked claims.now)) }
 {

@@ -16,7 +16,7 @@ use std::alloc::{AllocError, Global};
 use std::error::Error;
 use std::fmt;
 
-// The name by which the header says that the key is the one in the file beside this one.
+/// The name by which the header says that the key is the one in the file beside this one.
 pub(crate) const KEY_ID: &str = "masterkeyfile:masterkey.cryptomator";
 
 /// A claim of a configuration. It is shown as its name in JSON.
@@ -31,7 +31,7 @@ pub enum ClaimName {
 }
 
 impl ClaimName {
-    // The name in JSON.
+    /// The name in JSON.
     pub(crate) fn json_name(self) -> &'static str
         ensures { result.now ≡ name_of (claim_of self) }
     {
@@ -124,7 +124,7 @@ pub struct Config {
 
 /// Reads the configuration of the vault with these keys: a JSON Web Token in compact form (RFC 7519), signed by HMAC under
 /// both keys, the encryption key first. ASCII white space at the end (tab, LF, FF, CR, space), other header fields (`crit` too) and
-/// other claims (`exp` and `nbf` too) are ignored. No claim is looked at before the signature. `ConfigErr` tells each error's cause, in the order of the tests.
+/// other claims (`exp` and `nbf` too) are ignored. No claim is looked at before the signature. `ConfigErr` gives each error's cause, in the order of the tests.
 pub fn read(alloc: Global, bytes: &[u8], keys: &VaultKeys) -> Result<Config, ConfigErr>
     ensures config { IfOk result (λ c. config_of keys.now bytes.now ≡ Ok c.threshold) }
     ensures range { IfOk result (λ c. (1 ≤ c.threshold) × (c.threshold ≤ MAX_THRESHOLD)) }
@@ -207,7 +207,7 @@ fn has_key_id(header: &Object) -> bool
     }
 }
 
-// What signs: both keys, the encryption key first.
+/// What signs: both keys, the encryption key first.
 pub(crate) fn signing_key(keys: &VaultKeys) -> [u8; 64]
     ensures { result ≡ signing_key keys.now }
 {

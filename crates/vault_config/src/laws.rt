@@ -6,8 +6,8 @@ ghost use Rattle.vault_config.specs.Config.{config_of, too_long};
 
 use json_members::FILE_LIMIT;
 
-/// A file of more than `FILE_LIMIT` bytes is too long, whatever its bytes and the keys are: its length tells all. It does
-/// nothing.
+/// A file of more than `FILE_LIMIT` bytes is too long, whatever its bytes and the keys are: its length alone decides. It
+/// does nothing.
 pub fn a_long_file_is_too_long()
     ensures { (keys : KeyPair) (bytes : List ℕ) → FILE_LIMIT < length bytes → config_of keys bytes ≡ Err (too_long (length bytes)) }
 {}

@@ -12,7 +12,7 @@ use hmac_sha::{hmac256, hmac384, hmac512};
 use json_members::{Object, ObjectErr};
 use std::alloc::{AllocError, Global};
 
-// The algorithms that are accepted (RFC 7518, section 3.2).
+/// The algorithms that are accepted (RFC 7518, section 3.2).
 #[derive(Clone, Copy)]
 pub(crate) enum Algorithm {
     Hs256,
@@ -20,7 +20,7 @@ pub(crate) enum Algorithm {
     Hs512,
 }
 
-// A token's pieces as they came, and the text that is signed: the header, a dot and the payload.
+/// A token's pieces as they came, and the text that is signed: the header, a dot and the payload.
 #[derive(Clone, Copy)]
 pub(crate) struct Pieces<'a> {
     pub(crate) text: &'a [u8],
@@ -29,7 +29,7 @@ pub(crate) struct Pieces<'a> {
     pub(crate) signature: &'a [u8],
 }
 
-// The pieces of bytes that have three with dots between them.
+/// The pieces of bytes that have three with dots between them.
 pub(crate) fn three_pieces(bytes: &[u8]) -> Option<Pieces<'_>>
     ensures { MatchOption result (token_of_pieces (pieces_of bytes.now) ≡ None)
         (λ p. (pieces_of bytes.now ≡ p.header.now ∷ p.payload.now ∷ p.signature.now ∷ []) × (p.text.now ≡ p.header.now ++ 46 ∷ p.payload.now)) }
@@ -47,7 +47,7 @@ pub(crate) fn three_pieces(bytes: &[u8]) -> Option<Pieces<'_>>
     }
 }
 
-// What stands before the first dot and behind it.
+// What is before the first dot and after it.
 fn around_dot(bytes: &[u8]) -> Option<(&[u8], &[u8])>
     ensures { MatchOption result (pieces_of bytes.now ≡ bytes.now ∷ [])
         (λ p. (pieces_of bytes.now ≡ p.0.now ∷ pieces_of p.1.now) × (bytes.now ≡ p.0.now ++ 46 ∷ p.1.now)) }
@@ -56,14 +56,14 @@ fn around_dot(bytes: &[u8]) -> Option<(&[u8], &[u8])>
     Some((&bytes[..dot], &bytes[dot + 1..]))
 }
 
-// Where the first dot stands.
+// Where the first dot is.
 fn dot(bytes: &[u8]) -> Option<usize>
     ensures { result ≡ position (λ b. b == 46) bytes.now }
 {
     bytes.iter().position(|b| *b == b'.')
 }
 
-// The bytes that a piece encodes in base64url without padding.
+/// The bytes that a piece encodes in base64url without padding.
 pub(crate) fn decoded(alloc: Global, piece: &[u8]) -> Result<Option<Vec<u8>>, AllocError>
     ensures { IfOk result (λ found. MatchOption found (decoded piece.now ≡ None) (λ bytes. decoded piece.now ≡ Some bytes.items)) }
 {
@@ -74,7 +74,7 @@ pub(crate) fn decoded(alloc: Global, piece: &[u8]) -> Result<Option<Vec<u8>>, Al
     }
 }
 
-// The JSON object that a piece encodes.
+/// The JSON object that a piece encodes.
 pub(crate) fn decoded_object(alloc: Global, piece: &[u8]) -> Result<Option<Object>, AllocError>
     ensures { IfOk result (λ found. found ≡ decoded_object piece.now) }
 {
@@ -88,7 +88,7 @@ pub(crate) fn decoded_object(alloc: Global, piece: &[u8]) -> Result<Option<Objec
     }
 }
 
-// The algorithm that a header names, if it is accepted.
+/// The algorithm that a header names, if it is accepted.
 pub(crate) fn algorithm_of(header: &Object) -> Option<Algorithm>
     ensures { option_map algorithm_data result ≡ option_and_then algorithm_named (text_at (codes "alg") header.now) }
 {
@@ -100,7 +100,7 @@ pub(crate) fn algorithm_of(header: &Object) -> Option<Algorithm>
     }
 }
 
-// Whether bytes are the signature of a text under a key. The comparison takes as long wherever they differ.
+/// Whether bytes are the signature of a text under a key. The comparison takes as long wherever they differ.
 pub(crate) fn is_signature(algorithm: Algorithm, key: &[u8], text: &[u8], signature: &[u8]) -> bool
     ensures { result ≡ bytes_eq (signature_of (algorithm_data algorithm) key.now text.now) signature.now }
 {

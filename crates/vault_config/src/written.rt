@@ -61,7 +61,7 @@ fn signature(alloc: Global, keys: &VaultKeys, text: &[u8]) -> Result<String, All
     URL_SAFE_NO_PAD.encode(alloc, &tag)
 }
 
-// A text with a piece behind it, and a dot between them.
+// A text with a piece after it, and a dot between them.
 fn joined(mut text: String, piece: &str) -> Result<String, AllocError>
     ensures { IfOk result (λ s. string_bytes s ≡ string_bytes text ++ 46 ∷ piece.now) }
 {

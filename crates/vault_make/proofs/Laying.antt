@@ -1,11 +1,11 @@
--- A vault's folder from stage to stage, where the folder tells.
+-- A vault's folder from stage to stage, if the folder tells.
 use Rattle.std.proofs.Common.{◌≡◌, ℕ, List, Option, sym, ap, subst, ◌∙◌}
 use Rattle.outside.specs.Calls.{Told, Changes}
 use Rattle.outside.specs.Disk.{Disk, Path, parent}
 use Rattle.outside.specs.Changes.{Change, MakeDir, Move, Put, CanDo, done}
 use Rattle.outside.specs.Images.{Log, now, IsSteady}
 use Rattle.outside.proofs.Told.{through, told_through}
-use Rattle.key_files.specs.Files.{masterkey_place, config_place, new_config_place}
+use Rattle.unlocking.specs.Files.{masterkey_place, config_place, new_config_place}
 use Rattle.vault_make.specs.Vault.{IsEmpty}
 use Rattle.vault_make.specs.Stages.{IsRootPath, HasRoot, HasKeyFiles, IsLaidOut, HasSynced}
 use Rattle.vault_make.proofs.Going.{told_after}

@@ -7,11 +7,11 @@ use Rattle.outside.specs.Disk.{Disk, Path, file}
 use Rattle.outside.specs.Images.{Log, Synced, now, adds, LeavesOnly, IsSteady}
 use Rattle.outside.proofs.Told.{changed_by, changed_from}
 use Rattle.outside.proofs.Moments.{weaker}
-use Rattle.dir_paths.specs.Folder.{folder_of}
+use Rattle.vault_names.specs.Folder.{folder_of}
 use Rattle.masterkey_file.specs.KeyFile.{Fault as KeyFault}
 use Rattle.vault_config.specs.Config.{Fault as ConfigFault}
-use Rattle.vault_keys.specs.Unlock as unlock
-use Rattle.key_files.specs.Files.{found_in}
+use Rattle.unlocking.specs.FromFiles as unlock
+use Rattle.unlocking.specs.Files.{found_in}
 use Rattle.vault_make.specs.Draws.{NewSecrets}
 use Rattle.vault_make.specs.Vault.{IsEmpty, IsNewVault, IsNoneOrNew, LeavesNoneOrNew}
 use Rattle.vault_make.specs.Files.{AreFilesOf}

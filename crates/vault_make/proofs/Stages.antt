@@ -4,7 +4,7 @@ use Rattle.std.specs.Option.{is_some}
 use Rattle.outside.specs.Disk.{Disk, Path, Node, folder, file, node_at, parent, IsTree}
 use Rattle.outside.specs.Changes.{MakeDir, Move, Put, CanDo, done, set_at}
 use Rattle.outside.proofs.Paths.{by_path, set_here, set_there}
-use Rattle.key_files.specs.Files.{masterkey_place, config_place, new_config_place}
+use Rattle.unlocking.specs.Files.{masterkey_place, config_place, new_config_place}
 use Rattle.vault_make.specs.Vault.{top_name, IsEmpty}
 use Rattle.vault_make.specs.Stages.{HasBareRoot, HasRoot, HasKeyFiles, IsLaidOut}
 
@@ -12,7 +12,7 @@ none_of : (o : Option Node) → (IsSome o → o ≡ None) → o ≡ None
 none_of None h = refl
 none_of (Some node) h = h (cc)
 
--- nothing stands below nothing
+-- nothing is below nothing
 none_below : (d : Disk) (p : Path) → IsTree d → node_at d (parent p) ≡ None → node_at d p ≡ None
 none_below d p tree none = none_of (node_at d p) (λ some. let f : Some folder ≡ None = sym (tree.parents p some) ∙ none in absurd cc)
 
@@ -76,9 +76,9 @@ has_root d a b empty = record {
   free = λ name other. beside d a b (name ∷ []) (λ e. other cc) (λ e. cc) (λ e. cc) ∙ empty.bare name;
 }
 
--- ---- what stands elsewhere stays
+-- ---- what is elsewhere stays
 
--- the root stays where something is put elsewhere, at the top
+-- the root stays if something is put elsewhere, at the top
 root_stays : (d : Disk) (place : Path) (name : List ℕ) (v : Option Node) → HasBareRoot place d → HasBareRoot place (set_at d (name ∷ []) v)
 root_stays d place name v root =
     let is = root.path.2 in

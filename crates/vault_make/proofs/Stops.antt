@@ -7,7 +7,7 @@ use Rattle.outside.specs.Images.{Log, Did, Broke, Synced, now, adds, IsImage, Le
 use Rattle.outside.proofs.Paths.{set_there}
 use Rattle.outside.proofs.Moments.{started, goes_to, joined, ends, weaker}
 use Rattle.outside.proofs.Told.{changed_by, through, told_through, unchanged}
-use Rattle.key_files.specs.Files.{masterkey_place, config_place, new_config_place}
+use Rattle.unlocking.specs.Files.{masterkey_place, config_place, new_config_place}
 use Rattle.vault_make.specs.Vault.{IsEmpty, IsNoVault}
 use Rattle.vault_make.specs.Stages.{IsRootPath, HasKeyFiles, IsLaidOut, HasCalled, HasSynced, LeavesFromNone, IsNoneOrLaidOut}
 use Rattle.vault_make.proofs.Stages.{top, middle, masterkey_beside_config, new_beside_config, config_below, is_laid_out}
@@ -118,12 +118,12 @@ move_leaves place p q masterkey config old mid new e f has synced called none = 
     by_case (inr (inl same)) = subst (λ (l : Log). LeavesOnly old l P) (sym same) so_far
     by_case (inr (inr broke)) = goes_to old mid new (Broke (Move p q) broke.0) P so_far broke.2 (λ c image. let i = subst (λ (l : Log). IsImage l c) broke.2 image in part i.0 c i.1 i.2)
 
--- where the first sync failed
+-- if the first sync failed
 pub not_begun : (a b : Option Log) (place : Path) (masterkey config : List ℕ) → b ≡ a → Changes a b (LeavesFromNone (IsNoneOrLaidOut place masterkey config))
 not_begun a b place masterkey config same =
     unchanged a b (LeavesFromNone (IsNoneOrLaidOut place masterkey config)) same (λ x none. started x (IsNoneOrLaidOut place masterkey config) (λ c image. inl (none c image)))
 
--- where the last sync wasn't made, or failed
+-- if the last sync wasn't made, or failed
 pub moved_leaves : (a b c d : Option Log) (place p q : Path) (masterkey config : List ℕ) → p ≡ new_config_place → q ≡ config_place → Told a (λ log. HasKeyFiles place masterkey config (now log))
     → Syncs a b → Changes b c (HasCalled (Move p q)) → d ≡ c → Changes a d (LeavesFromNone (IsNoneOrLaidOut place masterkey config))
 moved_leaves a b c d place p q masterkey config e f has synced called same =

@@ -1,4 +1,4 @@
--- Why no vault is made, and what stands then.
+-- Why no vault is made, and what there is then.
 use Rattle.std.specs.Prelude.{◌≡◌, ◌⊎◌, ℕ, List}
 use Rattle.outside.specs.declared.folder.FolderErr.{FolderErr}
 use Rattle.outside.specs.declared.folder.FolderErr.TheVariants as folder_errs
@@ -20,15 +20,15 @@ pub record IsUnwritten (folder folder' : FolderView) : Type 0 where
   pub log : folder'.log ≡ folder.log
   pub changes : folder'.changes ≡ folder.changes
 
--- what stands where the folder was empty
+-- what there is if the folder was empty
 abbrev pub IsBegun : List ℕ → MakeErr → FolderView → FolderView → EntropyView → EntropyView → Type 0
 IsBegun password (NotEmpty name) folder folder' entropy entropy' = ⊥
 IsBegun password Device folder folder' entropy entropy' = IsUnwritten folder folder' ⊎ HasBegun password folder folder' entropy entropy'
 IsBegun password Entropy folder folder' entropy entropy' = IsUnwritten folder folder'
 IsBegun password Memory folder folder' entropy entropy' = IsUnwritten folder folder'
 
--- What stands after an error: where the folder has entries nothing was drawn, and nothing was written unless the folder failed; then it failed
--- before the first sync's end, or no stop since leaves a part for a vault.
+-- What follows an error: if the folder has entries nothing was drawn, and nothing was written unless the folder failed; then it failed before
+-- the first sync's end, or no stop since leaves a part for a vault.
 abbrev pub IsUnmade : List ℕ → MakeErr → FolderView → FolderView → EntropyView → EntropyView → Type 0
 IsUnmade password (NotEmpty name) folder folder' entropy entropy' =
     Told folder.log (λ log. IsFirstEntry (now log) name) × IsUnwritten folder folder' × (entropy' ≡ entropy)

@@ -3,7 +3,7 @@ use Rattle.std.specs.Prelude.{◌≡◌, ◌≢◌, ◌⊎◌, ℕ, List, [], �
 use Rattle.outside.specs.Disk.{Disk, Path, file, node_at, IsFolder}
 use Rattle.outside.specs.Changes.{Change}
 use Rattle.outside.specs.Images.{Log, Synced, now, adds, IsImage, LeavesOnly, HasDone, HasBroken, IsSteady}
-use Rattle.key_files.specs.Files.{masterkey_place, config_place, new_config_place}
+use Rattle.unlocking.specs.Files.{masterkey_place, config_place, new_config_place}
 use Rattle.vault_make.specs.Vault.{top_name, IsNoVault}
 
 -- a folder of a directory: three parts, of which the first is `d`
@@ -17,7 +17,7 @@ pub record HasBareRoot (place : Path) (disk : Disk) : Type 0 where
   pub there : IsFolder disk place
   pub bare : (name : List ℕ) → node_at disk (place ++ name ∷ []) ≡ None
 
--- and nothing stands beside it
+-- and nothing is beside it
 pub record HasRoot (place : Path) (disk : Disk) : Type 0 where
   pub root : HasBareRoot place disk
   pub free : (name : List ℕ) → name ≢ top_name → node_at disk (name ∷ []) ≡ None
@@ -49,7 +49,7 @@ pub record HasSynced (old new : Log) : Type 0 where
   pub steady : IsSteady new
   pub call : new ≡ adds old Synced
 
--- where no image was a vault, P of each image at each moment since
+-- if no image was a vault, P of each image at each moment since
 abbrev pub LeavesFromNone : (Disk → Type 0) → Log → Log → Type 0
 LeavesFromNone P old new = ((image : Disk) → IsImage old image → IsNoVault image) → LeavesOnly old new P
 

@@ -6,11 +6,11 @@ use Rattle.outside.specs.Calls.{Told, Changes, Extends}
 use Rattle.outside.specs.Disk.{Disk, file, node_at, IsFolder, IsTree}
 use Rattle.outside.specs.Images.{Log, Synced, now, adds, LeavesOnly, IsSteady}
 use Rattle.outside.specs.Views.{FolderView, EntropyView}
-use Rattle.dir_paths.specs.Folder.{folder_of}
+use Rattle.vault_names.specs.Folder.{folder_of}
 use Rattle.masterkey_file.specs.KeyFile.{key_file}
 use Rattle.vault_config.specs.Config.{config_file, identifier_of}
-use Rattle.vault_keys.specs.Unlock.{masterkey_opened, vault_opened}
-use Rattle.key_files.specs.Files.{masterkey_place, config_place, found_at}
+use Rattle.unlocking.specs.FromFiles.{masterkey_opened, vault_opened}
+use Rattle.unlocking.specs.Files.{masterkey_place, config_place, found_at}
 use Rattle.vault_make.specs.Draws.{NewSecrets, AreOfLength, drawn_bytes}
 
 -- a folder without an entry
@@ -28,7 +28,7 @@ abbrev pub top_name : List ℕ
 top_name = 100 ∷ []
 
 -- A vault of these secrets under a password: the password opens its masterkey file to the keys, the keys open its vault file to the threshold
--- 220, and the folder of its root is there and empty, so that its only node is the root. Beside these two files and `d` nothing stands there.
+-- 220, and the folder of its root is there and empty, so that its only node is the root. Beside these two files and `d` nothing is there.
 pub record IsNewVault (password : List ℕ) (secrets : NewSecrets) (disk : Disk) : Type 0 where
   pub masterkey : node_at disk masterkey_place ≡ Some (file (key_file secrets.keys password secrets.salt))
   pub config : node_at disk config_place ≡ Some (file (config_file secrets.keys 220 (identifier_of secrets.jti)))

@@ -9,7 +9,7 @@ use outside::Folder;
 use std::alloc::Global;
 use vault_path::{Text, VaultPath};
 
-/// The first entry of a folder, by the order of the names' bytes, or None where there is none.
+/// The first entry of a folder, by the order of the names' bytes, or None if there is none.
 pub(crate) fn first_entry<D: Folder>(alloc: Global, folder: &mut D) -> Result<Option<Text>, MakeErr>
     ensures entry { IfOk result (λ first. Told (D.log folder.old) (λ log. IsFirstIn (now log) first)) }
     ensures causes { IfErr result (λ e. (e ≡ MakeErr.Device) ⊎ (e ≡ MakeErr.Memory)) }

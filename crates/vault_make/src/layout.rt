@@ -3,15 +3,15 @@
 ghost use Rattle.std.specs.Prelude.{◌⊎◌, OnOk, OnErr, IsErr};
 ghost use Rattle.outside.specs.Calls.{Changes, HasCause, Told};
 ghost use Rattle.outside.specs.Images.{Synced, now, adds, LeavesOnly, IsSteady};
-ghost use Rattle.outside.specs.Views.{folder_view};
+ghost use Rattle.outside.specs.Views.{folder_in};
 ghost use Rattle.vault_make.specs.Vault.{IsEmpty, IsNoVault};
 ghost use Rattle.vault_make.specs.Errors.{IsUnwritten};
 ghost use Rattle.vault_make.specs.Stages.{HasKeyFiles, HasRoot, IsLaidOut, IsNoneOrLaidOut, IsRootPath, LeavesFromNone};
 
 use crate::files::KeyFiles;
 use crate::steps::{Device, make_dir, move_file, put, sync};
-use key_files::{config_path, masterkey_path, new_config_path};
 use outside::Folder;
+use unlocking::{config_path, masterkey_path, new_config_path};
 use vault_path::VaultPath;
 
 /// Writes the root's folder and the key files into an empty folder, the vault file last and whole: up to then the folder is no vault.
@@ -27,7 +27,7 @@ pub(crate) fn lay_out<D: Folder>(
     ensures stops { OnOk result (Changes (D.log folder.old) (D.log folder.new)
         (λ old new. LeavesOnly (adds old Synced) new (IsNoneOrLaidOut root.now files.now.masterkey.items files.now.config.items))) }
     ensures failed { OnErr result (IsUnwritten
-        (folder_view D.log D.faults D.changes folder.old) (folder_view D.log D.faults D.changes folder.new)
+        (folder_in D.Reads folder.old) (folder_in D.Reads folder.new)
         ⊎ Changes (D.log folder.old) (D.log folder.new)
         (λ old new. LeavesOnly (adds old Synced) new (IsNoneOrLaidOut root.now files.now.masterkey.items files.now.config.items))) }
     ensures cause { HasCause (D.faults folder.old) (D.faults folder.new) (IsErr result) }

@@ -1,4 +1,4 @@
-//! Calls of a folder that can be made: each fails only where the folder's count of faults rises.
+//! Calls of a folder that can be made: each fails only if the folder's count of faults rises.
 
 ghost use Rattle.std.specs.Prelude.{◌≡◌, OnOk, OnErr, IsErr};
 ghost use Rattle.outside.specs.Calls.{Changes, HasCause, Told};
@@ -58,7 +58,7 @@ pub(crate) fn move_file<D: Folder>(
     Ok(())
 }
 
-/// After it a stop leaves what reads give. Where it failed nothing is as if it had been called.
+/// After it a stop leaves what reads give. If it failed, the folder is as if it hadn't been called.
 pub(crate) fn sync<D: Folder>(folder: &mut D) -> Result<(), Device>
     ensures synced { OnOk result (Changes (D.log folder.old) (D.log folder.new) HasSynced) }
     ensures failed { OnErr result (D.log folder.new ≡ D.log folder.old) }

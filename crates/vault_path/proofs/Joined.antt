@@ -10,11 +10,11 @@ use Rattle.std.proofs.lemmas.Bool.Decides.{nat_tests}
 use Rattle.std.proofs.lemmas.List.Folds.{list_all-append}
 use Rattle.vault_path.specs.Parts.{is_part, is_path}
 
--- the parts before a place, where the whole is a path
+-- the parts before a place, if the whole is a path
 pub is_path-front : (xs ys : List (List ℕ)) → is_path (xs ++ ys) ≡ true → is_path xs ≡ true
 is_path-front xs ys h = grind (arith, nat_tests, list_all-append is_part xs ys, length-append xs ys)
 
--- the parts up to one, where the whole is a path
+-- the parts up to one, if the whole is a path
 pub is_path-begun : (xs : List (List ℕ)) (i : ℕ) (x : List ℕ) → i < length xs → x ≡ get_or xs i x → is_path xs ≡ true → is_path (take i xs ++ x ∷ []) ≡ true
 is_path-begun xs i x within at h =
     let whole : xs ≡ (take i xs ++ x ∷ []) ++ drop (i + 1) xs = grind (arith, common_steps) in

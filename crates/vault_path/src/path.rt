@@ -77,7 +77,7 @@ impl VaultPath {
         Ok(path)
     }
 
-    /// The path one part further, where that is known to be a path.
+    /// The path one part further, if that is known to be a path.
     pub fn joined(&self, part: &[u8]) -> VaultPath
         requires { IsTrue (is_path (self.now ++ part.now ∷ [])) }
         ensures { result ≡ self.now ++ part.now ∷ [] }
@@ -141,7 +141,7 @@ impl VaultPath {
         above
     }
 
-    /// The last part, where the path without it is this folder.
+    /// The last part, if the path without it is this folder.
     pub fn name_in(&self, folder: &VaultPath) -> Option<&[u8]>
         ensures { MatchOption result ((name : List ℕ) → self.now ≢ folder.now ++ name ∷ []) (λ name. self.now ≡ folder.now ++ name.now ∷ []) }
     {
@@ -167,7 +167,7 @@ impl VaultPath {
         }
     }
 
-    /// Goes one part further, and stays as it is where that can't be.
+    // Goes one part further, and stays as it is if that can't be.
     fn push(&mut self, part: &[u8]) -> Result<(), BadPart>
         ensures exact { IsOk result ↔ IsTrue (is_path (self.old ++ part.now ∷ [])) }
         ensures path { OnOk result (self.new ≡ self.old ++ part.now ∷ []) }

@@ -14,16 +14,16 @@ use Rattle.tree_model.specs.declared.reply.Reply.TheVariants as replies
 use Rattle.tree_model.specs.Rows.{Content, Row, bad_size, chunks, damaged, content_length}
 use Rattle.tree_model.specs.Asked.{PlainChange, change}
 use Rattle.tree_model.specs.Step.{new_name, is_bad_size as is_bad_content}
-use Rattle.tree_history.specs.History.{places}
+use Rattle.tree_model.specs.History.{places}
 use Rattle.clear_tree.specs.Walk.{Sealing}
-use Rattle.directory_scan.specs.Format.{sealing_of}
+use Rattle.tree_loading.specs.Format.{sealing_of}
 use Rattle.live_tree.specs.Held.{HeldTree, live_row, live_rows, node_of, size_of}
 use Rattle.file_chunks.specs.File.{is_bad_size, chunk_count}
 use Rattle.tree_answers.specs.Answers.{is_own, length_by}
 use Rattle.tree_answers.proofs.Rows.{row_there, some_is}
-use Rattle.change_plans.specs.Plans.{HaveSizes, IsPlanned, IsPlannedIn, IsRefused}
-use Rattle.change_plans.specs.declared.planning.Plan.{Plan}
-use Rattle.change_plans.specs.declared.planning.Plan.TheVariants as plans
+use Rattle.request_checks.specs.Plans.{HaveSizes, IsPlanned, IsPlannedIn, IsRefused}
+use Rattle.request_checks.specs.declared.planning.Plan.{Plan}
+use Rattle.request_checks.specs.declared.planning.Plan.TheVariants as plans
 use Rattle.node_changes.specs.Changed.{IsLate, StandsOn, MayRefuse}
 use Rattle.node_changes.specs.Causes.{IsUnchanged}
 use Rattle.node_changes.specs.Placed.{taken_for}

@@ -3,7 +3,7 @@ use Rattle.std.proofs.Common.{◌≡◌, ℕ, List, [], false, true, Option, Som
 use Rattle.outside.specs.Views.{FolderView}
 use Rattle.deeds.specs.Deeds.{PlainDeed}
 use Rattle.node_changes.specs.declared.tree.VaultTree.{VaultTree}
-use Rattle.store_history.specs.Turns.{IsFlushed}
+use Rattle.store_laws.specs.Turns.{IsFlushed}
 use Rattle.vault_store.specs.Open.{idle_of, view_of}
 
 pub ok_always : {A E : Type 0} (r : Result A E) (P : Type 0) → P → OnOk r P

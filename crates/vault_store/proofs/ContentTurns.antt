@@ -18,17 +18,17 @@ use Rattle.tree_model.specs.Contents.{resized}
 use Rattle.tree_model.specs.Asked.{PlainChange, PlainRequest, change, open_node, write, count, done, qid, bytes_put, plain_reply}
 use Rattle.tree_model.specs.Step.{Stepped, early, early_refusal, new_length, new_name, node_of, place_step, refuses, says, set_row, step, stepped, truncates, with_content, with_mtime, work}
 use Rattle.tree_model.proofs.Steps.{step_worked}
-use Rattle.tree_history.specs.History.{Made, is_refusal, is_stopped, places, rows_then, HasCause, IsAnswered, MayCommit, MayDraw}
+use Rattle.tree_model.specs.History.{Made, is_refusal, is_stopped, places, rows_then, HasCause, IsAnswered, MayCommit, MayDraw}
 use Rattle.clear_tree.specs.Walk.{Sealing}
 use Rattle.clear_tree.specs.Kept.{What, kind_of}
-use Rattle.directory_scan.specs.Format.{sealing_of}
-use Rattle.row_versions.specs.Versions.{wrapped}
+use Rattle.tree_loading.specs.Format.{sealing_of}
+use Rattle.version_laws.specs.RowVersions.{wrapped}
 use Rattle.live_tree.specs.Held.{HeldNode, HeldTree, live_row, live_rows, node_of as node_in}
 use Rattle.tree_answers.specs.Answers.{is_own}
 use Rattle.tree_answers.proofs.Rows.{row_there}
-use Rattle.change_plans.specs.Files.{IsResizable}
-use Rattle.change_plans.specs.Plans.{IsOpenRefusal, IsWriteRefusal, IsPlanned, IsPlannedIn}
-use Rattle.change_plans.specs.declared.planning.Plan.TheVariants.{Resize}
+use Rattle.request_checks.specs.Files.{IsResizable}
+use Rattle.request_checks.specs.Plans.{IsOpenRefusal, IsWriteRefusal, IsPlanned, IsPlannedIn}
+use Rattle.request_checks.specs.declared.planning.Plan.TheVariants.{Resize}
 use Rattle.content_writer.specs.Sealing.{GoesOn}
 use Rattle.file_changes.specs.Causes.{ContentCause}
 use Rattle.file_changes.specs.Steps.{IsResizing, dated}
@@ -37,8 +37,8 @@ use Rattle.node_changes.specs.declared.error.ChangeErr.TheVariants as change_err
 use Rattle.node_changes.specs.Causes.{ErrCause, IfBroken, IfRefused, IsUnchanged, RefusalCause}
 use Rattle.node_changes.specs.Changed.{StandsOn, ShowsRows, HasChanged, MayHaveChanged, MayRefuse}
 use Rattle.node_changes.specs.Placed.{taken_for}
-use Rattle.store_history.specs.Store.{StoreView}
-use Rattle.store_history.specs.Turns.{Turn, IsChangedTurn, made_of}
+use Rattle.store_laws.specs.Store.{StoreView}
+use Rattle.store_laws.specs.Turns.{Turn, IsChangedTurn, made_of}
 use Rattle.vault_store.specs.declared.answering.Broken.{Broken}
 use Rattle.vault_store.specs.Contents.{IsChangedQid}
 use Rattle.vault_store.specs.Open.{running, counted}
@@ -52,7 +52,7 @@ use Rattle.vault_store.proofs.Turns.{HasDrawn, IsCome, broken_turn, not_made, re
 
 -- ---- the step
 
--- where nothing refuses a request before the work, the step is the work on the row
+-- if nothing refuses a request before the work, the step is the work on the row
 late_step : (rows : Rows) (request : PlainRequest) (second : ℕ) (row : Row) → row_of rows (node_of request) ≡ Some row → early_refusal rows request ≡ None → step rows request second ≡ work rows row request second
 late_step rows request second row there none =
     step_worked rows request second row there (sym (ap (λ (o : Option Row). option_map_or (λ row. early rows row request) o (Some refusals.Removed)) there) ∙ none)
@@ -184,7 +184,7 @@ resize_unplaced s live claims number len c sizes planned d contents stands =
 
 -- ---- what is drawn
 
--- where nonces are drawn alone
+-- if nonces are drawn alone
 pub come_drawing : (keys keys' : KeyPair) (before after : FolderView) (source source' : EntropyView) (request : PlainRequest) → keys' ≡ keys → before.faults ≤ after.faults → source.faults ≤ source'.faults
     → Changes source.drawn source'.drawn GoesOn → (MayDraw request → ⊥) → IsCome keys keys' before after source source' request None
 come_drawing keys keys' before after source source' request same later entropy drawn nonces = record {

@@ -13,20 +13,20 @@ use Rattle.tree_model.specs.Rows.{Content, Row, Rows, row_of}
 use Rattle.tree_model.specs.Asked.{PlainChange, change, done}
 use Rattle.tree_model.specs.Step.{Stepped, early, new_length, new_name, place_step, says, set_row, step, stepped, with_mtime}
 use Rattle.tree_model.proofs.Steps.{step_worked}
-use Rattle.tree_history.specs.History.{Made, places, rows_then, IsAnswered}
+use Rattle.tree_model.specs.History.{Made, places, rows_then, IsAnswered}
 use Rattle.clear_tree.specs.Walk.{Sealing}
 use Rattle.clear_tree.specs.Queue.{In}
-use Rattle.directory_scan.specs.Format.{sealing_of}
-use Rattle.row_versions.specs.Versions.{wrapped}
+use Rattle.tree_loading.specs.Format.{sealing_of}
+use Rattle.version_laws.specs.RowVersions.{wrapped}
 use Rattle.live_tree.specs.Held.{HeldTree, IsTree, live_row, live_rows, node_of}
 use Rattle.live_tree.proofs.Held.{in_found}
 use Rattle.tree_answers.proofs.Members.{IsMapped, find_in, map_in}
 use Rattle.tree_answers.proofs.Rows.{row_there}
-use Rattle.change_plans.specs.Plans.{IsPlanned, IsPlannedIn}
-use Rattle.change_plans.specs.declared.planning.Plan.TheVariants as plans
+use Rattle.request_checks.specs.Plans.{IsPlanned, IsPlannedIn}
+use Rattle.request_checks.specs.declared.planning.Plan.TheVariants as plans
 use Rattle.node_changes.specs.Changed.{StandsOn, ShowsRows}
 use Rattle.node_changes.specs.Placed.{taken_for}
-use Rattle.store_history.specs.Turns.{Turn, made_of}
+use Rattle.store_laws.specs.Turns.{Turn, made_of}
 use Rattle.node_changes.proofs.Named.{dating_stands}
 use Rattle.vault_store.specs.Dated.{IsDated}
 use Rattle.vault_store.specs.Open.{running, counted}

@@ -17,13 +17,13 @@ use Rattle.tree_model.specs.declared.reply.Reply.TheVariants as replies
 use Rattle.tree_model.specs.Rows.{Content, Rows}
 use Rattle.tree_model.specs.Asked.{Asked, PlainReply, PlainRequest, remove, sync, HasCount, IsReplyTo, asked_of, bytes_put, plain_reply, refused}
 use Rattle.tree_model.specs.Step.{Answer, early_refusal, refuses, says, step}
-use Rattle.tree_history.specs.History.{Made, is_refusal, is_stopped, places, HasCause, IsAnswered, MayCommit}
+use Rattle.tree_model.specs.History.{Made, is_refusal, is_stopped, places, HasCause, IsAnswered, MayCommit}
 use Rattle.clear_tree.specs.Walk.{Sealing}
-use Rattle.directory_scan.specs.Format.{sealing_of}
+use Rattle.tree_loading.specs.Format.{sealing_of}
 use Rattle.live_tree.specs.Held.{HeldTree, live_rows}
 use Rattle.file_changes.specs.Waiting.{HasPut, IsFlush, IsNotFlushed}
 use Rattle.file_changes.specs.Causes.{ContentCause}
-use Rattle.stray_entries.specs.Strays.{KeepsStrays}
+use Rattle.live_tree_laws.specs.Strays.{KeepsStrays}
 use Rattle.node_changes.specs.Within.{AreWithin}
 use Rattle.node_changes.specs.declared.tree.VaultTree.{VaultTree}
 use Rattle.node_changes.specs.declared.error.ChangeErr.{ChangeErr}
@@ -32,9 +32,9 @@ use Rattle.node_changes.specs.Causes.{ErrCause, IfBroken, IfRefused, IsUnchanged
 use Rattle.node_changes.specs.Changed.{IsLate, IsStepAnswer, MayRefuse, StandsOn, ShowsRows}
 use Rattle.node_changes.specs.Placed.{taken_for}
 use Rattle.node_changes.specs.Removal.{IsRemovalRefusal}
-use Rattle.stop_history.specs.Stable.{is_kept}
-use Rattle.store_history.specs.Store.{StoreView, bounded}
-use Rattle.store_history.specs.Turns.{IsFlushed, IsQuietTurn, IsTurn, Turn, made_of}
+use Rattle.crash_laws.specs.Stable.{is_kept}
+use Rattle.store_laws.specs.Store.{StoreView, bounded}
+use Rattle.store_laws.specs.Turns.{IsFlushed, IsQuietTurn, IsTurn, Turn, made_of}
 use Rattle.node_changes.proofs.Committing.{early_step}
 use Rattle.vault_store.specs.declared.answering.Broken.{Broken}
 use Rattle.vault_store.specs.Open.{running, counted, view_of}
@@ -314,7 +314,7 @@ refused_is : (reply : Reply) → ((refusal : Refusal) → reply ≡ replies.Refu
 refused_is (replies.Refused other) not refusal is = not other refl
 refused_is reply not refusal is = absurd cc
 
--- where a sync isn't refused, nothing refuses it early
+-- if a sync isn't refused, nothing refuses it early
 pub sync_late : (live : HeldTree) (number : ℕ) (contents : ℕ → Content) (reply : Reply) → IsStepOf live (sync number) (says (plain_reply reply)) → ((refusal : Refusal) → reply ≡ replies.Refused refusal → ⊥)
     → IsNone (early_refusal (live_rows contents live) (sync number))
 sync_late live number contents reply is not = by (early_refusal (live_rows contents live) (sync number)) refl

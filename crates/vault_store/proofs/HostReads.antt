@@ -1,4 +1,4 @@
--- What a read of a node answers, and what the sizes of host files tell.
+-- What a read of a node answers, and what the sizes of host files say.
 use Rattle.std.proofs.Common.{◌≡◌, ℕ, ◌≤◌, Bool, true, false, cond, List, length, take, drop, Option, Some, None, IsNone, is_some, Result, map, Ok, Err, IfOk, IfSome, refl, sym, ap, subst, ◌∙◌, arith, inl, inr, length-take}
 use Rattle.std.specs.List.{range_with_len}
 use Rattle.std.specs.Option.{option_map, option_map_or, option_and_then}
@@ -21,10 +21,10 @@ use Rattle.file_chunks.specs.File.{is_bad_size, chunk_count, content_of, cell_of
 use Rattle.file_chunks.specs.Header.{header_opens}
 use Rattle.clear_tree.specs.Walk.{Sealing}
 use Rattle.clear_tree.specs.Kept.{What, KeptFile, KeptLink, KeptDir, KeptBad, kind_of, content_of as kept_content, size_in}
-use Rattle.directory_scan.specs.Format.{sealing_of}
+use Rattle.tree_loading.specs.Format.{sealing_of}
 use Rattle.live_tree.specs.Held.{HeldNode, HeldTree, live_row, live_rows, node_of as node_in, path_of, size_of}
-use Rattle.held_changes.specs.Found.{AreLiveContents}
-use Rattle.held_changes.proofs.Files.{contents_are_held}
+use Rattle.live_tree_laws.specs.Found.{AreLiveContents}
+use Rattle.live_tree_laws.proofs.Files.{contents_are_held}
 use Rattle.tree_answers.specs.Answers.{answer_in, is_own, length_by}
 use Rattle.tree_answers.proofs.Rows.{row_there, row_absent}
 use Rattle.tree_answers.proofs.Sizes.{path_there, sizes_from}
@@ -58,7 +58,7 @@ bad_where : (b opens : Bool) (cells : List Cell) → is_bad_content (cond b bad_
 bad_where true opens cells = refl
 bad_where false opens cells = refl
 
--- a content has no size just where its host file's is bad
+-- a content has no size just if its host file's is bad
 bad_content : (keys : KeyPair) (bytes : List ℕ) → is_bad_content (content_of keys bytes) ≡ is_bad_size (length bytes)
 unfolding content_of
 bad_content keys bytes =
@@ -90,7 +90,7 @@ bytes_at keys disk live contents number size path are sized at =
 pub live_contents : (s : Sealing) (d : Disk) (live : HeldTree) (claims : List (List ℕ × ℕ)) (contents : ℕ → Content) → StandsOn s d live claims contents → AreLiveContents s d live contents
 live_contents s d live claims contents stands = (contents_are_held s d stands.tree live contents stands.is stands.holds).0 stands.are
 
--- and are there where a vault is at rest, once what waits is done
+-- and are there if a vault is at rest, once what waits is done
 pub rest_contents : (log : Option Log) (waiting : List PlainDeed) (keys keys' : KeyPair) (live live' : HeldTree) (claims : List (List ℕ × ℕ)) → keys ≡ keys' → live ≡ live' → Told log (IsAtRestOver (sealing_of keys') live' claims waiting)
     → Told (disk_in (option_map (laid_log waiting) log)) (HasContents (sealing_of keys) live)
 rest_contents None waiting keys keys' live live' claims same_keys same_live rest = tt
@@ -111,7 +111,7 @@ sizes_are_held keys long d live claims contents stands =
           ap is_bad_content has.content ∙ bad_content keys has.bytes ∙ ap is_bad_size has.file.long;
     }
 
--- ---- a file or a link has its content, and is refused only where that has a bad size
+-- ---- a file or a link has its content, and is refused only if that has a bad size
 
 sized_content : (what : What) (content : Content) (size : ℕ) → size_in what ≡ Some size → kept_content what content ≡ content
 sized_content (KeptFile n) content size is = refl
@@ -210,7 +210,7 @@ module _ (keys : KeyPair) (live : HeldTree) (claims : List (List ℕ × ℕ)) (b
     rest = same;
   }
 
-  -- a fault of a read comes only where the count rose
+  -- a fault of a read is answered only if the count rose
   read_cause : (told : Option Disk) (buffer : List ℕ) → Told told (HasContents (sealing_of keys) live) → RoseUntold told before.faults after.faults
       → HasEnded told keys host at most before.faults after.faults (Err Device) buffer → Rose before.faults after.faults
   read_cause None buffer has rose ended = rose

@@ -9,16 +9,16 @@ use Rattle.chunk_journal.specs.Opening.{HasOpened}
 use Rattle.clear_tree.specs.Walk.{Sealing}
 use Rattle.clear_tree.specs.Kept.{KeptTree, IsKept, TellsRows}
 use Rattle.clear_tree.proofs.Keeping.{keeping_tells_rows}
-use Rattle.directory_scan.specs.Format.{sealing_of}
+use Rattle.tree_loading.specs.Format.{sealing_of}
 use Rattle.live_tree.specs.Held.{HeldTree}
-use Rattle.held_changes.specs.Holds.{Holds, AreHeldContents}
-use Rattle.held_changes.specs.Loading.{IsLoaded, loaded_tree}
-use Rattle.held_changes.proofs.Loading.{loading_holds}
+use Rattle.live_tree_laws.specs.Holds.{Holds, AreHeldContents}
+use Rattle.live_tree_laws.specs.Loading.{IsLoaded, loaded_tree}
+use Rattle.live_tree_laws.proofs.Loading.{loading_holds}
 use Rattle.name_places.specs.Claims.{AreClaimsOf}
 use Rattle.node_changes.specs.declared.tree.VaultTree.{VaultTree}
 use Rattle.node_changes.specs.Changed.{IsAtRest}
-use Rattle.tree_loading.specs.declared.fault.LoadErr.{LoadErr}
-use Rattle.tree_loading.specs.declared.fault.LoadErr.TheVariants as loading
+use Rattle.tree_loading.specs.declared.load_fault.LoadErr.{LoadErr}
+use Rattle.tree_loading.specs.declared.load_fault.LoadErr.TheVariants as loading
 use Rattle.vault_store.specs.declared.opening.OpenErr.TheVariants as open_errs
 use Rattle.vault_store.specs.Causes.{of_loading}
 use Rattle.vault_store.specs.Open.{IsLoadedTree}
@@ -48,7 +48,7 @@ loaded_rests before log log' keys unlocked threshold tree opened same is =
     (told_new before log HasOpened IsQuiet (λ a b opened. opened.at_rest) opened) is.loaded
     (λ l quiet kept. loaded_on (sealing_of keys) unlocked is.kept tree.live tree.claims l is.live is.claims quiet kept)))
 
--- an opening has too many nodes only where a load has
+-- an opening has too many nodes only if a load has
 pub too_many : (cause : LoadErr) (n : ℕ) → of_loading cause ≡ open_errs.TooMany n → cause ≡ loading.TooMany n
 too_many loading.Device n is = absurd cc
 too_many (loading.TooMany m) n is = cc

@@ -12,7 +12,7 @@ use Rattle.tree_model.specs.Rows.{Content}
 use Rattle.tree_model.specs.Asked.{walk, list, plain_reply, bytes_put, IsReplyTo, HasCount, KeepsRest}
 use Rattle.tree_model.specs.Step.{refuses, says, step}
 use Rattle.tree_model.proofs.Steps.{step_walk, walk_not_removed}
-use Rattle.directory_scan.specs.Format.{sealing_of}
+use Rattle.tree_loading.specs.Format.{sealing_of}
 use Rattle.live_tree.specs.Held.{HeldTree, live_row, live_rows, node_of}
 use Rattle.tree_answers.specs.Answers.{AreSizes, IsOwn, IsStepOf, IsSizedStepOf, answer_in}
 use Rattle.tree_answers.proofs.Rows.{row_there, some_is}

@@ -16,16 +16,16 @@ use Rattle.tree_model.specs.Rows.{Content, Rows}
 use Rattle.tree_model.specs.Asked.{PlainReply, PlainRequest, qid, walked, count, stat, done, refused, asked_of, bytes_put, is_exhausted, plain_reply, IsReplyTo, HasCount, KeepsRest}
 use Rattle.tree_model.specs.Step.{Answer, early_refusal, refuses, says, step, IsReading}
 use Rattle.tree_model.proofs.Steps.{step_reads}
-use Rattle.tree_history.specs.History.{Made, answer_of, is_refusal, is_stopped, rows_then, HasCause, IsAnswered, MayLackMemory, MayPlace}
+use Rattle.tree_model.specs.History.{Made, answer_of, is_refusal, is_stopped, rows_then, HasCause, IsAnswered, MayLackMemory, MayPlace}
 use Rattle.clear_tree.specs.Walk.{Sealing}
-use Rattle.directory_scan.specs.Format.{sealing_of}
-use Rattle.row_versions.specs.Versions.{wrapped}
+use Rattle.tree_loading.specs.Format.{sealing_of}
+use Rattle.version_laws.specs.RowVersions.{wrapped}
 use Rattle.live_tree.specs.Held.{HeldTree, live_rows}
 use Rattle.tree_answers.specs.Answers.{AreSizes, IsOwn, IsStepOf, IsSizedStepOf, answer_in}
 use Rattle.node_changes.specs.Causes.{RefusalCause}
 use Rattle.node_changes.specs.Changed.{StandsOn, ShowsRows}
 use Rattle.node_changes.specs.Placed.{taken_for}
-use Rattle.store_history.specs.Turns.{Turn, made_of}
+use Rattle.store_laws.specs.Turns.{Turn, made_of}
 use Rattle.vault_store.specs.Open.{running, counted}
 use Rattle.vault_store.specs.Quiet.{IsStill, IsStillTurn}
 use Rattle.vault_store.proofs.Replies.{enters, has_cause, no_bytes, not_stopped, own_cause, said_untaken}

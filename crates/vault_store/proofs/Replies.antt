@@ -8,7 +8,7 @@ use Rattle.tree_model.specs.declared.refusal.Refusal.TheVariants as refusals
 use Rattle.tree_model.specs.Rows.{Content, Rows}
 use Rattle.tree_model.specs.Asked.{PlainRequest, look, walk, open_node, create, read, list, write, remove, stat_of, change, sync, refused, bytes_put, is_exhausted}
 use Rattle.tree_model.specs.Step.{Answer, refuses, step}
-use Rattle.tree_history.specs.History.{Made, answer_of, answer_where, is_refusal, is_stopped, places, HasCause, IsAnswered, MayPlace}
+use Rattle.tree_model.specs.History.{Made, answer_of, answer_where, is_refusal, is_stopped, places, HasCause, IsAnswered, MayPlace}
 use Rattle.clear_tree.specs.Walk.{Sealing}
 use Rattle.live_tree.specs.Held.{HeldTree, live_rows}
 use Rattle.tree_answers.specs.Answers.{is_own}
@@ -77,7 +77,7 @@ own_cause request folder entropy (refusals.Stopped f) own = absurd cc
 own_cause request folder entropy (refusals.Exhausted ticket) own = absurd cc
 own_cause request folder entropy refusal own = tt
 
--- and comes where the step answers it
+-- and is answered if the step answers it
 pub own_may : (s : Sealing) (request : PlainRequest) (second : ℕ) (taken : Option HostPath) (refusal : Refusal) (d : Disk) (live : HeldTree) (claims : List (List ℕ × ℕ)) → is_own refusal ≡ true
     → IsStepAnswer s request second (refuses refusal) d live claims → MayRefuse s request second taken refusal d live claims
 own_may s request second taken refusals.DeviceFault d live claims own is = absurd cc

@@ -15,14 +15,14 @@ use Rattle.tree_model.specs.declared.reply.Reply.{Reply}
 use Rattle.tree_model.specs.Rows.{Content}
 use Rattle.tree_model.specs.Asked.{PlainRequest}
 use Rattle.tree_model.specs.Step.{Answer}
-use Rattle.tree_history.specs.History.{rows_then, answer_of}
+use Rattle.tree_model.specs.History.{rows_then, answer_of}
 use Rattle.clear_tree.specs.Walk.{Sealing}
-use Rattle.directory_scan.specs.Format.{sealing_of}
+use Rattle.tree_loading.specs.Format.{sealing_of}
 use Rattle.live_tree.specs.Held.{HeldTree, live_rows}
 use Rattle.file_changes.specs.Waiting.{IsAtRestOver}
 use Rattle.node_changes.specs.Changed.{IsAtRest, StandsOn, ShowsRows, HasChanged}
-use Rattle.store_history.specs.Store.{StoreView}
-use Rattle.store_history.specs.Turns.{Turn, IsQuietTurn, IsChangedTurn, made_of}
+use Rattle.store_laws.specs.Store.{StoreView}
+use Rattle.store_laws.specs.Turns.{Turn, IsQuietTurn, IsChangedTurn, made_of}
 use Rattle.node_changes.proofs.Beside.{stands_beside}
 use Rattle.vault_store.specs.declared.answering.Broken.{Broken}
 use Rattle.vault_store.specs.Open.{running, counted}

@@ -7,13 +7,13 @@ use Rattle.tree_model.specs.declared.refusal.Refusal.TheVariants as refusals
 use Rattle.tree_model.specs.declared.reply.Reply.{Reply}
 use Rattle.tree_model.specs.declared.reply.Reply.TheVariants as replies
 use Rattle.tree_model.specs.Asked.{Asked, PlainRequest, asked_of, bytes_put, plain_reply, refused}
-use Rattle.directory_scan.specs.Format.{sealing_of}
+use Rattle.tree_loading.specs.Format.{sealing_of}
 use Rattle.node_changes.specs.Placed.{taken_for}
-use Rattle.store_history.specs.Store.{StoreView}
-use Rattle.store_history.specs.Turns.{AddsEntry, Turn, IsQuietTurn, IsChangedTurn}
-use Rattle.store_history.proofs.Flushed.{flushed_turns_add}
-use Rattle.store_history.proofs.Turns.{quiet_turns_add, changed_turns_add, broken_turns_add, unflushed_turns_add}
-use Rattle.store_history.proofs.Stopped.{stopped_turns_add}
+use Rattle.store_laws.specs.Store.{StoreView}
+use Rattle.store_laws.specs.Turns.{AddsEntry, Turn, IsQuietTurn, IsChangedTurn}
+use Rattle.store_laws.proofs.Flushed.{flushed_turns_add}
+use Rattle.store_laws.proofs.Turns.{quiet_turns_add, changed_turns_add, broken_turns_add, unflushed_turns_add}
+use Rattle.store_laws.proofs.Stopped.{stopped_turns_add}
 use Rattle.vault_store.specs.Open.{counted, stopped_in}
 use Rattle.vault_store.specs.Outcome.{IsFormed, IsFrom, HasReply, HasBroken, HasNotFlushed}
 use Rattle.vault_store.proofs.Turns.{told_path, told_path_is}

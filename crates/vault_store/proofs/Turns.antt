@@ -15,9 +15,9 @@ use Rattle.tree_model.specs.declared.reply.Reply.TheVariants as replies
 use Rattle.tree_model.specs.Rows.{Content, Rows}
 use Rattle.tree_model.specs.Asked.{PlainChange, PlainReply, PlainRequest, change as change_request, done, asked_of, bytes_put, plain_reply, refused}
 use Rattle.tree_model.specs.Step.{Answer, says, step}
-use Rattle.tree_history.specs.History.{Made, is_refusal, is_stopped, places, rows_then, HasCause, IsAnswered, MayCommit, MayDraw, MayPlace}
+use Rattle.tree_model.specs.History.{Made, is_refusal, is_stopped, places, rows_then, HasCause, IsAnswered, MayCommit, MayDraw, MayPlace}
 use Rattle.clear_tree.specs.Walk.{Sealing}
-use Rattle.directory_scan.specs.Format.{sealing_of}
+use Rattle.tree_loading.specs.Format.{sealing_of}
 use Rattle.live_tree.specs.Held.{HeldTree, live_rows}
 use Rattle.node_changes.specs.declared.error.ChangeErr.{ChangeErr}
 use Rattle.node_changes.specs.declared.error.ChangeErr.TheVariants as change_errs
@@ -26,8 +26,8 @@ use Rattle.node_changes.specs.Changed.{StandsOn, ShowsRows, HasChanged, MayHaveC
 use Rattle.node_changes.specs.Creation.{HasCreated, IsDraw, MayHaveCreated}
 use Rattle.node_changes.specs.Placed.{GoesOn, IfDrawn, IsIdentifierOf, taken_for}
 use Rattle.node_changes.specs.Renaming.{HasRenamed}
-use Rattle.store_history.specs.Store.{StoreView, bounded}
-use Rattle.store_history.specs.Turns.{Draws, IsTakenFor, IsTurn, IsChangedTurn, Turn, made_of}
+use Rattle.store_laws.specs.Store.{StoreView, bounded}
+use Rattle.store_laws.specs.Turns.{Draws, IsTakenFor, IsTurn, IsChangedTurn, Turn, made_of}
 use Rattle.vault_store.specs.declared.answering.Broken.{Broken}
 use Rattle.vault_store.specs.Open.{running, counted}
 use Rattle.vault_store.specs.Outcome.{IsFormed, IsWork, HasReply, HasBroken}
@@ -47,7 +47,7 @@ told_before None (Some y) P Q h p = absurd p
 told_before (Some x) None P Q h p = absurd p
 told_before (Some x) (Some y) P Q h p = h x y p
 
--- the path that a disk tells, or another where none is told
+-- the path that a disk tells, or another if none is told
 abbrev pub told_path : Option Disk → (Disk → Option HostPath) → Option HostPath → Option HostPath
 told_path None f other = other
 told_path (Some d) f other = f d
@@ -76,7 +76,7 @@ draws is_dir drawn drew drew' is = go drew drew' is.first is.more
     go (Some x) None first more = absurd first
     go (Some x) (Some y) first more = record { more = more.0; on = more.1; identifier = first }
 
--- where an identifier may be drawn and none is named, nothing was
+-- if an identifier may be drawn and none is named, nothing was
 pub draws_made : (made : Made) (drew drew' : Option (List ℕ)) → (made.drawn ≡ None → MayDraw made.asked.request → drew' ≡ drew) → Changes drew drew' (HasDrawn made.drawn) → Changes drew drew' (Draws made)
 draws_made made None None unspent is = tt
 draws_made made None (Some y) unspent is = absurd is
@@ -94,7 +94,7 @@ pub record IsCome (keys keys' : KeyPair) (before after : FolderView) (source sou
   pub drawn_is : Changes source.drawn source'.drawn (HasDrawn drawn)
   pub unspent : drawn ≡ None → MayDraw request → source'.drawn ≡ source.drawn
 
--- where nothing is drawn
+-- if nothing is drawn
 pub come_undrawn : (keys keys' : KeyPair) (before after : FolderView) (source : EntropyView) (request : PlainRequest) → keys' ≡ keys → before.faults ≤ after.faults
     → IsCome keys keys' before after source source request None
 come_undrawn keys keys' before after source request same later = record {
@@ -204,7 +204,7 @@ module _ (keys keys' : KeyPair) (live live' : HeldTree) (claims claims' : List (
     abbrev taken_at : Refusal → Option HostPath
     taken_at refusal = told_path (disk_in before.log) path_on (named_place refusal)
 
-    -- where the place is taken that it names, the request would put a node there
+    -- if the place is taken that it names, the request would put a node there
     abbrev Places : Refusal → Type 0
     Places refusal = Told (disk_in before.log) (λ d. (contents : ℕ → Content) → StandsOn s d live claims contents → (path : HostPath) → refusal ≡ refusals.PlaceTaken path → places (live_rows contents live) request ≡ true)
 
@@ -300,7 +300,7 @@ module _ (keys keys' : KeyPair) (live live' : HeldTree) (claims claims' : List (
   not_made change_errs.Broken (Err b) buffer is broken made stop = stop
 
   module _ (drawn : Option (List ℕ)) where
-    -- where no place is asked for, none is taken
+    -- if no place is asked for, none is taken
     pub never_placed : ((d : Disk) → taken_for s d live request drawn ≡ None) → (refusal : Refusal) → Told (disk_in before.log) (MayOn drawn refusal) → Places drawn refusal
     never_placed none refusal may =
         told_then (disk_in before.log) (MayOn drawn refusal)
@@ -309,7 +309,7 @@ module _ (keys keys' : KeyPair) (live live' : HeldTree) (claims claims' : List (
         let moved : MayRefuse s request second (taken_for s d live request drawn) (refusals.PlaceTaken path) d live claims = subst (λ (r : Refusal). MayOn drawn r d) is may in
         let no : ◌≡◌ {A = Option HostPath} None (Some path) = sym (none d) ∙ moved.0 in absurd cc)
 
-    -- where a place is asked for always
+    -- if a place is asked for always
     pub always_placed : ((rows : Rows) → places rows request ≡ true) → (refusal : Refusal) → Told (disk_in before.log) (MayOn drawn refusal) → Places drawn refusal
     always_placed asks refusal may =
         told_always (disk_in before.log)
@@ -325,7 +325,7 @@ module _ (keys keys' : KeyPair) (live live' : HeldTree) (claims claims' : List (
     change_err change_errs.Broken result buffer is broken come same cause placing may can change =
         not_made change_errs.Broken result buffer is broken tt (broken_turn drawn buffer come cause can change)
 
--- a cause is one where the random source is used, too
+-- a cause is one if the random source is used, too
 pub undrawn_cause : (request : PlainRequest) (folder entropy : Type 0) (error : ChangeErr) → ErrCause request folder ⊥ error → ErrCause request folder entropy error
 undrawn_cause request folder entropy change_errs.Broken cause = cause
 undrawn_cause request folder entropy (change_errs.Refused refusals.RandomFault) cause = absurd cause

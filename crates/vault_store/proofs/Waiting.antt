@@ -16,18 +16,18 @@ use Rattle.tree_model.specs.declared.reply.Reply.TheVariants as replies
 use Rattle.tree_model.specs.Rows.{Content}
 use Rattle.tree_model.specs.Asked.{Asked, PlainReply, PlainRequest, look, walk, open_node, create, read, list, write, remove, stat_of, change, sync, plain_reply, refused}
 use Rattle.tree_model.specs.Step.{IsReading}
-use Rattle.tree_history.specs.History.{Made, rows_then, is_stable, HasCause, IsAnswered}
-use Rattle.directory_scan.specs.Format.{sealing_of}
+use Rattle.tree_model.specs.History.{Made, rows_then, is_stable, HasCause, IsAnswered}
+use Rattle.tree_loading.specs.Format.{sealing_of}
 use Rattle.live_tree.specs.Held.{live_rows}
-use Rattle.stray_entries.specs.Strays.{KeepsStrays}
-use Rattle.stray_entries.proofs.Trees.{keeps_itself}
+use Rattle.live_tree_laws.specs.Strays.{KeepsStrays}
+use Rattle.live_tree_laws.proofs.StrayTrees.{keeps_itself}
 use Rattle.node_changes.specs.Changed.{StandsOn, ShowsRows}
 use Rattle.node_changes.specs.Placed.{taken_for}
 use Rattle.node_changes.specs.Within.{AreWithin}
-use Rattle.stop_history.specs.Stable.{is_kept}
-use Rattle.store_history.specs.Store.{StoreView, moment_of}
-use Rattle.store_history.specs.Turns.{Draws, IsFlushed, IsQuietTurn, IsTurn, Turn, made_of}
-use Rattle.store_history.proofs.Alike.{for_alike}
+use Rattle.crash_laws.specs.Stable.{is_kept}
+use Rattle.store_laws.specs.Store.{StoreView, moment_of}
+use Rattle.store_laws.specs.Turns.{Draws, IsFlushed, IsQuietTurn, IsTurn, Turn, made_of}
+use Rattle.store_laws.proofs.Alike.{for_alike}
 use Rattle.vault_store.specs.declared.answering.Broken.{Broken}
 use Rattle.node_changes.specs.declared.tree.VaultTree.{VaultTree}
 use Rattle.vault_store.specs.Open.{counted, idle_of, view_of}
@@ -129,7 +129,7 @@ module _ (old new : StoreView) (before after : FolderView) (source source' : Ent
     kept = λ yes. (none, none');
   }
 
-  -- where reads give what they gave before, the same waits over the same log
+  -- if reads give what they gave before, the same waits over the same log
   same_below : option_map (laid_log new.waiting) after.log ≡ option_map (laid_log old.waiting) before.log → (after.log ≡ before.log) × (IsSome after.log → new.waiting ≡ old.waiting)
   same_below same = same_told new.waiting old.waiting after.log before.log same
 

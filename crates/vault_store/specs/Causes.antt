@@ -1,8 +1,8 @@
 -- The errors of loading and of a journal as those of opening.
 use Rattle.chunk_journal.specs.declared.fault.JournalErr.{JournalErr}
 use Rattle.chunk_journal.specs.declared.fault.JournalErr.TheVariants as journal
-use Rattle.tree_loading.specs.declared.fault.LoadErr.{LoadErr}
-use Rattle.tree_loading.specs.declared.fault.LoadErr.TheVariants as loading
+use Rattle.tree_loading.specs.declared.load_fault.LoadErr.{LoadErr}
+use Rattle.tree_loading.specs.declared.load_fault.LoadErr.TheVariants as loading
 use Rattle.vault_store.specs.declared.opening.OpenErr.{OpenErr}
 use Rattle.vault_store.specs.declared.opening.OpenErr.TheVariants.{Device, JournalDamaged, TooMany, NoRoot, Memory}
 

@@ -7,13 +7,13 @@ use Rattle.deeds.specs.Deeds.{PlainDeed}
 use Rattle.tree_model.specs.Step.{node_limit}
 use Rattle.siv_mode.specs.Keys.{KeyPair}
 use Rattle.clear_tree.specs.Kept.{KeptTree, IsKept}
-use Rattle.directory_scan.specs.Format.{sealing_of}
+use Rattle.tree_loading.specs.Format.{sealing_of}
 use Rattle.live_tree.specs.Held.{HeldTree}
-use Rattle.held_changes.specs.Loading.{loaded_tree}
+use Rattle.live_tree_laws.specs.Loading.{loaded_tree}
 use Rattle.name_places.specs.Claims.{AreClaimsOf}
 use Rattle.file_changes.specs.Waiting.{IsAtRestOver}
 use Rattle.node_changes.specs.declared.tree.VaultTree.{VaultTree}
-use Rattle.store_history.specs.Store.{StoreView, bounded}
+use Rattle.store_laws.specs.Store.{StoreView, bounded}
 
 -- what it is in memory, the threshold by which new names have their places, and its folder
 pub record OpenVault (D : Type 0) : Type 0 where
@@ -21,7 +21,7 @@ pub record OpenVault (D : Type 0) : Type 0 where
   pub threshold : ℕ
   pub folder : D
 
--- what a store that was closed was in memory, where nothing waits any more, and whether what waited was committed
+-- what a store that was closed was in memory, if nothing waits any more, and whether what waited was committed
 pub record ClosedVault : Type 0 where
   pub store : StoreView
   pub committed : Result (Unit {0}) Failed

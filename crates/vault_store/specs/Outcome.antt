@@ -4,8 +4,8 @@ use Rattle.outside.specs.Views.{FolderView, EntropyView}
 use Rattle.tree_model.specs.declared.reply.Reply.{Reply}
 use Rattle.tree_model.specs.declared.refusal.Refusal.TheVariants as refusals
 use Rattle.tree_model.specs.Asked.{Asked, PlainRequest, plain_reply, refused, asked_of, bytes_put, is_exhausted, HasCount, IsReplyTo, KeepsRest}
-use Rattle.store_history.specs.Store.{StoreView}
-use Rattle.store_history.specs.Turns.{Turn, IsQuietTurn, IsChangedTurn, IsBrokenTurn, IsFlushed, IsUnflushedTurn}
+use Rattle.store_laws.specs.Store.{StoreView}
+use Rattle.store_laws.specs.Turns.{Turn, IsQuietTurn, IsChangedTurn, IsBrokenTurn, IsFlushed, IsUnflushedTurn}
 use Rattle.vault_store.specs.declared.answering.Broken.{Broken}
 use Rattle.vault_store.specs.Open.{counted, stopped_in}
 

@@ -6,12 +6,12 @@ use Rattle.outside.specs.Views.{FolderView, EntropyView}
 use Rattle.tree_model.specs.Rows.{Content}
 use Rattle.tree_model.specs.declared.reply.Reply.{Reply}
 use Rattle.tree_model.specs.Asked.{PlainRequest, plain_reply, asked_of}
-use Rattle.tree_history.specs.History.{rows_then, IsAnswered}
-use Rattle.directory_scan.specs.Format.{sealing_of}
+use Rattle.tree_model.specs.History.{rows_then, IsAnswered}
+use Rattle.tree_loading.specs.Format.{sealing_of}
 use Rattle.live_tree.specs.Held.{live_rows}
 use Rattle.node_changes.specs.Changed.{StandsOn, ShowsRows}
-use Rattle.store_history.specs.Store.{StoreView}
-use Rattle.store_history.specs.Turns.{IsTurn, Turn, made_of}
+use Rattle.store_laws.specs.Store.{StoreView}
+use Rattle.store_laws.specs.Turns.{IsTurn, Turn, made_of}
 use Rattle.vault_store.specs.Open.{counted}
 use Rattle.vault_store.specs.Outcome.{IsFormed, IsTurnOf}
 

@@ -9,7 +9,7 @@ use Rattle.file_chunks.specs.File.{is_bad_size}
 use Rattle.clear_tree.specs.Walk.{Sealing}
 use Rattle.clear_tree.specs.Kept.{What, KeptFile, KeptLink, KeptDir, KeptBad}
 use Rattle.live_tree.specs.Held.{HeldNode, HeldTree, node_of, path_of, size_of}
-use Rattle.held_changes.specs.Found.{AreLiveContents}
+use Rattle.live_tree_laws.specs.Found.{AreLiveContents}
 use Rattle.content_reader.specs.declared.reader.SealedFile.{SealedFile}
 
 -- what refuses that a node is read, before its host file is looked at. No content has a bad size

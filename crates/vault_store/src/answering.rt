@@ -2,14 +2,14 @@ ghost use Rattle.std.specs.Prelude.{◌≡◌, ◌≤◌, ◌⊎◌, ℕ, None, 
 ghost use Rattle.outside.specs.Calls.{Changes, HasCause, Told};
 ghost use Rattle.outside.specs.Disk.{IsFolder};
 ghost use Rattle.outside.specs.Images.{disk_in, now as disk_now};
-ghost use Rattle.outside.specs.Views.{folder_view, entropy_view};
+ghost use Rattle.outside.specs.Views.{folder_in, entropy_in};
 ghost use Rattle.chunk_journal.specs.Opening.{HasOpened, IsDamagedAt, IsLeftApplied, LeavesFolder, StaysOpening};
 ghost use Rattle.clear_tree.specs.Kept.{KeptTree};
-ghost use Rattle.directory_scan.specs.Format.{sealing_of};
+ghost use Rattle.tree_loading.specs.Format.{sealing_of};
 ghost use Rattle.tree_model.specs.Asked.{CanAsk, plain_request};
 ghost use Rattle.tree_loading.specs.Clear.{root_folder, HasTooMany};
 ghost use Rattle.file_changes.specs.Waiting.{IsAtRestOver};
-ghost use Rattle.store_history.specs.Ends.{HasBeenOpened};
+ghost use Rattle.store_laws.specs.Ends.{HasBeenOpened};
 ghost use Rattle.vault_store.specs.declared.opening.OpenErr.TheVariants as open_errs;
 ghost use Rattle.vault_store.specs.Open.{IsLoadedTree, view_of};
 ghost use Rattle.vault_store.specs.Outcome.{IsOutcome};
@@ -54,8 +54,8 @@ impl<D: Folder> Vault<D> {
         now: u32,
     ) -> Result<Vault<D>, Refused<D, OpenErr>>
         requires { (1 ≤ threshold) × (threshold ≤ 250) }
-        ensures opened { IfOk result (λ vault. (kept : KeptTree) × HasBeenOpened (folder_view D.log D.faults D.changes folder) keys.now now kept
-            (view_of vault.tree vault.back.waiting 0 None) (folder_view D.log D.faults D.changes vault.back.folder)) }
+        ensures opened { IfOk result (λ vault. (kept : KeptTree) × HasBeenOpened (folder_in D.Reads folder) keys.now now kept
+            (view_of vault.tree vault.back.waiting 0 None) (folder_in D.Reads vault.back.folder)) }
         ensures rest { IfOk result (λ vault. Told (D.log vault.back.folder) (IsAtRestOver (sealing_of vault.tree.keys) vault.tree.live vault.tree.claims vault.back.waiting)) }
         ensures threshold { IfOk result (λ vault. vault.tree.threshold ≡ threshold) }
         ensures later { IfOk result (λ vault. D.faults folder ≤ D.faults vault.back.folder) }
@@ -134,8 +134,8 @@ impl<D: Folder> Vault<D> {
         requires rest { Told (D.log self.old.back.folder) (IsAtRestOver (sealing_of self.old.tree.keys) self.old.tree.live self.old.tree.claims self.old.back.waiting) }
         requires threshold { (1 ≤ self.old.tree.threshold) × (self.old.tree.threshold ≤ 250) }
         ensures outcome { (entries : ℕ) → IsOutcome (view_of self.old.tree self.old.back.waiting entries None) (view_of self.new.tree self.new.back.waiting entries None)
-            (folder_view D.log D.faults D.changes self.old.back.folder) (folder_view D.log D.faults D.changes self.new.back.folder)
-            (entropy_view E.drawn E.faults entropy.old) (entropy_view E.drawn E.faults entropy.new)
+            (folder_in D.Reads self.old.back.folder) (folder_in D.Reads self.new.back.folder)
+            (entropy_in E.Entropy entropy.old) (entropy_in E.Entropy entropy.new)
             (plain_request request.now) now result buffer.old buffer.new }
         ensures rest { OnOk result (Told (D.log self.new.back.folder) (IsAtRestOver (sealing_of self.new.tree.keys) self.new.tree.live self.new.tree.claims self.new.back.waiting)) }
         ensures threshold { self.new.tree.threshold ≡ self.old.tree.threshold }

@@ -1,10 +1,10 @@
 ghost use Rattle.std.specs.Prelude.{◌≡◌, ◌≤◌, ℕ, List, [], None, Ok, IsErr};
 ghost use Rattle.outside.specs.Calls.{Told};
-ghost use Rattle.outside.specs.Views.{EntropyView, entropy_view, folder_view};
-ghost use Rattle.directory_scan.specs.Format.{sealing_of};
+ghost use Rattle.outside.specs.Views.{EntropyView, entropy_in, folder_in};
+ghost use Rattle.tree_loading.specs.Format.{sealing_of};
 ghost use Rattle.tree_model.specs.declared.reply.Reply.TheVariants as replies;
 ghost use Rattle.tree_model.specs.Asked.{create as create_request, remove as remove_request, change as change_request, PlainChange};
-ghost use Rattle.change_plans.specs.Plans.{CanResize, IsPlanned};
+ghost use Rattle.request_checks.specs.Plans.{CanResize, IsPlanned};
 ghost use Rattle.node_changes.specs.Changed.{IsAtRest};
 ghost use Rattle.node_changes.specs.Causes.{IfBroken, IfRefused};
 ghost use Rattle.vault_store.specs.Dated.{IsDated};
@@ -13,13 +13,13 @@ ghost use Rattle.vault_store.specs.Outcome.{IsWork};
 
 use crate::answering::{Broken, Vault};
 use crate::sizes::have_sizes;
-use change_plans::Plan;
 use node_changes::{ChangeErr, VaultTree};
 use outside::{Entropy, Folder};
+use request_checks::Plan;
 use tree_model::Reply;
 
 impl<D: Folder> Vault<D> {
-    /// Makes a file or a directory, where nothing waits.
+    /// Makes a file or a directory, if nothing waits.
     pub(crate) fn create_idle<E: Entropy>(
         &mut self,
         parent: u64,
@@ -32,8 +32,8 @@ impl<D: Folder> Vault<D> {
         requires rest { Told (D.log self.old.back.folder) (IsAtRest (sealing_of self.old.tree.keys) self.old.tree.live self.old.tree.claims) }
         requires threshold { (1 ≤ self.old.tree.threshold) × (self.old.tree.threshold ≤ 250) }
         ensures outcome { (entries mode : ℕ) (buffer : List ℕ) → IsWork (view_of self.old.tree [] entries None) (view_of self.new.tree [] entries None)
-            (folder_view D.log D.faults D.changes self.old.back.folder) (folder_view D.log D.faults D.changes self.new.back.folder)
-            (entropy_view E.drawn E.faults entropy.old) (entropy_view E.drawn E.faults entropy.new)
+            (folder_in D.Reads self.old.back.folder) (folder_in D.Reads self.new.back.folder)
+            (entropy_in E.Entropy entropy.old) (entropy_in E.Entropy entropy.new)
             (create_request parent name.now is_dir mode) now result buffer buffer }
         ensures idle { self.new.back.waiting ≡ [] }
         ensures threshold { self.new.tree.threshold ≡ self.old.tree.threshold }
@@ -50,13 +50,13 @@ impl<D: Folder> Vault<D> {
         }
     }
 
-    /// Removes a node, where nothing waits.
+    /// Removes a node, if nothing waits.
     pub(crate) fn remove_idle(&mut self, number: u64, now: u32) -> Result<Reply, Broken>
         requires idle { self.old.back.waiting ≡ [] }
         requires rest { Told (D.log self.old.back.folder) (IsAtRest (sealing_of self.old.tree.keys) self.old.tree.live self.old.tree.claims) }
         requires threshold { (1 ≤ self.old.tree.threshold) × (self.old.tree.threshold ≤ 250) }
         ensures outcome { (entries : ℕ) (source : EntropyView) (buffer : List ℕ) → IsWork (view_of self.old.tree [] entries None) (view_of self.new.tree [] entries None)
-            (folder_view D.log D.faults D.changes self.old.back.folder) (folder_view D.log D.faults D.changes self.new.back.folder)
+            (folder_in D.Reads self.old.back.folder) (folder_in D.Reads self.new.back.folder)
             source source (remove_request number) now result buffer buffer }
         ensures idle { self.new.back.waiting ≡ [] }
         ensures threshold { self.new.tree.threshold ≡ self.old.tree.threshold }
@@ -69,7 +69,7 @@ impl<D: Folder> Vault<D> {
         }
     }
 
-    /// Changes attributes of a node as it was planned, where nothing waits: its name or its length, and its mtime.
+    /// Changes attributes of a node as it was planned, if nothing waits: its name or its length, and its mtime.
     pub(crate) fn change_idle<E: Entropy>(
         &mut self,
         number: u64,
@@ -85,8 +85,8 @@ impl<D: Folder> Vault<D> {
         requires resizable { CanResize self.old.tree.live number plan }
         ensures outcome { (entries : ℕ) (buffer : List ℕ) (c : PlainChange) → c.modified ≡ modified → IsPlanned self.old.tree.live number c plan
             → IsWork (view_of self.old.tree [] entries None) (view_of self.new.tree [] entries None)
-            (folder_view D.log D.faults D.changes self.old.back.folder) (folder_view D.log D.faults D.changes self.new.back.folder)
-            (entropy_view E.drawn E.faults entropy.old) (entropy_view E.drawn E.faults entropy.new)
+            (folder_in D.Reads self.old.back.folder) (folder_in D.Reads self.new.back.folder)
+            (entropy_in E.Entropy entropy.old) (entropy_in E.Entropy entropy.new)
             (change_request number c) now result buffer buffer }
         ensures idle { self.new.back.waiting ≡ [] }
         ensures threshold { self.new.tree.threshold ≡ self.old.tree.threshold }

@@ -1,12 +1,12 @@
 ghost use Rattle.std.specs.Prelude.{◌≡◌, ◌≤◌, ℕ, List, [], None, OnOk, true, length};
 ghost use Rattle.outside.specs.Calls.{Told};
-ghost use Rattle.outside.specs.Views.{entropy_view, folder_view};
-ghost use Rattle.directory_scan.specs.Format.{sealing_of};
+ghost use Rattle.outside.specs.Views.{entropy_in, folder_in};
+ghost use Rattle.tree_loading.specs.Format.{sealing_of};
 ghost use Rattle.tree_model.specs.Asked.{PlainChange, change as change_request, open_node as open_request, write as write_request, write_limit};
 ghost use Rattle.tree_model.specs.Step.{truncates};
-ghost use Rattle.change_plans.specs.declared.planning.Plan.TheVariants.{Resize};
-ghost use Rattle.change_plans.specs.Files.{IsResizable};
-ghost use Rattle.change_plans.specs.Plans.{IsPlanned};
+ghost use Rattle.request_checks.specs.declared.planning.Plan.TheVariants.{Resize};
+ghost use Rattle.request_checks.specs.Files.{IsResizable};
+ghost use Rattle.request_checks.specs.Plans.{IsPlanned};
 ghost use Rattle.file_changes.specs.Waiting.{IsAtRestOver};
 ghost use Rattle.node_changes.specs.Changed.{IsAtRest};
 ghost use Rattle.vault_store.specs.Contents.{IsChangedQid};
@@ -16,9 +16,9 @@ ghost use Rattle.vault_store.specs.Outcome.{IsOutcome, IsWork};
 use crate::answering::{Broken, Vault};
 use crate::changing::refused;
 use crate::sizes::have_sizes;
-use change_plans::{truncation_refusal, write_refusal};
 use live_tree::LiveTree;
 use outside::{Entropy, Folder};
+use request_checks::{truncation_refusal, write_refusal};
 use tree_model::{Qid, Reply};
 
 impl<D: Folder> Vault<D> {
@@ -34,8 +34,8 @@ impl<D: Folder> Vault<D> {
         requires few { length bytes.now ≤ write_limit }
         requires rest { Told (D.log self.old.back.folder) (IsAtRestOver (sealing_of self.old.tree.keys) self.old.tree.live self.old.tree.claims self.old.back.waiting) }
         ensures outcome { (entries : ℕ) (buffer : List ℕ) → IsOutcome (view_of self.old.tree self.old.back.waiting entries None) (view_of self.new.tree self.new.back.waiting entries None)
-            (folder_view D.log D.faults D.changes self.old.back.folder) (folder_view D.log D.faults D.changes self.new.back.folder)
-            (entropy_view E.drawn E.faults entropy.old) (entropy_view E.drawn E.faults entropy.new)
+            (folder_in D.Reads self.old.back.folder) (folder_in D.Reads self.new.back.folder)
+            (entropy_in E.Entropy entropy.old) (entropy_in E.Entropy entropy.new)
             (write_request number at bytes.now) now result buffer buffer }
         ensures rest { OnOk result (Told (D.log self.new.back.folder) (IsAtRestOver (sealing_of self.new.tree.keys) self.new.tree.live self.new.tree.claims self.new.back.waiting)) }
         ensures threshold { self.new.tree.threshold ≡ self.old.tree.threshold }
@@ -75,8 +75,8 @@ impl<D: Folder> Vault<D> {
         requires cuts { truncates mode ≡ true }
         requires rest { Told (D.log self.old.back.folder) (IsAtRestOver (sealing_of self.old.tree.keys) self.old.tree.live self.old.tree.claims self.old.back.waiting) }
         ensures outcome { (entries : ℕ) (buffer : List ℕ) → IsOutcome (view_of self.old.tree self.old.back.waiting entries None) (view_of self.new.tree self.new.back.waiting entries None)
-            (folder_view D.log D.faults D.changes self.old.back.folder) (folder_view D.log D.faults D.changes self.new.back.folder)
-            (entropy_view E.drawn E.faults entropy.old) (entropy_view E.drawn E.faults entropy.new)
+            (folder_in D.Reads self.old.back.folder) (folder_in D.Reads self.new.back.folder)
+            (entropy_in E.Entropy entropy.old) (entropy_in E.Entropy entropy.new)
             (open_request number mode) now result buffer buffer }
         ensures rest { OnOk result (Told (D.log self.new.back.folder) (IsAtRestOver (sealing_of self.new.tree.keys) self.new.tree.live self.new.tree.claims self.new.back.waiting)) }
         ensures threshold { self.new.tree.threshold ≡ self.old.tree.threshold }
@@ -98,7 +98,7 @@ impl<D: Folder> Vault<D> {
         }
     }
 
-    /// Gives a file another length in bytes, where nothing waits, and an mtime, if one is asked for, as a change that was planned so asks.
+    /// Gives a file another length in bytes, if nothing waits, and an mtime, if one is asked for, as a change that was planned so asks.
     pub(crate) fn resize_idle<E: Entropy>(
         &mut self,
         number: u64,
@@ -112,8 +112,8 @@ impl<D: Folder> Vault<D> {
         requires rest { Told (D.log self.old.back.folder) (IsAtRest (sealing_of self.old.tree.keys) self.old.tree.live self.old.tree.claims) }
         ensures outcome { (entries : ℕ) (buffer : List ℕ) (c : PlainChange) → c.modified ≡ modified → IsPlanned self.old.tree.live number c (Resize len)
             → IsWork (view_of self.old.tree [] entries None) (view_of self.new.tree [] entries None)
-            (folder_view D.log D.faults D.changes self.old.back.folder) (folder_view D.log D.faults D.changes self.new.back.folder)
-            (entropy_view E.drawn E.faults entropy.old) (entropy_view E.drawn E.faults entropy.new)
+            (folder_in D.Reads self.old.back.folder) (folder_in D.Reads self.new.back.folder)
+            (entropy_in E.Entropy entropy.old) (entropy_in E.Entropy entropy.new)
             (change_request number c) now result buffer buffer }
         ensures idle { self.new.back.waiting ≡ [] }
         ensures threshold { self.new.tree.threshold ≡ self.old.tree.threshold }

@@ -3,8 +3,8 @@ ghost use Rattle.std.specs.Option.{option_copied};
 ghost use Rattle.std.specs.Result.{result_unwrap_or};
 ghost use Rattle.outside.specs.Calls.{Told};
 ghost use Rattle.outside.specs.Images.{disk_in};
-ghost use Rattle.outside.specs.Views.{EntropyView, folder_view};
-ghost use Rattle.directory_scan.specs.Format.{sealing_of};
+ghost use Rattle.outside.specs.Views.{EntropyView, folder_in};
+ghost use Rattle.tree_loading.specs.Format.{sealing_of};
 ghost use Rattle.tree_model.specs.Asked.{CanAsk, count_limit, plain_request, read as read_request};
 ghost use Rattle.tree_model.specs.declared.refusal.Refusal.TheVariants as refusals;
 ghost use Rattle.tree_model.specs.declared.reply.Reply.TheVariants as replies;
@@ -36,7 +36,7 @@ impl<D: Folder> Vault<D> {
         requires rest { Told (D.log self.old.back.folder) (IsAtRestOver (sealing_of self.old.tree.keys) self.old.tree.live self.old.tree.claims self.old.back.waiting) }
         requires unsynced { IsUnsynced (plain_request request.now) }
         ensures outcome { (entries second : ℕ) (source : EntropyView) → IsOutcome (view_of self.old.tree self.old.back.waiting entries None) (view_of self.new.tree self.new.back.waiting entries None)
-            (folder_view D.log D.faults D.changes self.old.back.folder) (folder_view D.log D.faults D.changes self.new.back.folder)
+            (folder_in D.Reads self.old.back.folder) (folder_in D.Reads self.new.back.folder)
             source source (plain_request request.now) second (Ok result) buffer.old buffer.new }
         ensures rest { Told (D.log self.new.back.folder) (IsAtRestOver (sealing_of self.new.tree.keys) self.new.tree.live self.new.tree.claims self.new.back.waiting) }
         ensures tree { self.new.tree ≡ self.old.tree }
@@ -81,7 +81,7 @@ impl<D: Folder> Vault<D> {
     }
 }
 
-/// Reads a slice of a node into the front of `buffer`. It takes no memory.
+// Reads a slice of a node into the front of `buffer`. It takes no memory.
 fn read<R: Reads>(
     folder: &mut R,
     keys: &VaultKeys,
@@ -95,7 +95,7 @@ fn read<R: Reads>(
     requires room { slice.count ≤ length buffer.old }
     requires contents { Told (disk_in (R.log folder.old)) (HasContents (sealing_of keys.now) tree.now) }
     ensures { (claims : List (List ℕ × ℕ)) (entries second : ℕ) (source : EntropyView) → IsStill (running keys.now tree.now claims entries) (running keys.now tree.now claims entries)
-        (folder_view R.log R.faults R.changes folder.old) (folder_view R.log R.faults R.changes folder.new)
+        (folder_in R.Reads folder.old) (folder_in R.Reads folder.new)
         source source (read_request node slice.at slice.count) second result buffer.old buffer.new }
 {
     let host = match sealed_file(tree, node) {

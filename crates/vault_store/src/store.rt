@@ -3,12 +3,12 @@ ghost use Rattle.outside.specs.Calls.{Changes, HasCause, Rose, Told};
 ghost use Rattle.chunk_journal.specs.Journal.{AnyMoment};
 ghost use Rattle.outside.specs.Disk.{IsFolder};
 ghost use Rattle.outside.specs.Images.{disk_in, now as disk_now};
-ghost use Rattle.outside.specs.Views.{folder_view, entropy_view};
+ghost use Rattle.outside.specs.Views.{folder_in, entropy_in};
 ghost use Rattle.tree_model.specs.Asked.{CanAsk, IsReplyTo, HasCount, KeepsRest, is_exhausted, plain_request, plain_reply, asked_of, bytes_put};
 ghost use Rattle.chunk_journal.specs.Opening.{HasOpened, IsDamagedAt, IsLeftApplied, LeavesFolder, StaysOpening};
 ghost use Rattle.tree_loading.specs.Clear.{root_folder, HasTooMany};
-ghost use Rattle.store_history.specs.Ends.{IsOpened};
-ghost use Rattle.store_history.specs.Turns.{AddsEntry, IsFlushed};
+ghost use Rattle.store_laws.specs.Ends.{IsOpened};
+ghost use Rattle.store_laws.specs.Turns.{AddsEntry, IsFlushed};
 ghost use Rattle.vault_store.specs.Open.{idle_of};
 ghost use Rattle.vault_store.specs.declared.opening.OpenErr.TheVariants as open_errs;
 
@@ -44,7 +44,7 @@ impl<D: Folder> Model for Store<D> {
 impl<D: Folder> Store<D> {
     /// Opens the vault in a folder: does what a stop left in its journal, and loads its tree. `threshold` is the vault's shortening
     /// threshold, 1 to 250 characters, and `now` the second of unlocking, since 1970-01-01. All memory that reads need is taken
-    /// here. A refusal hands the folder back; where it is that a deed of the journal doesn't fit it, the deeds before are done.
+    /// here. A refusal hands the folder back; if it is that a deed of the journal doesn't fit it, the deeds before are done.
     pub fn open(
         alloc: Global,
         folder: D,
@@ -53,8 +53,8 @@ impl<D: Folder> Store<D> {
         now: u32,
     ) -> Result<Store<D>, Refused<D, OpenErr>>
         requires { (1 ≤ threshold) × (threshold ≤ 250) }
-        ensures opened { IfOk result (λ store. IsOpened (folder_view D.log D.faults D.changes folder) keys.now now store.store
-            (folder_view D.log D.faults D.changes store.folder)) }
+        ensures opened { IfOk result (λ store. IsOpened (folder_in D.Reads folder) keys.now now store.store
+            (folder_in D.Reads store.folder)) }
         ensures threshold { IfOk result (λ store. store.threshold ≡ threshold) }
         ensures later { IfOk result (λ store. D.faults folder ≤ D.faults store.folder) }
         ensures damaged { IfErr result (λ refused. (at : ℕ) → refused.cause ≡ open_errs.JournalDamaged at
@@ -77,11 +77,11 @@ impl<D: Folder> Store<D> {
         })
     }
 
-    /// Answers a request that is made at a second since 1970-01-01: one entry of the history, of whoever has this random
-    /// source. Bytes of the reply are put into `buffer`, from its front on. Reads, writes and syncs take no memory.
+    /// Answers a request that is made at a second since 1970-01-01, and adds one entry to the history, attributed to the caller that owns
+    /// `entropy`. Bytes of the reply are put into `buffer`, from its front on. Reads, writes and syncs take no memory.
     ///
     /// Each change of the tree's shape or of a length is committed before it is answered, and what waits before it; a write and a truncation
-    /// wait, and reads show them at once. Where a commit fails, that is answered as the folder's fault, and from then on each request is
+    /// wait, and reads show them at once. If a commit fails, that is answered as the folder's fault, and from then on each request is
     /// answered that the store stopped there.
     pub fn serve<E: Entropy>(
         &mut self,
@@ -92,9 +92,9 @@ impl<D: Folder> Store<D> {
     ) -> Reply
         requires form { CanAsk request.now (length buffer.old) }
         ensures entry { AddsEntry self.old.store self.new.store
-            (folder_view D.log D.faults D.changes self.old.folder) (folder_view D.log D.faults D.changes self.new.folder)
+            (folder_in D.Reads self.old.folder) (folder_in D.Reads self.new.folder)
             (asked_of (plain_request request.now) now (plain_reply result) buffer.new)
-            (entropy_view E.drawn E.faults entropy.old) (entropy_view E.drawn E.faults entropy.new) }
+            (entropy_in E.Entropy entropy.old) (entropy_in E.Entropy entropy.new) }
         ensures form { IsReplyTo (plain_request request.now) (plain_reply result)
             (bytes_put (plain_request request.now) (plain_reply result) buffer.new) }
         ensures count { HasCount result }
@@ -119,12 +119,12 @@ impl<D: Folder> Store<D> {
         reply
     }
 
-    /// Closes the vault: has what waits committed, and hands back its folder and what is left in memory. `committed` is `Failed` only where
+    /// Closes the vault: has what waits committed, and hands back its folder and what is left in memory. `committed` is `Failed` only if
     /// that commit failed, which raised the folder's count of faults, or an earlier one did.
     pub fn close(self) -> (D, ClosedStore)
         ensures idle { result.1.store ≡ idle_of self.store }
         ensures flushed { IsNone self.store.stopped → OnOk result.1.committed (IsFlushed self.store (idle_of self.store)
-            (folder_view D.log D.faults D.changes self.folder) (folder_view D.log D.faults D.changes result.0)) }
+            (folder_in D.Reads self.folder) (folder_in D.Reads result.0)) }
         ensures moments { IsNone self.store.stopped → Changes (D.log self.folder) (D.log result.0) (AnyMoment self.store.waiting) }
         ensures stopped { IsSome self.store.stopped → (result.0 ≡ self.folder) × IsErr result.1.committed }
         ensures later { D.faults self.folder ≤ D.faults result.0 }

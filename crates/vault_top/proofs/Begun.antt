@@ -5,16 +5,16 @@ use Rattle.outside.specs.Images.{Log, moment, now}
 use Rattle.outside.specs.Views.{FolderView}
 use Rattle.siv_mode.specs.Keys.{KeyPair}
 use Rattle.tree_model.specs.Rows.{Rows}
-use Rattle.tree_history.specs.History.{Origin}
-use Rattle.shared_vault.specs.Turns.{StandsFor}
-use Rattle.shared_sessions.specs.Joined.{AreSince}
-use Rattle.shared_sessions.specs.declared.workers.Worker.{Worker}
+use Rattle.tree_model.specs.History.{Origin}
+use Rattle.shared_tree.specs.Turns.{StandsFor}
+use Rattle.shared_tree.specs.Joined.{AreSince}
+use Rattle.shared_tree.specs.declared.workers.Worker.{Worker}
 use Rattle.deeds.specs.Deeds.{LogGoesOn}
-use Rattle.store_history.specs.Store.{IsStoreOf, moment_of}
-use Rattle.store_history.proofs.Placed.{goes_later}
-use Rattle.store_history.specs.Ends.{IsFoundClear}
+use Rattle.store_laws.specs.Store.{IsStoreOf, moment_of}
+use Rattle.store_laws.proofs.Placed.{goes_later}
+use Rattle.store_laws.specs.Ends.{IsFoundClear}
 use Rattle.vault_store.specs.Open.{OpenVault}
-use Rattle.vault_unlock.specs.declared.unlocking.SecretKind.{SecretKind}
+use Rattle.unlocking.specs.declared.from_folder.SecretKind.{SecretKind}
 use Rattle.vault_top.specs.Span.{Course, SourceView, Views, worker_spans, given_of}
 use Rattle.vault_top.specs.Served.{entropy_before}
 use Rattle.vault_top.specs.Opening.{IsUnlockedStore}

@@ -1,12 +1,12 @@
 -- What each caller has in the one history of all workers' sessions.
 use Rattle.std.proofs.Common.{◌≡◌, ℕ, zero, suc, ◌+◌, ◌≤◌, Bool, true, false, eqb, cond, List, [], ◌∷◌, length, map, refl, sym, ap, subst, ◌∙◌, arith}
 use Rattle.tree_model.specs.Asked.{entered}
-use Rattle.tree_history.specs.History.{Entry, entries_of, Tally, next, after, Origin, tally_of}
-use Rattle.shared_vault.specs.Clients.{AreDrawnFor}
-use Rattle.shared_sessions.specs.Joined.{AreSince, AreCallers}
-use Rattle.shared_sessions.specs.declared.workers.Worker.{Worker}
+use Rattle.tree_model.specs.History.{Entry, entries_of, Tally, next, after, Origin, tally_of}
+use Rattle.shared_tree.specs.Clients.{AreDrawnFor}
+use Rattle.shared_tree.specs.Joined.{AreSince, AreCallers}
+use Rattle.shared_tree.specs.declared.workers.Worker.{Worker}
 use Rattle.vault_top.specs.Span.{Views, WorkerSpan, worker_spans}
-use Rattle.store_history.specs.Turns.{draws_for}
+use Rattle.store_laws.specs.Turns.{draws_for}
 use Rattle.vault_top.specs.Served.{Share, AreAllDrawn, asked_by, entropy_before, entropy_after}
 
 -- ---- one caller
@@ -38,7 +38,7 @@ module _ {C : Type 0} (origin : Origin) (entries : List Entry) where
     all_drawn (k + 1) (suc n) workers shares (omega arith) h.1,
   )
 
-  -- what the caller of a number was asked, where none past the last was asked anything
+  -- what the caller of a number was asked, if none past the last was asked anything
   pub callers_at : (n k i : ℕ) (workers : List (WorkerSpan C)) (shares : List (Share C)) → n ≡ k + i → AreCallers draws_for origin entries k workers shares
       → ((j : ℕ) → k + length workers ≤ j → entries_of j entries ≡ []) → map (λ entry. entry.made.asked) (entries_of n entries) ≡ entered (asked_by shares i)
   callers_at n k i [] [] is h none = ap (λ (es : List Entry). map (λ entry. entry.made.asked) es) (none n (omega arith))
@@ -48,7 +48,7 @@ module _ {C : Type 0} (origin : Origin) (entries : List Entry) where
       let e : n ≡ k = omega arith in ap (λ (m : ℕ). map (λ (entry : Entry). entry.made.asked) (entries_of m entries)) e ∙ h.0.asked
   callers_at n k (suc i) (worker ∷ workers) (share ∷ shares) is h none = callers_at n (k + 1) i workers shares (omega arith) h.1 (λ j past. none j (omega arith))
 
-  -- the faults of its random source, where past the last there are none
+  -- the faults of its random source, if past the last there are none
   pub faults_at : (n k i : ℕ) (workers : List (WorkerSpan C)) (shares : List (Share C)) → n ≡ k + i → AreCallers draws_for origin entries k workers shares
       → ((j : ℕ) → k + length workers ≤ j → (tally_of origin entries).entropy_faults j ≤ 0) → (tally_of origin entries).entropy_faults n ≤ entropy_after workers i
   faults_at n k i [] [] is h none = none n (omega arith)

@@ -9,32 +9,32 @@ use Rattle.outside.specs.Disk.{Disk}
 use Rattle.outside_mem.specs.Held.{Holding}
 use Rattle.outside_mem.specs.Links.{Links}
 use Rattle.outside_mem.specs.Words.{Drawing}
-use Rattle.directory_scan.specs.Format.{sealing_of}
-use Rattle.tree_changes.specs.Shapes.{HasTree}
+use Rattle.tree_loading.specs.Format.{sealing_of}
+use Rattle.tree_deed_laws.specs.Shapes.{HasTree}
 use Rattle.masterkey_file.specs.Password.{line_of}
-use Rattle.vault_keys.specs.Unlock.{UnlockedVault, bad_secret}
+use Rattle.unlocking.specs.FromFiles.{UnlockedVault, bad_secret}
 use Rattle.vault_words.specs.Jobs.{Demonstration}
-use Rattle.demo_work.specs.Summary.{summary_line}
-use Rattle.demo_objects.specs.Objects.{IsEmptyVault, key_line}
+use Rattle.demonstration.specs.Summary.{summary_line}
+use Rattle.demonstration.specs.Objects.{IsEmptyVault, key_line}
 use Rattle.outside.specs.declared.stream.Failed.{Failed}
 use Rattle.outside.specs.Calls.{Changes, Told}
 use Rattle.outside.specs.Images.{disk_in, now}
 use Rattle.outside.specs.Views.{FolderView}
 use Rattle.siv_mode.specs.Keys.{KeyPair}
 use Rattle.tree_model.specs.Rows.{Rows}
-use Rattle.tree_history.specs.History.{Entry, Origin, rows_after, rows_at, rows_then}
+use Rattle.tree_model.specs.History.{Entry, Origin, rows_after, rows_at, rows_then}
 use Rattle.session_server.specs.declared.ending.SessionEnd.{SessionEnd}
 use Rattle.session_server.specs.declared.ending.SessionEnd.TheVariants.{Done, Cut, BadFrame, ReadFault, WriteFault, Limit, Memory}
-use Rattle.session_workers.specs.declared.counts.SessionCounts.{SessionCounts}
-use Rattle.session_workers.specs.Ends.{AreCounts, count_of, is_done}
-use Rattle.session_workers.specs.Shares.{all_ends}
-use Rattle.session_workers.specs.Workers.{MayStop}
-use Rattle.shared_sessions.specs.declared.workers.Worker.{Worker}
-use Rattle.store_history.specs.Store.{StoreView, bounded}
+use Rattle.session_server.specs.declared.counts.SessionCounts.{SessionCounts}
+use Rattle.session_server.specs.Ends.{AreCounts, count_of, is_done}
+use Rattle.session_server.specs.Shares.{all_ends}
+use Rattle.session_server.specs.Workers.{MayStop}
+use Rattle.shared_tree.specs.declared.workers.Worker.{Worker}
+use Rattle.store_laws.specs.Store.{StoreView, bounded}
 use Rattle.vault_store.specs.Open.{ClosedVault}
-use Rattle.vault_unlock.specs.Secret.{IsAfterLine, raw_keys}
-use Rattle.vault_unlock.specs.Unlock.{IsUnlocking, unlock, with_raw_threshold}
-use Rattle.vault_unlock.specs.declared.unlocking.SecretKind.TheVariants.{RawKeys}
+use Rattle.unlocking.specs.Secret.{IsAfterLine, raw_keys}
+use Rattle.unlocking.specs.FromFolder.{IsUnlocking, unlock, with_raw_threshold}
+use Rattle.unlocking.specs.declared.from_folder.SecretKind.TheVariants.{RawKeys}
 use Rattle.vault_top.specs.Span.{Course, SourceView, Views, span_of}
 use Rattle.vault_top.specs.Sharing.{AreBeginnings, IsAlone}
 use Rattle.vault_top.specs.Sessions.{IsServedWhole}
@@ -52,7 +52,7 @@ use Rattle.vault_top.proofs.Reasons.{served_well}
 
 -- ---- ends
 
--- where as many ended between two messages as there were, each did
+-- if as many ended between two messages as there were, each did
 pub all_done : (ends : List SessionEnd) → count_of is_done ends ≡ length ends → AllByRecursion (λ end. end ≡ Done) ends
 all_done [] all = tt
 all_done (Done ∷ ends) all = (refl, all_done ends (omega arith))

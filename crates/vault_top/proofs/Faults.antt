@@ -3,7 +3,7 @@ use Rattle.std.proofs.Common.{◌≡◌, ℕ, ◌≤◌, Bool, true, false, cond
 use Rattle.std.proofs.lemmas.Bool.{cases_lt}
 use Rattle.outside.specs.Calls.{Rose}
 use Rattle.tree_model.specs.Asked.{PlainReply}
-use Rattle.tree_history.specs.History.{Entry, Tally, next, after, HasCause, IsCaused, AreCaused}
+use Rattle.tree_model.specs.History.{Entry, Tally, next, after, HasCause, IsCaused, AreCaused}
 
 -- a count that rose between two others
 pub rose_within : (a b c d : ℕ) → a ≤ b → b ≤ c → c ≤ d → Rose b c → Rose a d

@@ -7,17 +7,17 @@ use Rattle.outside.specs.Views.{FolderView}
 use Rattle.chunk_journal.specs.Journal.{AnyMoment}
 use Rattle.siv_mode.specs.Keys.{KeyPair}
 use Rattle.tree_model.specs.Rows.{Rows}
-use Rattle.tree_history.specs.History.{Entry, Origin}
+use Rattle.tree_model.specs.History.{Entry, Origin}
 use Rattle.session_server.specs.declared.ending.SessionEnd.{SessionEnd}
-use Rattle.session_workers.specs.declared.counts.SessionCounts.{SessionCounts}
-use Rattle.session_workers.specs.Shares.{AreShares, all_ends}
-use Rattle.session_workers.specs.Workers.{MayStop}
-use Rattle.shared_sessions.specs.Workers as spans
-use Rattle.shared_sessions.specs.Joined.{IsJoined}
-use Rattle.shared_sessions.specs.declared.workers.Worker.{Worker}
-use Rattle.shared_vault.specs.Turns.{StandsFor}
-use Rattle.store_history.specs.Turns.{IsFlushed, draws_for}
-use Rattle.store_history.specs.Store.{StoreView}
+use Rattle.session_server.specs.declared.counts.SessionCounts.{SessionCounts}
+use Rattle.session_server.specs.Shares.{AreShares, all_ends}
+use Rattle.session_server.specs.Workers.{MayStop}
+use Rattle.shared_tree.specs.Workers as spans
+use Rattle.shared_tree.specs.Joined.{IsJoined}
+use Rattle.shared_tree.specs.declared.workers.Worker.{Worker}
+use Rattle.shared_tree.specs.Turns.{StandsFor}
+use Rattle.store_laws.specs.Turns.{IsFlushed, draws_for}
+use Rattle.store_laws.specs.Store.{StoreView}
 use Rattle.vault_store.specs.Open.{ClosedVault, OpenVault, idle_of}
 use Rattle.vault_top.specs.Span.{Views}
 use Rattle.vault_top.specs.Sharing.{IsSharedStore}
@@ -108,7 +108,7 @@ closing_of view vault closed folder later idle flushed stopped moments cause = r
       ]
     ]
 
--- the same as its folder's views tell it
+-- the same as its folder's views show it
 pub seen_closing : {D : Type 0} (view : D → FolderView) (store : StoreView) (before : D) (closed : ClosedVault) (after : D) → IsClosing view store before closed after → IsClosing (λ v. v) store (view before) closed (view after)
 seen_closing view store before closed after is = record { later = is.later; idle = is.idle; well = is.well; badly = seen closed.committed is.badly }
   where

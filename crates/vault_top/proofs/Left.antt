@@ -10,13 +10,13 @@ use Rattle.deeds.proofs.Growing.{goes_nowhere}
 use Rattle.siv_mode.specs.Keys.{KeyPair}
 use Rattle.chunk_journal.specs.Opening.{HasOpened}
 use Rattle.tree_model.specs.Rows.{Rows}
-use Rattle.tree_history.specs.History.{Entry, Origin, tally_at, tally_of, AreCaused, IsLegal}
-use Rattle.stop_history.specs.Stands.{IsInState}
-use Rattle.stop_history.specs.Prefix.{BeginningRecovers, IsWhole, StopsRecover}
-use Rattle.store_history.specs.Store.{StoreView, ArePlaced, ArePlacedSince, HasRowsLeft, IsSaidFrom, IsStoredIn, IsStoreOf, bounded, moment_of, shows_under}
-use Rattle.store_history.specs.Turns.{IsFlushed}
-use Rattle.store_history.proofs.Ends.{closings_recover, stores_recover, stores_are_whole}
-use Rattle.store_history.proofs.Flushed.{flushes_stand}
+use Rattle.tree_model.specs.History.{Entry, Origin, tally_at, tally_of, AreCaused, IsLegal}
+use Rattle.crash_laws.specs.Stands.{IsInState}
+use Rattle.crash_laws.specs.Prefix.{BeginningRecovers, IsWhole, StopsRecover}
+use Rattle.store_laws.specs.Store.{StoreView, ArePlaced, ArePlacedSince, HasRowsLeft, IsSaidFrom, IsStoredIn, IsStoreOf, bounded, moment_of, shows_under}
+use Rattle.store_laws.specs.Turns.{IsFlushed}
+use Rattle.store_laws.proofs.Ends.{closings_recover, stores_recover, stores_are_whole}
+use Rattle.store_laws.proofs.Flushed.{flushes_stand}
 use Rattle.vault_store.specs.Open.{ClosedVault, idle_of}
 use Rattle.vault_top.specs.Served.{HasStops, IsClosing, IsCutOff, IsLeftWhole}
 use Rattle.vault_top.proofs.Faults.{rose_within}
@@ -61,7 +61,7 @@ left_by before after store rows origin entries is = let recover = stores_recover
 
 -- ---- a vault that was closed
 
--- where a commit had failed, what waits is of no account
+-- if a commit had failed, what waits is of no account
 module _ (found : Option Log) (store : StoreView) (folder : FolderView) (rows : Rows) (origin : Origin) (entries : List Entry) where
   broken : (stopped : Option ℕ) (opened : ℕ) (log : Log) → IsSome stopped
       → IsInState (shows_under found store.keys) opened rows entries store.waiting log stopped → IsInState (shows_under found store.keys) opened rows entries [] log stopped
@@ -210,7 +210,7 @@ module _ (before : FolderView) (store : StoreView) (back folder : FolderView) (r
   pub failed_closed : IsErr closed.committed → IsSome (tally_of origin entries).stopped ⊎ Rose (tally_of origin entries).folder_faults folder.faults
   failed_closed bad = failed_when closed.committed how.badly bad
 
--- ---- nothing is said of a folder that is as it was, where the history's moment is still to come
+-- ---- nothing is said of a folder that is as it was, if the history's moment is still to come
 
 said_later : (origin : Origin) (log : Log) → origin.moment ≡ suc (moment log) → (opened : ℕ) → IsSaidFrom (Some log) origin opened → suc (moment log) ≤ opened
 said_later origin log next opened (inl here) = omega (arith, here, next)

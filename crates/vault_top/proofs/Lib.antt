@@ -21,3 +21,4 @@ pub mod SoundServing
 pub mod SoundStatus
 pub mod NewVaults
 pub mod Stopped
+pub mod Undamaged

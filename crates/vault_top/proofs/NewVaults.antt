@@ -2,13 +2,13 @@
 use Rattle.std.proofs.Common.{◌≡◌, ℕ, List, [], ◌∷◌, ◌++◌, refl, ap, sym, subst, ◌∙◌}
 use Rattle.outside.specs.Disk.{Disk, Path, IsFolder, IsTree, node_at}
 use Rattle.siv_mode.specs.Keys.{KeyPair}
-use Rattle.dir_paths.specs.Folder.{folder_of}
+use Rattle.vault_names.specs.Folder.{folder_of}
 use Rattle.clear_tree.specs.Places.{host_folder}
 use Rattle.clear_tree.specs.Laws.{root_rows}
 use Rattle.clear_tree.proofs.Empty.{bare_vault_is_clear}
-use Rattle.directory_scan.specs.Format.{sealing_of}
+use Rattle.tree_loading.specs.Format.{sealing_of}
 use Rattle.tree_loading.specs.Clear.{IsClear}
-use Rattle.tree_changes.proofs.Seeing.{none_below}
+use Rattle.tree_deed_laws.proofs.Seeing.{none_below}
 use Rattle.vault_make.specs.Draws.{NewSecrets}
 use Rattle.vault_make.specs.Vault.{IsNewVault}
 

@@ -8,10 +8,10 @@ use Rattle.outside.proofs.Told.{changed_by}
 use Rattle.siv_mode.specs.Keys.{KeyPair}
 use Rattle.session_server.proofs.Links.{rose_later}
 use Rattle.chunk_journal.specs.Opening.{HasOpened, IsDamagedAt, IsLeftApplied, LeavesFolder, StaysOpening}
-use Rattle.stop_history.specs.Opening.{IsSoundlyFound, OpeningRecovers}
-use Rattle.store_history.specs.Store.{shows_under}
-use Rattle.store_history.proofs.Ends.{failed_openings_recover}
-use Rattle.vault_keys.specs.Unlock.{UnlockedVault}
+use Rattle.crash_laws.specs.Opening.{IsSoundlyFound, OpeningRecovers}
+use Rattle.store_laws.specs.Store.{shows_under}
+use Rattle.store_laws.proofs.Ends.{failed_openings_recover}
+use Rattle.unlocking.specs.FromFiles.{UnlockedVault}
 use Rattle.tree_loading.specs.Clear.{HasTooMany, root_folder}
 use Rattle.vault_store.specs.declared.opening.OpenErr.{OpenErr}
 use Rattle.vault_store.specs.declared.opening.OpenErr.TheVariants.{Device, JournalDamaged, TooMany, NoRoot, Memory}

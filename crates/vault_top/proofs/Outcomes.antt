@@ -6,12 +6,12 @@ use Rattle.vault_top.specs.Report.{line, sessions_line, TakesPart}
 use Rattle.vault_top.specs.Span.{SinkView, Views}
 use Rattle.vault_top.specs.Ending.{Ending, no_memory_to_serve, served, listener_fault, closing_fault, serving, report_of, status_of, cut_status_of, IsReported}
 use Rattle.vault_top.specs.Serving.{HasOutcome, HasServed, AreCounted, MayEnd, HasLastLine, unreported}
-use Rattle.session_workers.specs.declared.counts.SessionCounts.{SessionCounts}
-use Rattle.session_workers.specs.Ends.{AreCounts}
-use Rattle.session_workers.specs.Shares.{all_ends}
-use Rattle.shared_sessions.specs.declared.workers.Worker.{Worker}
+use Rattle.session_server.specs.declared.counts.SessionCounts.{SessionCounts}
+use Rattle.session_server.specs.Ends.{AreCounts}
+use Rattle.session_server.specs.Shares.{all_ends}
+use Rattle.shared_tree.specs.declared.workers.Worker.{Worker}
 use Rattle.tree_model.specs.Rows.{Rows}
-use Rattle.tree_history.specs.History.{Origin}
+use Rattle.tree_model.specs.History.{Origin}
 use Rattle.outside.specs.Views.{FolderView}
 use Rattle.siv_mode.specs.Keys.{KeyPair}
 use Rattle.outside.specs.declared.stream.Failed.{Failed}
@@ -60,7 +60,7 @@ pub record Reports (ends : List SessionEnd) (outcome : Outcome) (before after : 
   pub may : MayEnd ends outcome ending
   pub reported : IsReported (record { before = before; after = after }) ending status
 
--- the last line was written behind the first
+-- the last line was written after the first
 pub reports_both : (ends : List SessionEnd) (outcome : Outcome) (before middle after : SinkView) (status : ℕ) → before.faults ≤ middle.faults
     → Changes before.taken middle.taken (λ old new. new ≡ old ++ serving)
     → ((x : List SessionEnd) → AreCounted x outcome → HasLastLine x outcome (record { before = middle; after = after }) status)

@@ -7,21 +7,21 @@ use Rattle.outside.specs.Images.{Log, disk_in, now}
 use Rattle.outside.specs.Views.{FolderView, EntropyView}
 use Rattle.siv_mode.specs.Keys.{KeyPair}
 use Rattle.tree_model.specs.Rows.{Rows}
-use Rattle.tree_history.specs.History.{Entry, Origin, tally_at, tally_of}
+use Rattle.tree_model.specs.History.{Entry, Origin, tally_at, tally_of}
 use Rattle.session_server.specs.declared.ending.SessionEnd.{SessionEnd}
-use Rattle.session_workers.specs.declared.counts.SessionCounts.{SessionCounts}
-use Rattle.session_workers.specs.Workers.{MayStop, ListenerFailed, SomeFailed}
-use Rattle.shared_sessions.specs.declared.workers.Worker.{Worker}
-use Rattle.stop_history.specs.Prefix.{IsWhole}
-use Rattle.store_history.specs.Store.{StoreView, ArePlacedSince, IsStoreOf, moment_of, shows_under}
-use Rattle.store_history.specs.Ends.{IsFoundClear}
-use Rattle.vault_unlock.specs.Secret.{IsAfterLine}
-use Rattle.vault_unlock.specs.Unlock.{IsUnlocking}
-use Rattle.vault_unlock.specs.declared.unlocking.SecretKind.{SecretKind}
+use Rattle.session_server.specs.declared.counts.SessionCounts.{SessionCounts}
+use Rattle.session_server.specs.Workers.{MayStop, ListenerFailed, SomeFailed}
+use Rattle.shared_tree.specs.declared.workers.Worker.{Worker}
+use Rattle.crash_laws.specs.Prefix.{IsWhole}
+use Rattle.store_laws.specs.Store.{StoreView, ArePlacedSince, IsStoreOf, moment_of, shows_under}
+use Rattle.store_laws.specs.Ends.{IsFoundClear}
+use Rattle.unlocking.specs.Secret.{IsAfterLine}
+use Rattle.unlocking.specs.FromFolder.{IsUnlocking}
+use Rattle.unlocking.specs.declared.from_folder.SecretKind.{SecretKind}
 use Rattle.vault_store.specs.Open.{ClosedVault, OpenVault}
 use Rattle.vault_words.specs.Jobs.{Serving, serve, make}
-use Rattle.vault_causes.specs.declared.cause.Cause.{Cause}
-use Rattle.vault_causes.specs.declared.cause.Cause.TheVariants.{Words, Memory}
+use Rattle.vault_top.specs.declared.cause.Cause.{Cause}
+use Rattle.vault_top.specs.declared.cause.Cause.TheVariants.{Words, Memory}
 use Rattle.vault_top.specs.Words.{Ask, AreRefused, kind_of}
 use Rattle.vault_top.specs.Tasks.{IsServiceOf}
 use Rattle.vault_top.specs.Span.{Course, SourceView, SinkView, Views, WorkerSpan, Span, worker_spans, given_of, span_of}
@@ -190,7 +190,7 @@ module _ {D N C E : Type 0} (start : Rows → Origin → Type 0) (since : Folder
       → Told (views.folder h.folder).log (λ log. IsWhole (shows_under (views.folder folder).log (begun_as h).vault.keys) h.rows h.joined.entries log)
   whole_in h ok = whole_under since views.folder service.kind secret.before second folder h.store h.rows h.origin h.joined.entries h.joined.right (begun_as h) h.folder h.closed h.closing ok
 
-  -- where it was closed well, no commit failed, and all entries are on the disk
+  -- if it was closed well, no commit failed, and all entries are on the disk
   pub served_well : (h : HasServedAll start since views second service workers workers' ends back) → ((worker : WorkerSpan C) → MayStop h.counts worker → Never worker) → IsOk h.closed.committed
       → HasServedWell views (span_of views words secret second folder h.folder workers workers' closed) service.kind service.sessions (min service.at_once (length workers)) ends (length h.joined.entries)
   unfolding served_to begun_as handed
@@ -294,7 +294,7 @@ unshared_kept start since views words secret second folder kept serving service 
       idle = idle views workers;
     }
 
--- and where it isn't, nothing is said of it
+-- and if it isn't, nothing is said of it
 unshared_lost : {D N C E : Type 0} (views : Views D N C E) (words : List (List ℕ)) (secret : Course SourceView) (second : Option ℕ) (folder : D) (serving : Serving) (store : OpenVault D)
     (workers : List (Worker N E)) (closed : Option ClosedVault) → Ask words (serve serving) → IsUnlockedStore views.folder (given_of views.folder secret second folder folder) (kind_of serving) folder store
     → IsUnshared (span_of views words secret second folder folder workers workers closed)

@@ -1,4 +1,4 @@
--- Where nothing failed and no directory held foreign entries, which places are taken.
+-- If nothing failed and no directory held foreign entries, which places are taken.
 use Rattle.std.proofs.Common.{◌≡◌, ℕ, zero, suc, Bool, false, cond, List, [], ◌∷◌, take, Option, Some, IsNone, IsSome, refl, sym, subst}
 use Rattle.std.proofs.lemmas.Option.{same_Some}
 use Rattle.outside.specs.Calls.{Told}
@@ -6,11 +6,11 @@ use Rattle.outside.specs.Images.{Log, log_at, now}
 use Rattle.outside.proofs.Told.{told_then}
 use Rattle.siv_mode.specs.Keys.{KeyPair}
 use Rattle.tree_model.specs.Rows.{Rows}
-use Rattle.tree_history.specs.History.{Entry, Origin, Tally, after, entry_at, next, rows_at, tally_at, tally_of, AreCaused, MayDraw}
-use Rattle.tree_history.specs.Laws.{AreStepped}
-use Rattle.store_history.specs.Store.{ArePlaced}
-use Rattle.taken_places.proofs.Requests.{places_are_anothers}
-use Rattle.taken_places.proofs.Unmarked.{histories_stay_unmarked}
+use Rattle.tree_model.specs.History.{Entry, Origin, Tally, after, entry_at, next, rows_at, tally_at, tally_of, AreCaused, MayDraw}
+use Rattle.tree_model.specs.Laws.{AreStepped}
+use Rattle.store_laws.specs.Store.{ArePlaced}
+use Rattle.store_laws.proofs.Requests.{places_are_anothers}
+use Rattle.store_laws.proofs.Unmarked.{histories_stay_unmarked}
 use Rattle.vault_top.specs.Sound.{AreRightlyTaken}
 
 may_draw_at : (tally : Tally) (entries : List Entry) → AreCaused tally entries → (i : ℕ) (entry : Entry) → entry_at entries i ≡ Some entry → IsSome entry.made.drawn → MayDraw entry.made.asked.request

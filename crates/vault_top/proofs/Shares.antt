@@ -3,9 +3,9 @@ use Rattle.std.proofs.Common.{ℕ, suc, List, [], ◌∷◌, Option, Result, Ok,
 use Rattle.std.specs.Prelude.{IsErr, OnErr}
 use Rattle.outside.specs.declared.stream.Failed.{Failed}
 use Rattle.outside.specs.Views.{LinkView}
-use Rattle.session_workers.specs.declared.counts.SessionCounts.{SessionCounts}
-use Rattle.session_workers.proofs.Sharing.{gave_as}
-use Rattle.session_workers.specs.Workers.{MayStop, ListenerFailed}
+use Rattle.session_server.specs.declared.counts.SessionCounts.{SessionCounts}
+use Rattle.session_server.proofs.Sharing.{gave_as}
+use Rattle.session_server.specs.Workers.{MayStop, ListenerFailed}
 use Rattle.vault_top.specs.Span.{WorkerSpan}
 use Rattle.vault_top.specs.Served.{Share, AreShares}
 

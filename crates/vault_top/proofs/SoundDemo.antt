@@ -1,7 +1,7 @@
 -- A demonstration is held.
 use Rattle.std.proofs.Common.{◌≡◌, inl, inr}
-use Rattle.vault_causes.specs.declared.cause.Cause.{Cause}
-use Rattle.vault_causes.specs.declared.cause.Cause.TheVariants.{Memory}
+use Rattle.vault_top.specs.declared.cause.Cause.{Cause}
+use Rattle.vault_top.specs.declared.cause.Cause.TheVariants.{Memory}
 use Rattle.vault_words.specs.Jobs.{Demonstration, Job, serve, make, demo, help, version, AsksFor}
 use Rattle.vault_top.specs.Words.{Ask}
 use Rattle.vault_top.specs.Span.{Views, Span}

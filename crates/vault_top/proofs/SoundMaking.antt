@@ -5,17 +5,17 @@ use Rattle.outside.specs.Calls.{Rose, Told}
 use Rattle.outside.specs.Images.{Log, now}
 use Rattle.outside.specs.Views.{EntropyView}
 use Rattle.masterkey_file.specs.Password.{password_of}
-use Rattle.vault_unlock.specs.declared.secret.SecretErr.{SecretErr}
-use Rattle.vault_unlock.specs.declared.secret.SecretErr.TheVariants as secret_errs
+use Rattle.unlocking.specs.declared.secret.SecretErr.{SecretErr}
+use Rattle.unlocking.specs.declared.secret.SecretErr.TheVariants as secret_errs
 use Rattle.vault_make.specs.Vault.{IsEmpty}
 use Rattle.vault_make.specs.Entries.{IsFirstEntry}
 use Rattle.vault_make.specs.Errors.{IsUnmade}
 use Rattle.vault_make.specs.declared.error.MakeErr.{MakeErr}
 use Rattle.vault_make.specs.declared.error.MakeErr.TheVariants as make_errs
 use Rattle.vault_words.specs.Jobs.{serve, make, demo, help, version}
-use Rattle.vault_causes.specs.Causes.{of_secret, of_make}
-use Rattle.vault_causes.specs.declared.cause.Cause.{Cause}
-use Rattle.vault_causes.specs.declared.cause.Cause.TheVariants.{Memory}
+use Rattle.vault_top.specs.Causes.{of_secret, of_make}
+use Rattle.vault_top.specs.declared.cause.Cause.{Cause}
+use Rattle.vault_top.specs.declared.cause.Cause.TheVariants.{Memory}
 use Rattle.vault_top.specs.Span.{Course, Views, WorkerSpan, Span, Given}
 use Rattle.vault_top.specs.Making.{HasNoPassword, HasRisen, IsNotMade}
 use Rattle.vault_top.specs.Ending.{Ending, refused, usage_said, version_said, made, no_memory_to_serve, served, listener_fault, closing_fault, no_memory_to_report, demonstrated, DrawsAlone, IsRefused, HasReason}

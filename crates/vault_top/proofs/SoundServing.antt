@@ -1,4 +1,4 @@
--- Where nothing failed, what was served is answered as the step says, and sessions of whole messages to their end.
+-- If nothing failed, what was served is answered as the step says, and sessions of whole messages to their end.
 use Rattle.std.proofs.Common.{◌≡◌, ℕ, zero, suc, ◌≤◌, Bool, true, false, eqb, eqb-true, eq-eqb, cond, List, [], ◌∷◌, length, Option, Some, None, IsSome, refl, sym, ap, subst, inl, inr, arith}
 use Rattle.std.specs.List.{AllByRecursion}
 use Rattle.outside.specs.Calls.{Rose, Told}
@@ -6,9 +6,9 @@ use Rattle.outside.specs.Images.{Log}
 use Rattle.outside.specs.Views.{LinkView}
 use Rattle.siv_mode.specs.Keys.{KeyPair}
 use Rattle.tree_model.specs.Asked.{Asked}
-use Rattle.tree_history.specs.History.{Entry, Tally, next, after, tally_at, IsCaused, AreCaused, IsLegal}
-use Rattle.tree_history.specs.Laws.{AreFaultless, AreStepped}
-use Rattle.tree_history.proofs.Faultless.{are_stepped}
+use Rattle.tree_model.specs.History.{Entry, Tally, next, after, tally_at, IsCaused, AreCaused, IsLegal}
+use Rattle.tree_model.specs.Laws.{AreFaultless, AreStepped}
+use Rattle.tree_model.proofs.Faultless.{are_stepped}
 use Rattle.session_server.specs.declared.ending.SessionEnd.{SessionEnd}
 use Rattle.session_server.specs.declared.ending.SessionEnd.TheVariants as ends
 use Rattle.session_server.specs.Served.{ServedLink, TalkedOn, TalkedOnEach}

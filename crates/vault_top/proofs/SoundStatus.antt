@@ -1,18 +1,18 @@
 -- The status of a run with a sound job, in which nothing failed.
 use Rattle.std.proofs.Common.{◌≡◌, ◌⊎◌, ℕ, List, Option, refl, sym, subst, inl, inr}
 use Rattle.clap.specs.Words.{Text}
-use Rattle.vault_causes.specs.declared.cause.Cause.{Cause}
-use Rattle.vault_causes.specs.declared.cause.Cause.TheVariants.{Memory}
+use Rattle.vault_top.specs.declared.cause.Cause.{Cause}
+use Rattle.vault_top.specs.declared.cause.Cause.TheVariants.{Memory}
 use Rattle.vault_top.specs.Span.{Course, SourceView, SinkView, Views, Span, span_of}
 use Rattle.vault_top.specs.Ending.{Ending, refused, usage_said, version_said, made, no_memory_to_serve, served, listener_fault, closing_fault, no_memory_to_report, demonstrated, HasReason, status_of}
 use Rattle.vault_top.specs.Sound.{IsSoundJob, IsSoundRun, IsFaultless, IsServedOrFull, IsMadeOrFull, IsHeldOrFull}
-use Rattle.shared_sessions.specs.declared.workers.Worker.{Worker}
+use Rattle.shared_tree.specs.declared.workers.Worker.{Worker}
 use Rattle.vault_top.specs.declared.program.Ended.{Ended}
 use Rattle.vault_top.proofs.Soundness.{sound}
 use Rattle.vault_top.proofs.SoundMaking.{sound_to_make}
 use Rattle.vault_top.proofs.SoundDemo.{held}
 
--- 0, or 5 where memory ran out
+-- 0, or 5 if memory ran out
 abbrev IsGood : ℕ → Type 0
 IsGood status = (status ≡ 0) ⊎ (status ≡ 5)
 

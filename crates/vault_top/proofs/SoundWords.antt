@@ -1,4 +1,4 @@
--- Where the words are refused, nothing is done.
+-- If the words are refused, nothing is done.
 use Rattle.std.proofs.Common.{inl, inr}
 use Rattle.vault_words.specs.Jobs.{Job, serve, make, demo, help, version}
 use Rattle.vault_top.specs.Words.{Ask, AreRefused}

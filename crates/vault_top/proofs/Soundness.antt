@@ -6,24 +6,24 @@ use Rattle.outside.specs.Images.{Log, disk_in, now}
 use Rattle.siv_mode.specs.Keys.{KeyPair}
 use Rattle.chunk_journal.specs.Journal.{IsAlike, RecoversTo}
 use Rattle.chunk_journal.specs.Opening.{HasOpened, IsDamagedAt, LeavesFolder}
-use Rattle.tree_history.specs.History.{tally_at, tally_of}
-use Rattle.vault_keys.specs.Unlock.{UnlockedVault}
-use Rattle.vault_keys.specs.Unlock as unlock
-use Rattle.vault_keys.specs.Errors.{IsOf, IsCause, key_fault, config_fault}
-use Rattle.vault_keys.specs.declared.errors.UnlockErr.{UnlockErr}
-use Rattle.vault_keys.specs.declared.errors.UnlockErr.TheVariants as unlock_errs
-use Rattle.vault_unlock.specs.Unlock as unlocking
-use Rattle.vault_unlock.specs.Unlock.{IsUnlocking}
-use Rattle.vault_unlock.specs.declared.unlocking.SecretKind.{SecretKind}
-use Rattle.vault_unlock.specs.declared.refusal.Refusal.{Refusal}
-use Rattle.vault_unlock.specs.declared.refusal.Refusal.TheVariants as refusals
+use Rattle.tree_model.specs.History.{tally_at, tally_of}
+use Rattle.unlocking.specs.FromFiles.{UnlockedVault}
+use Rattle.unlocking.specs.FromFiles as unlock
+use Rattle.unlocking.specs.Errors.{IsOf, IsCause, key_fault, config_fault}
+use Rattle.unlocking.specs.declared.errors.UnlockErr.{UnlockErr}
+use Rattle.unlocking.specs.declared.errors.UnlockErr.TheVariants as unlock_errs
+use Rattle.unlocking.specs.FromFolder as unlocking
+use Rattle.unlocking.specs.FromFolder.{IsUnlocking}
+use Rattle.unlocking.specs.declared.from_folder.SecretKind.{SecretKind}
+use Rattle.unlocking.specs.declared.refusal.Refusal.{Refusal}
+use Rattle.unlocking.specs.declared.refusal.Refusal.TheVariants as refusals
 use Rattle.vault_words.specs.Jobs.{serve, make, demo, help, version}
 use Rattle.tree_loading.specs.Clear.{HasTooMany, root_folder}
 use Rattle.vault_store.specs.declared.opening.OpenErr.{OpenErr}
 use Rattle.vault_store.specs.declared.opening.OpenErr.TheVariants as open_errs
-use Rattle.vault_causes.specs.Causes.{of_refusal, of_unlock}
-use Rattle.vault_causes.specs.declared.cause.Cause.{Cause}
-use Rattle.vault_causes.specs.declared.cause.Cause.TheVariants.{Memory}
+use Rattle.vault_top.specs.Causes.{of_refusal, of_unlock}
+use Rattle.vault_top.specs.declared.cause.Cause.{Cause}
+use Rattle.vault_top.specs.declared.cause.Cause.TheVariants.{Memory}
 use Rattle.vault_top.specs.Words.{kind_of}
 use Rattle.vault_top.specs.Span.{Views, Span, Given, IsOnlyRead}
 use Rattle.vault_top.specs.Served.{Share, HasHistory}
@@ -140,7 +140,7 @@ commit_rose span keys shares history stopped =
     rose_within span.given.folder.before.faults history.origin.folder_faults (tally_of history.origin history.entries).folder_faults span.given.folder.after.faults
     history.since.folder rise history.up_to.folder (stopped_rose (tally_at history.origin) history.entries refl history.caused stopped)
 
--- also where it was the last one
+-- even if it was the last one
 closing_rose : {C : Type 0} (span : Span C) (keys : KeyPair) (shares : List (Share C)) (history : HasHistory span keys shares) → IsSome (stopped_in history) ⊎ FailsAtTheEnd history
     → Rose span.given.folder.before.faults span.given.folder.after.faults
 closing_rose span keys shares history (inl stopped) = commit_rose span keys shares history stopped

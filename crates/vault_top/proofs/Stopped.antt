@@ -4,10 +4,11 @@ use Rattle.outside.specs.Calls.{Told}
 use Rattle.outside.specs.Disk.{Disk, Node, folder as Folder, node_at, Path}
 use Rattle.outside.specs.Images.{Log}
 use Rattle.deeds.specs.Repeatable.{journal_file, journal_name, journal_spelled, new_file, new_name, new_spelled}
+use Rattle.chunk_journal.specs.Journal.{IsReopenable, RecoversTo}
 use Rattle.chunk_journal.proofs.Gate.{shut_reopens}
-use Rattle.stop_history.specs.Prefix.{StopsRecover}
-use Rattle.stop_history.proofs.Trees.{recovering_is_sound, stops_are_sound}
-use Rattle.store_history.specs.Store.{IsSaidFrom, shows_under}
+use Rattle.crash_laws.specs.Prefix.{StopsRecover}
+use Rattle.crash_laws.proofs.Trees.{recovering_is_sound, stops_are_sound}
+use Rattle.store_laws.specs.Store.{IsSaidFrom, shows_under}
 use Rattle.vault_make.specs.Draws.{NewSecrets}
 use Rattle.vault_make.specs.Vault.{top_name, IsNewVault}
 use Rattle.vault_top.specs.Stopped.{NewVaultsAreSound, StoppedVaultsAreSound, UnopenedVaultsAreSound}
@@ -31,19 +32,27 @@ longer a b m n la lb ne e = ne (sym la ∙ ap length e ∙ lb)
 first_of : (a b : List ℕ) → ◌≡◌ {A = Path} (a ∷ []) (b ∷ []) → a ≡ b
 first_of a b e = cc
 
--- in a new vault nothing stands at a name whose length is none of its files'
+-- in a new vault nothing is at a name whose length is none of its files'
 none_at : (password : List ℕ) (secrets : NewSecrets) (disk : Disk) → IsNewVault password secrets disk → (name : List ℕ) (n : ℕ) → length name ≡ n → n ≢ 1 → n ≢ 21 → n ≢ 17 → node_at disk (name ∷ []) ≡ None
 none_at password secrets disk is name n long not_top not_masterkey not_config =
     is.alone name (longer name top_name n 1 long refl not_top)
     (λ e. longer name (codes "masterkey.cryptomator") n 21 long refl not_masterkey (first_of name (codes "masterkey.cryptomator") e))
     (λ e. longer name (codes "vault.cryptomator") n 17 long refl not_config (first_of name (codes "vault.cryptomator") e))
 
+-- neither of the journal's files
+module _ (password : List ℕ) (secrets : NewSecrets) (disk : Disk) (is : IsNewVault password secrets disk) where
+  no_journal : node_at disk journal_file ≡ None
+  no_journal = none_at password secrets disk is journal_name 14 (ap length journal_spelled) (λ e. cc) (λ e. cc) (λ e. cc)
+
+  no_new : node_at disk new_file ≡ None
+  no_new = none_at password secrets disk is new_name 18 (ap length new_spelled) (λ e. cc) (λ e. cc) (λ e. cc)
+
+  pub new_reopens : IsReopenable disk
+  new_reopens = shut_reopens disk (inl no_journal) (λ folder. let w : ◌≡◌ {A = Option Node} None (Some Folder) = sym no_new ∙ folder in cc)
+
+  pub new_recovers : RecoversTo disk disk
+  new_recovers = inl (inl no_journal, refl)
+
 pub new_vaults_are_sound : NewVaultsAreSound
 new_vaults_are_sound password secrets disk tree is =
-    recovering_is_sound disk disk tree (shut_reopens disk (inl no_journal) (λ folder. let w : ◌≡◌ {A = Option Node} None (Some Folder) = sym no_new ∙ folder in cc)) (inl (inl no_journal, refl))
-  where
-    no_journal : node_at disk journal_file ≡ None
-    no_journal = none_at password secrets disk is journal_name 14 (ap length journal_spelled) (λ e. cc) (λ e. cc) (λ e. cc)
-
-    no_new : node_at disk new_file ≡ None
-    no_new = none_at password secrets disk is new_name 18 (ap length new_spelled) (λ e. cc) (λ e. cc) (λ e. cc)
+    recovering_is_sound disk disk tree (new_reopens password secrets disk is) (new_recovers password secrets disk is)

@@ -4,14 +4,14 @@ use Rattle.std.specs.List.{range_with_len}
 use Rattle.outside_mem.specs.Held.{Holding}
 use Rattle.outside_mem.specs.Links.{Ends, Links}
 use Rattle.outside_mem.specs.Words.{Drawing}
-use Rattle.tree_history.specs.History.{rows_after}
+use Rattle.tree_model.specs.History.{rows_after}
 use Rattle.vault_store.specs.Open.{ClosedVault}
-use Rattle.vault_unlock.specs.declared.unlocking.SecretKind.TheVariants.{RawKeys}
+use Rattle.unlocking.specs.declared.from_folder.SecretKind.TheVariants.{RawKeys}
 use Rattle.vault_words.specs.Jobs.{Demonstration}
-use Rattle.demo_work.specs.Summary.{PlainRow, summary_line}
-use Rattle.demo_objects.specs.Objects.{IsEmptyVault, entropy_of, entropy_seen, folder_seen, key_line, link_seen, listener_of, listener_seen}
-use Rattle.demo_rows.specs.Left.{AreLeft}
-use Rattle.shared_sessions.specs.declared.workers.Worker.{Worker}
+use Rattle.demonstration.specs.Summary.{PlainRow, summary_line}
+use Rattle.demonstration.specs.Objects.{IsEmptyVault, entropy_of, entropy_seen, folder_seen, key_line, link_seen, listener_of, listener_seen}
+use Rattle.demonstration.specs.Left.{AreLeft}
+use Rattle.shared_tree.specs.declared.workers.Worker.{Worker}
 use Rattle.vault_top.specs.Span.{Course, SourceView, Views, Span, span_of}
 use Rattle.vault_top.specs.Sessions.{IsServedWhole}
 

@@ -6,18 +6,18 @@ use Rattle.outside.specs.Images.{now}
 use Rattle.outside.specs.Views.{EntropyView}
 use Rattle.session_server.specs.declared.ending.SessionEnd.{SessionEnd}
 use Rattle.clap.specs.Words.{Text}
-use Rattle.vault_keys.specs.Unlock.{UnlockedVault}
+use Rattle.unlocking.specs.FromFiles.{UnlockedVault}
 use Rattle.vault_words.specs.Jobs.{Serving, Demonstration, serve, make, demo, help, version}
 use Rattle.vault_words.specs.declared.job.TheConstants.{USAGE, VERSION}
-use Rattle.store_history.specs.Ends.{IsFoundClear}
+use Rattle.store_laws.specs.Ends.{IsFoundClear}
 use Rattle.tree_model.specs.Rows.{Rows}
-use Rattle.tree_history.specs.History.{Origin}
-pub use Rattle.session_workers.specs.Workers.{ListenerFailed, SomeFailed}
+use Rattle.tree_model.specs.History.{Origin}
+pub use Rattle.session_server.specs.Workers.{ListenerFailed, SomeFailed}
 use Rattle.vault_store.specs.Open.{ClosedVault}
-use Rattle.vault_causes.specs.Causes.{text_of}
-use Rattle.vault_causes.specs.Causes as causes
-use Rattle.vault_causes.specs.declared.cause.Cause.{Cause}
-use Rattle.vault_causes.specs.declared.cause.Cause.TheVariants.{Words, Memory}
+use Rattle.vault_top.specs.Causes.{text_of}
+use Rattle.vault_top.specs.Causes as causes
+use Rattle.vault_top.specs.declared.cause.Cause.{Cause}
+use Rattle.vault_top.specs.declared.cause.Cause.TheVariants.{Words, Memory}
 use Rattle.vault_top.specs.Words.{Ask, AreRefused, kind_of, sharers}
 use Rattle.vault_top.specs.Report.{line, sessions_line, TakesPart}
 use Rattle.vault_top.specs.Span.{Course, SourceView, SinkView, Views, WorkerSpan, Span, span_of}
@@ -26,7 +26,7 @@ pub use Rattle.vault_top.specs.Sessions.{IsServedTo, IsClosedWell, IsClosedBadly
 use Rattle.vault_top.specs.Demonstrated.{HasHeld}
 use Rattle.vault_top.specs.Opening.{IsUnlocked, IsUnopened}
 use Rattle.vault_top.specs.Making.{IsMade, IsNotMade}
-use Rattle.shared_sessions.specs.declared.workers.Worker.{Worker}
+use Rattle.shared_tree.specs.declared.workers.Worker.{Worker}
 use Rattle.vault_top.specs.declared.program.Ended.{Ended}
 
 -- the endings: the job wasn't done, for a cause; how the program is called, or its version, was said; a vault was made; there was no memory to
@@ -44,7 +44,7 @@ pub data Ending : Type 0 where
   no_memory_to_report : List SessionEnd → Ending
   demonstrated : List ℕ → Ending
 
--- ---- why an ending comes
+-- ---- why the run ended so
 
 -- no worker took a link, and nothing was drawn
 abbrev pub AreIdle : {C : Type 0} → List (WorkerSpan C) → Type 0
@@ -116,8 +116,8 @@ abbrev pub IsRefused : {C : Type 0} → Span C → Cause → Type 0
 IsRefused span cause =
     IsBadlyAsked span cause ⊎ IsUnserved span cause ⊎ IsMaking span (λ entropy. IsNotMade span.given entropy cause)
 
--- Why an ending comes. A fault at closing comes only where a commit failed, in an entry or of what waited in the end; after any other ending
--- of a vault that was served none did, and all entries are on the disk.
+-- Why the run ended so. A fault at closing is reported only if a commit failed, in an entry or of what waited in the end; after any other
+-- ending of a vault that was served none did, and all entries are on the disk.
 abbrev pub HasReason : {D N C E : Type 0} → Views D N C E → Span C → Ending → Type 0
 HasReason views span (refused cause) = IsRefused span cause
 HasReason views span usage_said = Ask span.words help × IsUntouched span
@@ -159,7 +159,7 @@ status_of (closing_fault ends) = 4
 status_of (no_memory_to_report ends) = 5
 status_of (demonstrated text) = 0
 
--- the status where the report wasn't taken whole: 4 in place of 0 and 7
+-- the status if the report wasn't taken whole: 4 in place of 0 and 7
 abbrev pub cut_status_of : Ending → ℕ
 cut_status_of (refused cause) = causes.status_of cause
 cut_status_of usage_said = 4
@@ -181,7 +181,7 @@ IsReported sink ending status =
 
 -- ---- a run
 
--- the folder is handed back; only where there was no memory to serve it may be lost with the vault
+-- the folder is handed back; only if there was no memory to serve it may be lost with the vault
 abbrev pub IsGivenBack : {D : Type 0} → Ending → D → Option D → Type 0
 IsGivenBack ending kept folder = (folder ≡ Some kept) ⊎ ((folder ≡ None) × (ending ≡ no_memory_to_serve))
 

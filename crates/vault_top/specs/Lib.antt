@@ -1,3 +1,5 @@
+pub mod Causes
+pub mod Lines
 pub mod Words
 pub mod Tasks
 pub mod Report

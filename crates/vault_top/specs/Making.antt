@@ -4,15 +4,15 @@ use Rattle.outside.specs.Calls.{Rose, Told, Changes}
 use Rattle.outside.specs.Views.{FolderView, EntropyView}
 use Rattle.masterkey_file.specs.Password.{password_of}
 use Rattle.masterkey_file.specs.declared.secret.TheConstants.{LINE_LIMIT}
-use Rattle.vault_unlock.specs.Secret.{IsAfterLine, TakesAtMost}
-use Rattle.vault_unlock.specs.declared.secret.SecretErr.{SecretErr}
-use Rattle.vault_unlock.specs.declared.secret.SecretErr.TheVariants as secret_errs
+use Rattle.unlocking.specs.Secret.{IsAfterLine, TakesAtMost}
+use Rattle.unlocking.specs.declared.secret.SecretErr.{SecretErr}
+use Rattle.unlocking.specs.declared.secret.SecretErr.TheVariants as secret_errs
 use Rattle.vault_make.specs.Vault.{HasMade}
 use Rattle.vault_make.specs.Errors.{IsUnmade}
 use Rattle.vault_make.specs.declared.error.MakeErr.{MakeErr}
 use Rattle.vault_make.specs.declared.error.MakeErr.TheVariants as make_errs
-use Rattle.vault_causes.specs.Causes.{of_secret, of_make}
-use Rattle.vault_causes.specs.declared.cause.Cause.{Cause}
+use Rattle.vault_top.specs.Causes.{of_secret, of_make}
+use Rattle.vault_top.specs.declared.cause.Cause.{Cause}
 use Rattle.vault_top.specs.Span.{Course, Given}
 
 -- the secret's line is this password, and that line alone was taken

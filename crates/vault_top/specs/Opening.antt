@@ -4,25 +4,25 @@ use Rattle.outside.specs.Calls.{Rose, Told, Changes}
 use Rattle.outside.specs.Disk.{Disk, IsFolder}
 use Rattle.outside.specs.Images.{disk_in, now}
 use Rattle.outside.specs.Views.{FolderView}
-use Rattle.vault_keys.specs.Unlock.{UnlockedVault}
-use Rattle.vault_unlock.specs.Secret.{IsAfterLine, TakesAtMost, taken_limit}
-use Rattle.vault_unlock.specs.Unlock.{IsUnlocking}
-use Rattle.vault_unlock.specs.Refusals.{IsRefusedBy}
-use Rattle.vault_unlock.specs.declared.unlocking.SecretKind.{SecretKind}
-use Rattle.vault_unlock.specs.declared.unlocking.SecretKind.TheVariants.{RawKeys}
-use Rattle.vault_unlock.specs.declared.refusal.Refusal.{Refusal}
-use Rattle.vault_unlock.specs.declared.refusal.Refusal.TheVariants as refusals
+use Rattle.unlocking.specs.FromFiles.{UnlockedVault}
+use Rattle.unlocking.specs.Secret.{IsAfterLine, TakesAtMost, taken_limit}
+use Rattle.unlocking.specs.FromFolder.{IsUnlocking}
+use Rattle.unlocking.specs.Refusals.{IsRefusedBy}
+use Rattle.unlocking.specs.declared.from_folder.SecretKind.{SecretKind}
+use Rattle.unlocking.specs.declared.from_folder.SecretKind.TheVariants.{RawKeys}
+use Rattle.unlocking.specs.declared.refusal.Refusal.{Refusal}
+use Rattle.unlocking.specs.declared.refusal.Refusal.TheVariants as refusals
 use Rattle.tree_loading.specs.Clear.{HasTooMany, root_folder}
 use Rattle.chunk_journal.specs.Opening.{HasOpened, IsDamagedAt, IsLeftApplied, LeavesFolder, StaysOpening}
-use Rattle.stop_history.specs.Opening.{IsSoundlyFound, OpeningRecovers}
-use Rattle.store_history.specs.Store.{shows_under}
-use Rattle.store_history.specs.Ends.{IsOpened}
+use Rattle.crash_laws.specs.Opening.{IsSoundlyFound, OpeningRecovers}
+use Rattle.store_laws.specs.Store.{shows_under}
+use Rattle.store_laws.specs.Ends.{IsOpened}
 use Rattle.vault_store.specs.Open.{OpenVault}
 use Rattle.vault_store.specs.declared.opening.OpenErr.{OpenErr}
 use Rattle.vault_store.specs.declared.opening.OpenErr.TheVariants as open_errs
-use Rattle.vault_causes.specs.Causes.{of_refusal}
-use Rattle.vault_causes.specs.declared.cause.Cause.{Cause}
-use Rattle.vault_causes.specs.declared.cause.Cause.TheVariants as causes
+use Rattle.vault_top.specs.Causes.{of_refusal}
+use Rattle.vault_top.specs.declared.cause.Cause.{Cause}
+use Rattle.vault_top.specs.declared.cause.Cause.TheVariants as causes
 use Rattle.vault_top.specs.Span.{Given, IsOnlyRead}
 
 -- the secret, and with a password the key files, gave these keys and this threshold, and of the secret its line alone was taken
@@ -30,8 +30,8 @@ pub record IsUnlocked (given : Given) (kind : SecretKind) (vault : UnlockedVault
   pub gave : IsUnlocking kind given.secret.before.left (disk_in given.folder.before.log) (λ found. found ≡ Ok vault)
   pub line : Changes given.secret.before.left given.secret.after.left IsAfterLine
 
--- Why the vault isn't unlocked: the first cause against it, and a fault only where its count rose. Of the secret no more was taken than its
--- longest line and one byte, and where it is the two keys the folder wasn't looked at.
+-- Why the vault isn't unlocked: the first cause against it, and a fault only if its count rose. Of the secret no more was taken than its
+-- longest line and one byte, and if it is the two keys the folder wasn't looked at.
 pub record IsLocked (given : Given) (kind : SecretKind) (refusal : Refusal) : Type 0 where
   pub cause : IsRefusedBy kind given.secret.before.left (disk_in given.folder.before.log) refusal
   pub secret : refusal ≡ refusals.SecretFault → Rose given.secret.before.faults given.secret.after.faults
@@ -43,7 +43,7 @@ pub record IsLocked (given : Given) (kind : SecretKind) (refusal : Refusal) : Ty
 abbrev pub IsOpenedWith : Given → (Disk → Type 0) → Type 0
 IsOpenedWith given P = Changes given.folder.before.log given.folder.after.log (λ old new. HasOpened old new × P (now new))
 
--- the journal that was found is damaged at this place, and where no folder stood in the place of its files, reads give what the disk that was found
+-- the journal that was found is damaged at this place, and if no folder was in the place of its files, reads give what the disk that was found
 -- recovers to, its deeds applied up to the first call whose condition fails
 pub record HasDamagedJournal (given : Given) (at : ℕ) : Type 0 where
   pub damaged : Told given.folder.before.log (λ log. IsDamagedAt (now log) at ⊎ LeavesFolder (now log) at)

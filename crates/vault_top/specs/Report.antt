@@ -1,7 +1,7 @@
 -- The lines of the report.
 use Rattle.std.specs.Prelude.{◌≡◌, ℕ, ◌<◌, List, [], ◌∷◌, ◌++◌, length, codes, decimal, Bool}
 use Rattle.session_server.specs.declared.ending.SessionEnd.{SessionEnd}
-use Rattle.session_workers.specs.Ends.{is_done, is_cut, is_bad, is_read_fault, is_write_fault, is_memory, is_limit, count_of}
+use Rattle.session_server.specs.Ends.{is_done, is_cut, is_bad, is_read_fault, is_write_fault, is_memory, is_limit, count_of}
 
 -- a line ends with LF
 abbrev pub line : List ℕ → List ℕ

@@ -7,19 +7,19 @@ use Rattle.outside.specs.Views.{FolderView}
 use Rattle.siv_mode.specs.Keys.{KeyPair}
 use Rattle.tree_model.specs.Rows.{Rows}
 use Rattle.tree_model.specs.Asked.{Asked, entered}
-use Rattle.tree_history.specs.History.{Entry, entries_of, Origin, tally_at, tally_of, AreCaused, IsLegal, IsUpTo}
-pub use Rattle.session_workers.specs.Shares.{share_of, Share, IsShare, AreShares, all_ends}
-use Rattle.shared_sessions.specs.Joined.{all_asked}
-use Rattle.shared_vault.specs.declared.TheConstants.{MOST_TICKETS}
+use Rattle.tree_model.specs.History.{Entry, entries_of, Origin, tally_at, tally_of, AreCaused, IsLegal, IsUpTo}
+pub use Rattle.session_server.specs.Shares.{share_of, Share, IsShare, AreShares, all_ends}
+use Rattle.shared_tree.specs.Joined.{all_asked}
+use Rattle.shared_tree.specs.declared.TheConstants.{MOST_TICKETS}
 use Rattle.turn_lock.specs.declared.TheConstants.{TURN_LIMIT}
-use Rattle.shared_vault.specs.Clients.{AreDrawnFor}
+use Rattle.shared_tree.specs.Clients.{AreDrawnFor}
 use Rattle.deeds.specs.Deeds.{LogGoesOn}
 use Rattle.chunk_journal.specs.Journal.{AnyMoment}
 use Rattle.chunk_journal.specs.Opening.{HasOpened}
-use Rattle.stop_history.specs.Prefix.{StopsRecover, BeginningRecovers, IsWhole}
-use Rattle.store_history.specs.Store.{StoreView, ArePlaced, ArePlacedSince, HasRowsLeft, IsSaidFrom, IsStoreOf, moment_of, shows_under}
-use Rattle.store_history.specs.Turns.{IsFlushed, draws_for}
-use Rattle.store_history.specs.Ends.{IsFoundClear}
+use Rattle.crash_laws.specs.Prefix.{StopsRecover, BeginningRecovers, IsWhole}
+use Rattle.store_laws.specs.Store.{StoreView, ArePlaced, ArePlacedSince, HasRowsLeft, IsSaidFrom, IsStoreOf, moment_of, shows_under}
+use Rattle.store_laws.specs.Turns.{IsFlushed, draws_for}
+use Rattle.store_laws.specs.Ends.{IsFoundClear}
 use Rattle.vault_store.specs.Open.{ClosedVault, idle_of}
 use Rattle.vault_top.specs.Span.{WorkerSpan, Span}
 
@@ -105,7 +105,7 @@ pub record IsHandedBack (keys : KeyPair) (rows : Rows) (origin : Origin) (entrie
 -- ---- the history
 
 -- What a stop leaves of a vault that was served under these keys with these entries. The folder's log goes on from the one that was found; a stop at
--- any moment, from the end of the opening on, and where the disk was found sound from the end of the opening's first sync on, recovers to a prefix of the history
+-- any moment, from the end of the opening on, and if the disk was found sound from the end of the opening's first sync on, recovers to a prefix of the history
 -- that holds all that was synced; and up to the moment at which the history begins to a disk that shows the rows that it begins with. Each time what isn't the
 -- vault's own is as it was found, also among its data.
 pub record HasStops (keys : KeyPair) (rows : Rows) (origin : Origin) (entries : List Entry) (before after : FolderView) : Type 0 where
@@ -114,10 +114,10 @@ pub record HasStops (keys : KeyPair) (rows : Rows) (origin : Origin) (entries : 
   pub begun : Told after.log (λ log. (opened : ℕ) → IsSaidFrom before.log origin opened → BeginningRecovers (shows_under before.log keys) opened origin.moment rows log)
 
 -- The entries of all callers are one history from the rows on that the folder recovers to, under these keys. Of each caller it has what was asked on the links of the worker of
--- that number, in order, but for requests that were answered as exhausted; and nothing else. One is answered so only where the most tickets that all requests may
--- take are more than there are turns. Each entry has its cause, and each caller's random source gave what its entries drew, in order. Where the folder tells its log the history is legal, and
--- each entry names the place that is taken; and what a stop leaves follows it. It begins at a moment at which the journal that was found had been opened. It is the history
--- for which the store that the lock gave back stands, which is handed back.
+-- that number, in order, but for requests that were answered as exhausted; and nothing else. One is answered so only if the most tickets that all requests may take are more than there are
+-- turns. Each entry has its cause, and each caller's random source gave what its entries drew, in order. If the folder tells its log the history is legal, and each entry names the place that
+-- is taken; and what a stop leaves follows it. It begins at a moment at which the journal that was found had been opened. It is the history for which the store that the lock gave back
+-- stands, which is handed back.
 pub record HasHistory {C : Type 0} (span : Span C) (keys : KeyPair) (shares : List (Share C)) : Type 0 where
   pub rows : Rows
   pub origin : Origin

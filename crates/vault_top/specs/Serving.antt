@@ -5,28 +5,28 @@ use Rattle.outside.specs.Calls.{Rose}
 use Rattle.outside.specs.Images.{now}
 use Rattle.outside.specs.Views.{FolderView}
 use Rattle.outside_mem.specs.Held.{Holding}
-use Rattle.directory_scan.specs.Format.{sealing_of}
-use Rattle.tree_changes.specs.Shapes.{HasTree}
+use Rattle.tree_loading.specs.Format.{sealing_of}
+use Rattle.tree_deed_laws.specs.Shapes.{HasTree}
 use Rattle.tree_model.specs.Rows.{Rows}
-use Rattle.tree_history.specs.History.{Origin}
+use Rattle.tree_model.specs.History.{Origin}
 use Rattle.session_server.specs.declared.ending.SessionEnd.{SessionEnd}
-use Rattle.session_workers.specs.declared.counts.SessionCounts.{SessionCounts}
-use Rattle.session_workers.specs.Ends.{AreCounts}
-use Rattle.session_workers.specs.Shares.{all_ends}
-use Rattle.shared_sessions.specs.Joined.{IsJoined}
-use Rattle.shared_sessions.specs.declared.workers.Worker.{Worker}
+use Rattle.session_server.specs.declared.counts.SessionCounts.{SessionCounts}
+use Rattle.session_server.specs.Ends.{AreCounts}
+use Rattle.session_server.specs.Shares.{all_ends}
+use Rattle.shared_tree.specs.Joined.{IsJoined}
+use Rattle.shared_tree.specs.declared.workers.Worker.{Worker}
 use Rattle.siv_mode.specs.Keys.{KeyPair}
-use Rattle.store_history.specs.Store.{StoreView}
-use Rattle.store_history.specs.Turns.{draws_for}
+use Rattle.store_laws.specs.Store.{StoreView}
+use Rattle.store_laws.specs.Turns.{draws_for}
 use Rattle.vault_store.specs.Open.{ClosedVault, OpenVault}
-use Rattle.demo_work.specs.Summary.{PlainRow, summary_line}
-use Rattle.demo_rows.specs.Left.{AreLeft}
+use Rattle.demonstration.specs.Summary.{PlainRow, summary_line}
+use Rattle.demonstration.specs.Left.{AreLeft}
 use Rattle.vault_top.specs.Report.{line}
 use Rattle.vault_top.specs.Served.{IsClosing}
 use Rattle.vault_top.specs.Span.{Course, SinkView, Views}
 use Rattle.vault_top.specs.Sharing.{IsSharedStore}
 use Rattle.vault_words.specs.Jobs.{Demonstration}
-use Rattle.vault_causes.specs.declared.cause.Cause.TheVariants.{Memory}
+use Rattle.vault_top.specs.declared.cause.Cause.TheVariants.{Memory}
 use Rattle.vault_top.specs.Demonstrated.{HasHeld}
 use Rattle.vault_top.specs.Ending.{Ending, refused, demonstrated, no_memory_to_serve, served, listener_fault, closing_fault, no_memory_to_report, serving, report_of, status_of, cut_status_of, IsReported}
 use Rattle.vault_top.specs.Writing.{IsWritten}
@@ -97,7 +97,7 @@ MayEnd ends outcomes.ListenerFault ending = ending ≡ listener_fault ends
 MayEnd ends outcomes.FolderFault ending = ending ≡ closing_fault ends
 MayEnd ends outcomes.NoMemory ending = ending ≡ no_memory_to_serve
 
--- an outcome's last line, which was written behind `serving`: the rest of the report of an ending that it may come to
+-- an outcome's last line, which was written after `serving`: the rest of the report of an ending that it may come to
 pub record HasLastLine (ends : List SessionEnd) (outcome : Outcome) (sink : Course SinkView) (status : ℕ) : Type 0 where
   pub ending : Ending
   pub may : MayEnd ends outcome ending

@@ -3,11 +3,11 @@ use Rattle.std.specs.Prelude.{◌≡◌, ◌⊎◌, ℕ, List, length, Option, I
 use Rattle.std.specs.List.{AllByRecursion}
 use Rattle.outside.specs.Calls.{Rose}
 use Rattle.siv_mode.specs.Keys.{KeyPair}
-use Rattle.tree_history.specs.History.{tally_of}
+use Rattle.tree_model.specs.History.{tally_of}
 use Rattle.session_server.specs.declared.ending.SessionEnd.{SessionEnd}
 use Rattle.session_server.specs.declared.ending.SessionEnd.TheVariants.{Done}
-use Rattle.vault_keys.specs.Unlock.{UnlockedVault}
-use Rattle.vault_unlock.specs.declared.unlocking.SecretKind.{SecretKind}
+use Rattle.unlocking.specs.FromFiles.{UnlockedVault}
+use Rattle.unlocking.specs.declared.from_folder.SecretKind.{SecretKind}
 use Rattle.vault_top.specs.Span.{Views, WorkerSpan, Span}
 use Rattle.vault_top.specs.Served.{Share, AreShares, all_ends, HasHistory, IsOnDisk}
 use Rattle.vault_top.specs.Opening.{IsUnlocked}

@@ -4,15 +4,15 @@ use Rattle.outside.specs.Calls.{Told}
 use Rattle.outside.specs.Images.{disk_in, moment, now}
 use Rattle.outside.specs.Views.{FolderView}
 use Rattle.tree_model.specs.Rows.{Rows}
-use Rattle.tree_history.specs.History.{Entry, Origin}
+use Rattle.tree_model.specs.History.{Entry, Origin}
 use Rattle.siv_mode.specs.Keys.{KeyPair}
-use Rattle.store_history.specs.Store.{IsStoreOf}
-use Rattle.store_history.specs.Ends.{IsFoundClear}
-use Rattle.vault_keys.specs.Unlock.{UnlockedVault}
-use Rattle.vault_unlock.specs.Unlock.{IsUnlocking}
-use Rattle.vault_unlock.specs.declared.unlocking.SecretKind.{SecretKind}
+use Rattle.store_laws.specs.Store.{IsStoreOf}
+use Rattle.store_laws.specs.Ends.{IsFoundClear}
+use Rattle.unlocking.specs.FromFiles.{UnlockedVault}
+use Rattle.unlocking.specs.FromFolder.{IsUnlocking}
+use Rattle.unlocking.specs.declared.from_folder.SecretKind.{SecretKind}
 use Rattle.vault_store.specs.Open.{OpenVault}
-use Rattle.shared_sessions.specs.declared.workers.Worker.{Worker}
+use Rattle.shared_tree.specs.declared.workers.Worker.{Worker}
 use Rattle.vault_top.specs.Span.{SourceView, Views, worker_spans}
 use Rattle.vault_top.specs.Served.{entropy_before}
 

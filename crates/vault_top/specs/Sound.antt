@@ -8,11 +8,11 @@ use Rattle.outside.specs.Images.{Log, log_at, now, disk_in}
 use Rattle.outside.specs.Views.{LinkView}
 use Rattle.siv_mode.specs.Keys.{KeyPair}
 use Rattle.tree_model.specs.Rows.{Rows}
-use Rattle.tree_history.specs.History.{Made, Entry, Origin, entry_at, rows_at, tally_of}
-use Rattle.tree_history.specs.Laws.{AreStepped, IsPlaceTaken}
-use Rattle.directory_scan.specs.Format.{sealing_of}
-use Rattle.store_history.specs.Store.{IsPlacedOn}
-use Rattle.taken_places.specs.Places.{AreUnmarked, MayBeTaken}
+use Rattle.tree_model.specs.History.{Made, Entry, Origin, entry_at, rows_at, tally_of}
+use Rattle.tree_model.specs.Laws.{AreStepped, IsPlaceTaken}
+use Rattle.tree_loading.specs.Format.{sealing_of}
+use Rattle.store_laws.specs.Store.{IsPlacedOn}
+use Rattle.store_laws.specs.Places.{AreUnmarked, MayBeTaken}
 use Rattle.session_server.specs.declared.ending.SessionEnd.{SessionEnd}
 use Rattle.session_server.specs.declared.ending.SessionEnd.TheVariants as ends
 use Rattle.session_server.specs.Served.{ServedLink}
@@ -20,20 +20,20 @@ use Rattle.session_server.specs.Whole.{IsWhole}
 use Rattle.session_server.specs.Whole as links
 use Rattle.clap.specs.Words.{Text}
 use Rattle.masterkey_file.specs.Password.{password_of}
-use Rattle.vault_keys.specs.Unlock.{UnlockedVault}
-use Rattle.vault_unlock.specs.Unlock.{unlock_on}
-use Rattle.vault_unlock.specs.declared.unlocking.SecretKind.{SecretKind}
+use Rattle.unlocking.specs.FromFiles.{UnlockedVault}
+use Rattle.unlocking.specs.FromFolder.{unlock_on}
+use Rattle.unlocking.specs.declared.from_folder.SecretKind.{SecretKind}
 use Rattle.vault_words.specs.Jobs.{Serving, Demonstration, serve, make, demo}
 use Rattle.chunk_journal.specs.Journal.{IsAlike, RecoversTo}
 use Rattle.chunk_journal.specs.Opening.{IsDamagedAt, LeavesFolder}
 use Rattle.vault_make.specs.Vault.{IsEmpty}
 use Rattle.tree_loading.specs.Clear.{HasTooMany, root_folder}
-use Rattle.vault_causes.specs.declared.cause.Cause.TheVariants.{Words, Memory}
+use Rattle.vault_top.specs.declared.cause.Cause.TheVariants.{Words, Memory}
 use Rattle.vault_top.specs.Words.{Ask, kind_of}
 use Rattle.vault_top.specs.Span.{Course, SourceView, SinkView, Views, WorkerSpan, Span, span_of}
 use Rattle.vault_top.specs.Served.{Share, HasHistory}
 use Rattle.vault_top.specs.Ending.{Ending, refused, usage_said, version_said, made, no_memory_to_serve, served, listener_fault, closing_fault, no_memory_to_report, demonstrated, SomeFailed, HasReason, HasRun}
-use Rattle.shared_sessions.specs.declared.workers.Worker.{Worker}
+use Rattle.shared_tree.specs.declared.workers.Worker.{Worker}
 use Rattle.vault_top.specs.declared.program.Ended.{Ended}
 
 -- The disk is that of a vault which the secret unlocks. Its journal isn't damaged; and what it recovers to, whatever the journal's own files hold then, has a folder for
@@ -141,14 +141,14 @@ IsBadOrFull (demonstrated text) = ⊥
 
 -- ---- sessions and replies
 
--- where the input of a link is whole messages and no call of it failed, its session is done and nothing is left, or memory ran out before a byte was read
+-- if the input of a link is whole messages and no call of it failed, its session is done and nothing is left, or memory ran out before a byte was read
 abbrev pub IsDoneOrFull : LinkView → LinkView → SessionEnd → Type 0
 IsDoneOrFull before after end = ((end ≡ ends.Done) × (after.left ≡ Some [])) ⊎ ((end ≡ ends.Memory) × (after.left ≡ before.left))
 
 abbrev pub IsServedOut : {C : Type 0} → (C → LinkView) → ServedLink C → Type 0
 IsServedOut view link = IsWhole (view link.came).left → links.IsFaultless (view link.came) (view link.given) → IsDoneOrFull (view link.came) (view link.given) link.end
 
--- the place that an entry names as taken, on a disk by a tree which has these rows, is one that may be taken where nothing is foreign
+-- the place that an entry names as taken, on a disk by a tree which has these rows, is one that may be taken if nothing is foreign
 pub record IsRightlyTaken (keys : KeyPair) (disk : Disk) (rows : Rows) (made : Made) (path : Path) : Type 0 where
   pub placed : IsPlacedOn keys disk rows made
   pub may : MayBeTaken (sealing_of keys) disk placed.live made.asked.request made.drawn path

@@ -1,10 +1,15 @@
 -- What a run of the program is given and what it leaves.
 use Rattle.std.specs.Prelude.{◌≡◌, ℕ, ◌≤◌, List, Option}
-use Rattle.outside.specs.Images.{Log}
-use Rattle.outside.specs.Views.{FolderView, folder_view, EntropyView, entropy_view, ListenerView, listener_view, LinkView, link_view}
-pub use Rattle.session_workers.specs.Shares.{Course, course, WorkerSpan}
-use Rattle.shared_sessions.specs.Workers as workers
-use Rattle.shared_sessions.specs.declared.workers.Worker.{Worker}
+use Rattle.outside.specs.declared.folder.Reads as reads
+use Rattle.outside.specs.declared.entropy.Entropy as entropies
+use Rattle.outside.specs.declared.link.Listener as listeners
+use Rattle.outside.specs.declared.link.Link as links
+use Rattle.outside.specs.declared.stream.Source as sources
+use Rattle.outside.specs.declared.stream.Sink as sinks
+use Rattle.outside.specs.Views.{FolderView, folder_in, EntropyView, entropy_in, ListenerView, listener_in, LinkView, link_in}
+pub use Rattle.session_server.specs.Shares.{Course, course, WorkerSpan}
+use Rattle.shared_tree.specs.Workers as workers
+use Rattle.shared_tree.specs.declared.workers.Worker.{Worker}
 use Rattle.vault_store.specs.Open.{ClosedVault}
 
 -- the bytes that are left of a source, and its faults
@@ -12,16 +17,16 @@ pub record SourceView : Type 0 where
   pub left : Option (List ℕ)
   pub faults : ℕ
 
-abbrev pub source_view : {S : Type 0} → (S → Option (List ℕ)) → (S → ℕ) → S → SourceView
-source_view left faults source = record { left = left source; faults = faults source }
+abbrev pub source_in : {S : Type 0} → sources.Ghosts S → S → SourceView
+source_in by source = record { left = by.left source; faults = by.faults source }
 
 -- the bytes that a sink has taken, and its faults
 pub record SinkView : Type 0 where
   pub taken : Option (List ℕ)
   pub faults : ℕ
 
-abbrev pub sink_view : {O : Type 0} → (O → Option (List ℕ)) → (O → ℕ) → O → SinkView
-sink_view taken faults sink = record { taken = taken sink; faults = faults sink }
+abbrev pub sink_in : {O : Type 0} → sinks.Ghosts O → O → SinkView
+sink_in by sink = record { taken = by.taken sink; faults = by.faults sink }
 
 -- how a run's objects are seen: its folder, its listeners and their links, and its random sources
 pub record Views (D N C E : Type 0) : Type 0 where
@@ -30,19 +35,16 @@ pub record Views (D N C E : Type 0) : Type 0 where
   pub link : C → LinkView
   pub entropy : E → EntropyView
 
--- by what the objects' traits tell, in their order
-abbrev pub views_of : {D N C E : Type 0} → (D → Option Log) → (D → ℕ) → (D → ℕ)
-    → (N → Option (List C)) → (N → Option (List C)) → (N → ℕ)
-    → (C → Option (List ℕ)) → (C → Option (List ℕ)) → (C → ℕ) → (C → ℕ)
-    → (E → Option (List ℕ)) → (E → ℕ) → Views D N C E
-views_of log folder_faults changes to_come given_back listener_faults left taken read_faults write_faults drawn entropy_faults = record {
-  folder = folder_view log folder_faults changes;
-  listener = listener_view to_come given_back listener_faults;
-  link = link_view left taken read_faults write_faults;
-  entropy = entropy_view drawn entropy_faults;
+-- by the ghost records of the objects' traits
+abbrev pub views_of : {D N C E : Type 0} → reads.Ghosts D → listeners.Ghosts N C → links.Ghosts C → entropies.Ghosts E → Views D N C E
+views_of of_folder of_listener of_link of_entropy = record {
+  folder = folder_in of_folder;
+  listener = listener_in of_listener;
+  link = link_in of_link;
+  entropy = entropy_in of_entropy;
 }
 
--- what a vault is unlocked by: the secret, the folder, and the clock's second, where it tells
+-- what a vault is unlocked by: the secret, the folder, and the clock's second, if it tells
 pub record Given : Type 0 where
   pub secret : Course SourceView
   pub folder : Course FolderView
@@ -63,7 +65,7 @@ worker_span views before after = workers.worker_span views.listener views.entrop
 abbrev pub worker_spans : {D N C E : Type 0} → Views D N C E → List (Worker N E) → List (Worker N E) → List (WorkerSpan C)
 worker_spans views before after = workers.worker_spans views.listener views.entropy before after
 
--- what a vault is unlocked by, where the folder is this before and that after
+-- what a vault is unlocked by, if the folder is this before and that after
 abbrev pub given_of : {D : Type 0} → (D → FolderView) → Course SourceView → Option ℕ → D → D → Given
 given_of view secret second folder kept = record { secret = secret; folder = course view folder kept; second = second }
 

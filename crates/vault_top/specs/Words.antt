@@ -2,8 +2,8 @@
 use Rattle.std.specs.Prelude.{◌≡◌, ◌⊎◌, ℕ, List, [], Bool, String, map, min, ⊤, if◌then◌else◌}
 use Rattle.std.specs.String.{string_bytes}
 use Rattle.clap.specs.Words.{Text}
-use Rattle.vault_unlock.specs.declared.unlocking.SecretKind.{SecretKind}
-use Rattle.vault_unlock.specs.declared.unlocking.SecretKind.TheVariants.{Password, RawKeys}
+use Rattle.unlocking.specs.declared.from_folder.SecretKind.{SecretKind}
+use Rattle.unlocking.specs.declared.from_folder.SecretKind.TheVariants.{Password, RawKeys}
 use Rattle.vault_words.specs.Jobs.{Job, Serving, serve, make, demo, help, version, AsksFor, IsRefused}
 
 abbrev pub words_of : {A : Type 0} → List (String A) → List Text
@@ -33,6 +33,6 @@ kind_where raw_key = if raw_key then RawKeys else Password
 abbrev pub kind_of : Serving → SecretKind
 kind_of s = kind_where s.raw_key
 
--- how many of so many workers share the sessions: as many as may be served at once, or all where there are fewer
+-- how many of so many workers share the sessions: as many as may be served at once, or all if there are fewer
 abbrev pub sharers : Serving → ℕ → ℕ
 sharers s workers = min s.at_once workers

@@ -1,12 +1,12 @@
 //! A demonstration: a vault in memory is served to clients that send their scripts.
 
 ghost use Rattle.std.specs.Prelude.{◌≡◌, ◌≤◌, ℕ, List, min, length, Some, IfOk, IfSome, vec_len};
-ghost use Rattle.outside.specs.Views.{folder_view};
+ghost use Rattle.outside.specs.Views.{folder_in};
 ghost use Rattle.masterkey_file.specs.Password.{line_of};
-ghost use Rattle.vault_unlock.specs.Secret.{raw_keys};
+ghost use Rattle.unlocking.specs.Secret.{raw_keys};
 ghost use Rattle.vault_words.specs.Jobs.{Demonstration};
 ghost use Rattle.vault_top.specs.Report.{line};
-ghost use Rattle.vault_top.specs.Span.{course, source_view, span_of, views_of};
+ghost use Rattle.vault_top.specs.Span.{course, source_in, span_of, views_of};
 ghost use Rattle.vault_top.specs.Sharing.{AreBeginnings, IsAlone};
 ghost use Rattle.vault_top.specs.Sessions.{IsServedWhole};
 ghost use Rattle.vault_top.specs.Demonstrated.{HasHeld, workers_of};
@@ -17,23 +17,20 @@ use crate::opening::open_vault;
 use crate::serving::{HandedBack, Outcome, serve_workers};
 use crate::task::{Scripts, Service};
 use crate::vault::Since;
-use demo_objects::{client_listener, empty_vault, key_line, worker_entropy};
-use demo_rows::rows_left;
-use demo_work::summary;
+use demonstration::{client_listener, empty_vault, key_line, rows_left, summary, worker_entropy};
 use outside::{Clock, Entropy, Folder, Listener, Source};
 use outside_mem::{MemFolder, MemListener, MemSource, SeedEntropy, SetClock};
-use shared_sessions::Worker;
-use shared_vault::Start;
+use shared_tree::{Start, Worker};
 use siv_mode::VaultKeys;
 use std::alloc::{AllocError, Global};
 use std::marker::Brand;
 use std::sync::Wait;
 use std::thread::Threads;
 use tree_loading::load;
+use unlocking::{SecretKind, read_keys};
 use vault_store::ClosedStore;
-use vault_unlock::{SecretKind, read_keys};
 
-// The threshold of the vault. It decides nothing where a tree is loaded.
+// The threshold of the vault. It decides nothing when a tree is loaded.
 const THRESHOLD: u32 = 220;
 
 /// The folder of a vault all of whose sessions were held, and its store, which was closed.
@@ -54,7 +51,7 @@ pub(crate) struct Demonstrated {
 ///
 /// # Errors
 ///
-/// Out of memory, also where that kept a session from its end.
+/// Out of memory, even if that kept a session from its end.
 pub(crate) fn demonstrate<R: Threads + Wait + Sync>(
     rt: &R,
     alloc: Global,
@@ -116,7 +113,8 @@ fn workers_of(
     Ok(workers)
 }
 
-// Serves the vault that the secret unlocks. None comes where a session didn't end between two messages, or memory ran out before.
+// Serves the vault that the secret unlocks. None is returned if a session didn't end between two messages, or memory ran out
+// before.
 fn hold_sessions<
     R: Threads + Wait + Sync,
     D: Folder + Send + Drop,
@@ -138,17 +136,14 @@ where
     N::Conn: Send,
     requires some { 1 ≤ vec_len workers.old }
     requires start { AreBeginnings B.is
-        (views_of D.log D.faults D.changes N.to_come N.given_back N.faults
-        N.Conn.left N.Conn.taken N.Conn.read_faults N.Conn.write_faults E.drawn E.faults)
+        (views_of D.Reads N.Listener N.Conn.Link E.Entropy)
         folder workers.old.items }
-    requires since { IsAlone B.since service.kind (folder_view D.log D.faults D.changes folder)
-        (source_view S.left S.faults secret.old) (K.second clock.now) }
+    requires since { IsAlone B.since service.kind (folder_in D.Reads folder)
+        (source_in S.Source secret.old) (K.second clock.now) }
     ensures whole { IfSome result (λ kept. (words : List (List ℕ)) → IsServedWhole
-        (views_of D.log D.faults D.changes N.to_come N.given_back N.faults
-        N.Conn.left N.Conn.taken N.Conn.read_faults N.Conn.write_faults E.drawn E.faults)
-        (span_of (views_of D.log D.faults D.changes N.to_come N.given_back N.faults
-        N.Conn.left N.Conn.taken N.Conn.read_faults N.Conn.write_faults E.drawn E.faults)
-        words (course (source_view S.left S.faults) secret.old secret.new) (K.second clock.now)
+        (views_of D.Reads N.Listener N.Conn.Link E.Entropy)
+        (span_of (views_of D.Reads N.Listener N.Conn.Link E.Entropy)
+        words (course (source_in S.Source) secret.old secret.new) (K.second clock.now)
         folder kept.folder workers.old.items workers.new.items (Some kept.store))
         service.kind service.sessions (min service.at_once (length workers.old.items)) kept.store.store.entries) }
 {
@@ -161,7 +156,7 @@ where
     }
 }
 
-// What is kept, where so many sessions ended between two messages.
+// What is kept, if so many sessions ended between two messages.
 fn kept_of<D: Drop>(back: HandedBack<D>, sessions: u32) -> Option<Kept<D>>
     ensures { IfSome result (IsKeptOf back sessions) }
 {

@@ -1,21 +1,25 @@
-ghost use Rattle.std.specs.Prelude.{◌≡◌, ◌⊎◌, ℕ, List, Option, IsSome};
+ghost use Rattle.std.specs.Prelude.{◌≡◌, ◌⊎◌, ℕ, List, Option, Some, IsSome};
 ghost use Rattle.outside.specs.Disk.{Disk, IsTree};
+ghost use Rattle.outside.specs.Images.{Log, now};
+ghost use Rattle.clap.specs.Words.{Text};
+ghost use Rattle.chunk_journal.specs.Opening.{IsOpenable};
 ghost use Rattle.clear_tree.specs.Laws.{root_rows};
 ghost use Rattle.tree_loading.specs.Clear.{IsClear};
 ghost use Rattle.vault_make.specs.Draws.{NewSecrets};
 ghost use Rattle.vault_make.specs.Vault.{IsNewVault};
-ghost use Rattle.shared_sessions.specs.declared.workers.Worker.{Worker};
+ghost use Rattle.shared_tree.specs.declared.workers.Worker.{Worker};
 ghost use Rattle.vault_top.specs.declared.program.Ended.{Ended};
-ghost use Rattle.vault_top.specs.Span.{Course, SourceView, SinkView, Views, Span};
+ghost use Rattle.vault_top.specs.Span.{Course, SourceView, SinkView, Given, Views, Span};
+ghost use Rattle.vault_top.specs.Opening.{HasDamagedJournal};
 ghost use Rattle.vault_top.specs.Ending.{Ending, HasReason};
-ghost use Rattle.vault_words.specs.Jobs.{Demonstration, demo};
+ghost use Rattle.vault_words.specs.Jobs.{Demonstration, demo, make};
 ghost use Rattle.vault_top.specs.Words.{Ask, AreRefused};
 ghost use Rattle.vault_top.specs.Sound.{IsSound, IsSoundRun, IsSoundToMake, IsFaultless, IsServedOrFull, IsMadeOrFull, IsHeldOrFull, IsBadOrFull, SomeRandomFailed, HasServedSoundly};
-ghost use Rattle.vault_top.specs.Stopped.{NewVaultsAreSound, StoppedVaultsAreSound, UnopenedVaultsAreSound};
+ghost use Rattle.vault_top.specs.Stopped.{NewVaultsAreOpenable, NewVaultsAreSound, KeepsOpenable, StoppedVaultsAreOpenable, StoppedVaultsAreSound, UnopenedVaultsAreSound};
 
 use outside::{Entropy, Folder, Listener};
 
-/// Of a sound vault, where the words ask for serving it and nothing failed, the program's ending is that the vault was served, or that
+/// Of a sound vault, if the words ask for serving it and nothing failed, the program's ending is that the vault was served, or that
 /// memory ran out. It does nothing.
 pub fn a_sound_vault_is_served<D: Folder, N: Listener, E: Entropy>()
     ensures { (views : Views D N N.Conn E) (span : Span N.Conn) (ending : Ending) → IsSound span → IsFaultless span
@@ -30,17 +34,17 @@ pub fn a_sound_run_ends_with_0_or_5<D: Folder, N: Listener, E: Entropy>()
         → IsSoundRun views words secret second folder workers workers' sink ended → (ended.status ≡ 0) ⊎ (ended.status ≡ 5) }
 {}
 
-/// Where a vault was served, the folder tells and nothing failed, each request was answered as the step says, unless a place is taken or memory
-/// runs out where it may; if no directory of the vault held foreign entries, a place that is taken is the long one of another name, or one of the identifier
-/// that was drawn for a new directory; and each session of whole messages, over a link that never failed, was done, or memory ran out before
-/// it read anything. It does nothing.
+/// If a vault was served, the folder tells and nothing failed, each request was answered as the step says, unless a place is taken or memory runs out where
+/// it may; if no directory of the vault held foreign entries, a place that is taken is the long one of another name, or one of the identifier that was drawn
+/// for a new directory; and each session of whole messages, over a link that never failed, was done, or memory ran out before it read anything. It does
+/// nothing.
 pub fn a_sound_run_answers_as_the_step<D: Folder, N: Listener, E: Entropy>()
     ensures { (views : Views D N N.Conn E) (span : Span N.Conn) (ending : Ending) (reason : HasReason views span ending)
         → IsSome span.given.folder.before.log → IsFaultless span → (SomeRandomFailed span.workers → ⊥) → HasServedSoundly views span ending reason }
 {}
 
-/// In an empty folder, where the words ask for making a vault, the secret has a password and nothing failed, the program's ending is that
-/// a vault was made, or that memory ran out. It does nothing.
+/// In an empty folder, if the words ask for making a vault, the secret has a password and nothing failed, the program's ending is that a
+/// vault was made, or that memory ran out. It does nothing.
 pub fn an_empty_folder_becomes_a_vault<D: Folder, N: Listener, E: Entropy>()
     ensures { (views : Views D N N.Conn E) (span : Span N.Conn) (ending : Ending) → IsSoundToMake span → IsFaultless span
         → (SomeRandomFailed span.workers → ⊥) → HasReason views span ending → IsMadeOrFull ending }
@@ -53,23 +57,36 @@ pub fn a_new_vault_is_its_root()
         → IsClear secrets.keys disk now (root_rows now) }
 {}
 
-/// What a stop leaves of a vault that was served is found sound by whoever opens it next: no folder stands in the place of either of
-/// the journal's files, and a batch that the journal holds can be done again. So is what an opening leaves that failed, and a new vault.
-/// It does nothing.
+/// What a stop leaves of a vault that was served is found sound by whoever opens it next: no folder is in the place of either of the
+/// journal's files, and a batch that the journal holds can be done again. So is what an opening leaves that failed, and a new vault. It
+/// does nothing.
 pub fn a_stopped_vault_is_soundly_found()
     ensures stopped { StoppedVaultsAreSound }
     ensures unopened { UnopenedVaultsAreSound }
     ensures new { NewVaultsAreSound }
 {}
 
-/// Where the words ask for a demonstration, the program's ending is that it was held, or that memory ran out. It does nothing.
+/// A folder of which each call was as it can be, and whose journal isn't damaged on any disk that a stop may leave of it, nor holds a batch
+/// that can't be done again, is so at each moment of a run, unless that is to make a vault: whatever stops it, the next run doesn't answer that
+/// the journal is damaged, however often runs were stopped. So it is of a vault that was served from its opening on, whatever was found, and of
+/// a new one. It does nothing.
+pub fn no_stop_damages_a_journal<D: Folder, N: Listener, E: Entropy>()
+    ensures run { (views : Views D N N.Conn E) (span : Span N.Conn) (ending : Ending) → HasReason views span ending
+        → ((dir : Text) → Ask span.words (make dir) → ⊥) → KeepsOpenable span.given.folder.before.log span.given.folder.after.log }
+    ensures next { (given : Given) (log : Log) (at : ℕ) → given.folder.before.log ≡ Some log → IsOpenable (now log)
+        → HasDamagedJournal given at → ⊥ }
+    ensures stopped { StoppedVaultsAreOpenable }
+    ensures new { NewVaultsAreOpenable }
+{}
+
+/// If the words ask for a demonstration, the program's ending is that it was held, or that memory ran out. It does nothing.
 pub fn a_demonstration_is_held<D: Folder, N: Listener, E: Entropy>()
     ensures { (views : Views D N N.Conn E) (span : Span N.Conn) (d : Demonstration) (ending : Ending) → Ask span.words (demo d)
         → HasReason views span ending → IsHeldOrFull ending }
 {}
 
-/// Where the words are refused, the program's ending is that they are bad, or that memory ran out: so the status 1 comes if and only if
-/// they are, but for memory. It does nothing.
+/// If the words are refused, the program's ending is that they are bad, or that memory ran out: so the status is 1 if and only if they
+/// are, but for memory. It does nothing.
 pub fn refused_words_are_bad<D: Folder, N: Listener, E: Entropy>()
     ensures { (views : Views D N N.Conn E) (span : Span N.Conn) (ending : Ending) → AreRefused span.words
         → HasReason views span ending → IsBadOrFull ending }

@@ -1,3 +1,17 @@
+//! The whole program over any folder, streams and clock, and why a job of it isn't done.
+//!
+//! # Causes
+//!
+//! Why a job of the program isn't done: the exit status for it, and its line of the report.
+//!
+//! ```
+//! let cause = Cause::from(unlock(alloc, kind, &mut folder, &mut secret).unwrap_err()); // no masterkey file
+//! assert_eq!(cause.status(), 3);
+//! assert_eq!(cause.line(&mut Buffer::new()).head, "vault refused: no masterkey file");
+//! ```
+//!
+//! # Jobs
+//!
 //! Does the job that the command line names: serves a vault, makes one, holds a demonstration, or says how the program is called.
 //!
 //! ```
@@ -6,8 +20,11 @@
 //! ```
 #![tactic(auto)]
 
+mod cause;
 mod demonstrating;
+mod file_lines;
 mod laws;
+mod line;
 mod making;
 mod opening;
 mod program;
@@ -16,10 +33,12 @@ mod serving;
 mod task;
 mod vault;
 
+pub use cause::Cause;
 pub use laws::{
     a_demonstration_is_held, a_new_vault_is_its_root, a_sound_run_answers_as_the_step,
     a_sound_run_ends_with_0_or_5, a_sound_vault_is_served, a_stopped_vault_is_soundly_found,
-    an_empty_folder_becomes_a_vault, refused_words_are_bad,
+    an_empty_folder_becomes_a_vault, no_stop_damages_a_journal, refused_words_are_bad,
 };
+pub use line::Line;
 pub use program::{Ended, run};
-pub use shared_sessions::Worker;
+pub use shared_tree::Worker;

@@ -1,17 +1,17 @@
 //! What comes before serving: the secret, the key files and the vault's tree.
 
 ghost use Rattle.std.specs.Prelude.{◌≡◌, IfOk, IfErr};
-ghost use Rattle.outside.specs.Views.{folder_view};
-ghost use Rattle.vault_top.specs.Span.{course, source_view, given_of};
+ghost use Rattle.outside.specs.Views.{folder_in};
+ghost use Rattle.vault_top.specs.Span.{course, source_in, given_of};
 ghost use Rattle.vault_top.specs.Opening.{IsUnlockedStore, IsUnopened, of_opening};
 
+use crate::cause::Cause;
 use outside::{Clock, Folder, Refused, Source};
 use std::alloc::Global;
-use vault_causes::Cause;
+use unlocking::{SecretKind, unlock};
 use vault_store::{OpenErr, Store};
-use vault_unlock::{SecretKind, unlock};
 
-// Unlocks the vault in a folder by the secret, and opens it.
+/// Unlocks the vault in a folder by the secret, and opens it.
 pub(crate) fn open_vault<D: Folder, S: Source, K: Clock>(
     alloc: Global,
     kind: SecretKind,
@@ -19,11 +19,11 @@ pub(crate) fn open_vault<D: Folder, S: Source, K: Clock>(
     secret: &mut S,
     clock: &K,
 ) -> Result<Store<D>, Refused<D, Cause>>
-    ensures opened { IfOk result (λ store. IsUnlockedStore (folder_view D.log D.faults D.changes)
-        (given_of (folder_view D.log D.faults D.changes) (course (source_view S.left S.faults) secret.old secret.new) (K.second clock.now) folder folder)
+    ensures opened { IfOk result (λ store. IsUnlockedStore (folder_in D.Reads)
+        (given_of (folder_in D.Reads) (course (source_in S.Source) secret.old secret.new) (K.second clock.now) folder folder)
         kind folder store) }
     ensures unopened { IfErr result (λ refused. IsUnopened
-        (given_of (folder_view D.log D.faults D.changes) (course (source_view S.left S.faults) secret.old secret.new) (K.second clock.now) folder refused.folder)
+        (given_of (folder_in D.Reads) (course (source_in S.Source) secret.old secret.new) (K.second clock.now) folder refused.folder)
         kind refused.cause) }
 {
     let unlocked = match unlock(alloc, kind, &mut folder, secret) {

@@ -4,17 +4,18 @@ ghost use Rattle.session_server.specs.declared.ending.SessionEnd.{SessionEnd};
 ghost use Rattle.vault_words.specs.Jobs.{Serving, Demonstration, serve, make};
 ghost use Rattle.vault_top.specs.Words.{Ask, words_of};
 ghost use Rattle.vault_top.specs.Tasks.{AreScriptsOf, IsServiceOf};
-ghost use Rattle.vault_top.specs.Span.{course, source_view, sink_view, views_of};
+ghost use Rattle.vault_top.specs.Span.{course, source_in, sink_in, views_of};
 ghost use Rattle.vault_top.specs.Report.{TakesPart};
 ghost use Rattle.vault_top.specs.Ending.{HasRun, serving};
 ghost use Rattle.vault_top.specs.Sharing.{AreBeginnings, IsAlone, IsSharedStore};
 ghost use Rattle.vault_top.specs.Serving.{HasServedVault, HasDemonstrated, AreCounted, HasLastLine};
-ghost use Rattle.outside.specs.Views.{folder_view};
+ghost use Rattle.outside.specs.Views.{folder_in};
 ghost use Rattle.tree_model.specs.Rows.{Rows};
-ghost use Rattle.tree_history.specs.History.{Origin};
-ghost use Rattle.shared_vault.specs.Turns.{StandsFor};
-ghost use Rattle.shared_sessions.specs.Joined.{AreSince};
+ghost use Rattle.tree_model.specs.History.{Origin};
+ghost use Rattle.shared_tree.specs.Turns.{StandsFor};
+ghost use Rattle.shared_tree.specs.Joined.{AreSince};
 
+use crate::cause::Cause;
 use crate::demonstrating::{Demonstrated, demonstrate};
 use crate::making::make_vault;
 use crate::opening::open_vault;
@@ -23,20 +24,18 @@ use crate::serving::{Outcome, serve_workers};
 use crate::task::{Scripts, Service, Task, read_task};
 use crate::vault::Since;
 use outside::{Clock, Entropy, Failed, Folder, Gate, Listener, Refused, Sink, Source};
-use shared_sessions::Worker;
-use shared_vault::Start;
+use shared_tree::{Start, Worker};
 use std::alloc::Global;
 use std::marker::Brand;
 use std::sync::Wait;
 use std::thread::Threads;
-use vault_causes::Cause;
 use vault_store::{ClosedStore, Store};
 use vault_words::{USAGE, VERSION, WordsErr};
 
-/// The status where the report's last line wasn't taken whole.
+// The status if the report's last line wasn't taken whole.
 const CUT_STATUS: u8 = 4;
 
-/// How the program ended: its exit status; the vault's folder, of which none comes with status 5 alone; and, if a vault was served, that of a
+/// How the program ended: its exit status; the vault's folder, which is missing with status 5 alone; and, if a vault was served, that of a
 /// demonstration among them, the store that all sessions asked, closed.
 #[derive(Drop)]
 pub struct Ended<D> {
@@ -50,24 +49,24 @@ pub struct Ended<D> {
 /// `serve` reads the secret, unlocks the vault in `folder`, does what a stop left in its journal, serves so many sessions as the words say,
 /// and gives the folder back. What all sessions ask is one history of the vault's tree, which the folder follows by whole batches: a stop at
 /// any moment leaves what a beginning of the history comes to, with each entry that no stop undoes. Once a commit failed, nothing more is
-/// done, and each request is answered with the entry in which it failed. As many workers as the words say, or all where there are fewer,
-/// share the sessions, each in a thread of its own where one can be made; a worker whose listener has no more links, or fails, ends before.
+/// done, and each request is answered with the entry in which it failed. As many workers as the words say, or all if there are fewer, share
+/// the sessions, each in a thread of its own if one can be made; a worker whose listener has no more links, or fails, ends before.
 ///
 /// `demo` serves an empty vault in memory, whose keys are drawn from the seed, to so many clients, each of whom sends its script, and sums up the rows
 /// after the last entry of the history of all their sessions. It touches neither `folder` nor the secret nor the workers; the store that is
 /// handed back is that of the vault in memory.
 ///
 /// `make` reads the secret and makes a vault in `folder`, of what it draws from the first worker; from its first sync on a stop leaves no
-/// vault, or the whole of it, even where it fails later. `--help` and `--version` touch nothing. If the secret is accepted, exactly its first line was read.
+/// vault, or the whole of it, even if it fails later. `--help` and `--version` touch nothing. If the secret is accepted, exactly its first line was read.
 ///
-/// | status | report | comes |
+/// | status | report | when |
 /// |---|---|---|
 /// | 0 | `serving`, then `sessions N done a cut b bad c read d write e memory f limit g` | the vault was served, and no commit failed |
 /// | 0 | `made` | the folder was empty and holds a new vault |
 /// | 0 | `clients M requests R entries E bytes B rows H` | each session of the demonstration ended between two messages; its vault's store is handed back |
 /// | 0 | `USAGE`; `VERSION` | the words are `--help`; `--version` |
 /// | 1 | `bad words` | the words ask for no job, or for serving at an empty address |
-/// | 2 | `bad secret` | the secret's line is no password, or isn't two keys where keys are wanted |
+/// | 2 | `bad secret` | the secret's line is no password, or isn't two keys if keys are wanted |
 /// | 2, 3 | `wrong password`; `vault refused: ..` | the key files, with the cause; too many nodes; no root |
 /// | 4 | `device fault: secret`, `folder`, `random` | that count of faults rose |
 /// | 4 | `serving`, then `device fault: folder` | a commit failed in an entry of the history: the folder's count of faults rose |
@@ -106,10 +105,9 @@ where
     requires { (1 ≤ vec_len workers.old) × (vec_len workers.old ≤ 64) }
     // The program has one ending, which has its reason; its status and its report are that ending's.
     ensures run { HasRun
-        (views_of D.log D.faults D.changes N.to_come N.given_back N.faults
-        N.Conn.left N.Conn.taken N.Conn.read_faults N.Conn.write_faults E.drawn E.faults)
-        (words_of words.now) (course (source_view S.left S.faults) secret.old secret.new) (K.second clock.now)
-        folder workers.old.items workers.new.items (course (sink_view O.taken O.faults) out.old out.new) result }
+        (views_of D.Reads N.Listener N.Conn.Link E.Entropy)
+        (words_of words.now) (course (source_in S.Source) secret.old secret.new) (K.second clock.now)
+        folder workers.old.items workers.new.items (course (sink_in O.Sink) out.old out.new) result }
 {
     let _ = gate;
     match read_task(alloc, words) {
@@ -166,16 +164,14 @@ where
     N::Conn: Send,
     requires some { 1 ≤ vec_len workers.old }
     requires start { AreBeginnings B.is
-        (views_of D.log D.faults D.changes N.to_come N.given_back N.faults
-        N.Conn.left N.Conn.taken N.Conn.read_faults N.Conn.write_faults E.drawn E.faults)
+        (views_of D.Reads N.Listener N.Conn.Link E.Entropy)
         folder workers.old.items }
-    requires since { IsAlone B.since service.kind (folder_view D.log D.faults D.changes folder)
-        (source_view S.left S.faults secret.old) (K.second clock.now) }
+    requires since { IsAlone B.since service.kind (folder_in D.Reads folder)
+        (source_in S.Source secret.old) (K.second clock.now) }
     ensures { (words : List (List ℕ)) (serving : Serving) → Ask words (serve serving) → IsServiceOf serving service → HasRun
-        (views_of D.log D.faults D.changes N.to_come N.given_back N.faults
-        N.Conn.left N.Conn.taken N.Conn.read_faults N.Conn.write_faults E.drawn E.faults)
-        words (course (source_view S.left S.faults) secret.old secret.new) (K.second clock.now)
-        folder workers.old.items workers.new.items (course (sink_view O.taken O.faults) out.old out.new) result }
+        (views_of D.Reads N.Listener N.Conn.Link E.Entropy)
+        words (course (source_in S.Source) secret.old secret.new) (K.second clock.now)
+        folder workers.old.items workers.new.items (course (sink_in O.Sink) out.old out.new) result }
 {
     match open_vault(alloc, service.kind, folder, secret, clock) {
         Ok(store) => serve_vault::<R, D, B, N, E, O, K>(
@@ -199,10 +195,9 @@ fn make<D: Folder, N: Listener, E: Entropy, S: Source, O: Sink>(
 ) -> Ended<D>
     requires { 1 ≤ vec_len workers.old }
     ensures { (words : List (List ℕ)) (dir : List ℕ) (second : Option ℕ) → Ask words (make dir) → HasRun
-        (views_of D.log D.faults D.changes N.to_come N.given_back N.faults
-        N.Conn.left N.Conn.taken N.Conn.read_faults N.Conn.write_faults E.drawn E.faults)
-        words (course (source_view S.left S.faults) secret.old secret.new) second
-        folder workers.old.items workers.new.items (course (sink_view O.taken O.faults) out.old out.new) result }
+        (views_of D.Reads N.Listener N.Conn.Link E.Entropy)
+        words (course (source_in S.Source) secret.old secret.new) second
+        folder workers.old.items workers.new.items (course (sink_in O.Sink) out.old out.new) result }
 {
     let Worker {
         listener,
@@ -243,12 +238,11 @@ fn serve_vault<
 where
     N::Conn: Send,
     requires some { 1 ≤ vec_len workers.old }
-    requires right { StandsFor B.is (λ s rows origin history. IsSharedStore (folder_view D.log D.faults D.changes) B.since s rows origin history) store [] }
+    requires right { StandsFor B.is (λ s rows origin history. IsSharedStore (folder_in D.Reads) B.since s rows origin history) store [] }
     requires since { (rows : Rows) (origin : Origin) → B.is rows origin → AreSince E.faults origin 0 workers.old.items }
     ensures served { HasServedVault B.is B.since
-        (views_of D.log D.faults D.changes N.to_come N.given_back N.faults
-        N.Conn.left N.Conn.taken N.Conn.read_faults N.Conn.write_faults E.drawn E.faults)
-        (K.second clock.now) service workers.old.items workers.new.items (course (sink_view O.taken O.faults) out.old out.new) result }
+        (views_of D.Reads N.Listener N.Conn.Link E.Entropy)
+        (K.second clock.now) service workers.old.items workers.new.items (course (sink_in O.Sink) out.old out.new) result }
 {
     let serving = announce(out);
     let served = serve_workers::<R, D, B, N, E, K>(rt, alloc, store, service, workers, clock);
@@ -283,7 +277,7 @@ fn report_demonstration<R: Threads + Wait + Sync, D, O: Sink>(
     requires { (1 ≤ scripts.clients) × (scripts.clients ≤ 64) }
     ensures folder { result.folder ≡ Some folder }
     ensures demonstrated { (d : Demonstration) → AreScriptsOf d scripts
-        → HasDemonstrated d (course (sink_view O.taken O.faults) out.old out.new) result }
+        → HasDemonstrated d (course (sink_in O.Sink) out.old out.new) result }
 {
     match demonstrate(rt, alloc, scripts) {
         Ok(Demonstrated { line, store }) => Ended {
@@ -313,7 +307,7 @@ fn put_back<N, E>(workers: &mut Vec<Worker<N, E>>, worker: Worker<N, E>)
 // Reports what serving came to, and returns the program's status.
 fn report_outcome<O: Sink>(alloc: Global, out: &mut O, outcome: Outcome) -> u8
     ensures { (ends : List SessionEnd) → AreCounted ends outcome
-        → HasLastLine ends outcome (course (sink_view O.taken O.faults) out.old out.new) result }
+        → HasLastLine ends outcome (course (sink_in O.Sink) out.old out.new) result }
 {
     match outcome {
         Outcome::Served(counts) => match counts_line(alloc, &counts) {

@@ -2,19 +2,20 @@
 
 ghost use Rattle.std.specs.Prelude.{◌≡◌, ◌≤◌, List, ◌++◌, IfOk, OnOk, OnErr, IsErr, string_bytes, decimal};
 ghost use Rattle.outside.specs.Calls.{Rose, HasCause, Changes};
-ghost use Rattle.vault_causes.specs.Lines.{line_text};
-ghost use Rattle.vault_top.specs.Span.{course, sink_view};
+ghost use Rattle.vault_top.specs.Lines.{line_text};
+ghost use Rattle.vault_top.specs.Span.{course, sink_in};
 ghost use Rattle.vault_top.specs.Report.{line, sessions_line, TakesPart};
 ghost use Rattle.session_server.specs.declared.ending.SessionEnd as ends;
-ghost use Rattle.session_workers.specs.Ends.{AreCounts};
+ghost use Rattle.session_server.specs.Ends.{AreCounts};
 ghost use Rattle.vault_top.specs.Writing.{IsWritten};
 ghost use Rattle.vault_top.specs.Ending.{refused, IsReported};
 
+use crate::cause::Cause;
+use crate::line::Line;
 use itoa::Buffer;
 use outside::{Failed, Sink};
-use session_workers::SessionCounts;
+use session_server::SessionCounts;
 use std::alloc::{AllocError, Global};
-use vault_causes::{Cause, Line};
 
 /// Writes all bytes, unless the sink fails.
 pub(crate) fn write_all<O: Sink>(out: &mut O, bytes: &[u8]) -> Result<(), Failed>
@@ -30,7 +31,7 @@ pub(crate) fn write_all<O: Sink>(out: &mut O, bytes: &[u8]) -> Result<(), Failed
     Ok(())
 }
 
-/// Writes a text of the report, and returns the program's status: `whole`, or `cut` where the sink failed.
+/// Writes a text of the report, and returns the program's status: `whole`, or `cut` if the sink failed.
 pub(crate) fn report<O: Sink>(out: &mut O, text: &[u8], whole: u8, cut: u8) -> u8
     ensures written { IsWritten (Rose (O.faults out.old) (O.faults out.new)) (O.taken out.old) (O.taken out.new) text.now whole cut result }
     ensures faults { O.faults out.old ≤ O.faults out.new }
@@ -43,7 +44,7 @@ pub(crate) fn report<O: Sink>(out: &mut O, text: &[u8], whole: u8, cut: u8) -> u
 
 /// Reports why the job isn't done, and returns the program's status, which is the cause's whether the line was taken or not.
 pub(crate) fn refuse<O: Sink>(out: &mut O, cause: &Cause) -> u8
-    ensures { IsReported (course (sink_view O.taken O.faults) out.old out.new) (refused cause.now) result }
+    ensures { IsReported (course (sink_in O.Sink) out.old out.new) (refused cause.now) result }
 {
     let mut digits = Buffer::new();
     let status = cause.status();

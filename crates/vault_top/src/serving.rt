@@ -1,12 +1,12 @@
 //! Serving all workers' sessions over an open vault.
 
 ghost use Rattle.std.specs.Prelude.{◌≡◌, ◌≤◌, [], List, min, option_map, vec_len};
-ghost use Rattle.outside.specs.Views.{folder_view};
+ghost use Rattle.outside.specs.Views.{folder_in};
 ghost use Rattle.session_server.specs.declared.ending.SessionEnd as ends;
 ghost use Rattle.tree_model.specs.Rows.{Rows};
-ghost use Rattle.tree_history.specs.History.{Origin};
-ghost use Rattle.shared_vault.specs.Turns.{StandsFor};
-ghost use Rattle.shared_sessions.specs.Joined.{AreSince};
+ghost use Rattle.tree_model.specs.History.{Origin};
+ghost use Rattle.shared_tree.specs.Turns.{StandsFor};
+ghost use Rattle.shared_tree.specs.Joined.{AreSince};
 ghost use Rattle.vault_top.specs.Span.{views_of};
 ghost use Rattle.vault_top.specs.Sharing.{IsSharedStore};
 ghost use Rattle.vault_top.specs.Serving.{HasOutcome, HasServed, unreported};
@@ -14,9 +14,8 @@ ghost use Rattle.vault_top.specs.Serving.{HasOutcome, HasServed, unreported};
 use crate::task::Service;
 use crate::vault::{SharedVault, Since};
 use outside::{Clock, Entropy, Failed, Folder, Listener};
-use session_workers::SessionCounts;
-use shared_sessions::{Served, Worker, serve_all};
-use shared_vault::Start;
+use session_server::SessionCounts;
+use shared_tree::{Served, Start, Worker, serve_all};
 use std::alloc::Global;
 use std::sync::Wait;
 use std::thread::Threads;
@@ -35,7 +34,7 @@ pub(crate) enum Outcome {
 }
 
 impl Outcome {
-    /// The status where the sink failed before this could be reported.
+    /// The status if the sink failed before this could be reported.
     pub(crate) fn unreported(self) -> u8
         ensures { result ≡ unreported self }
     {
@@ -46,7 +45,7 @@ impl Outcome {
     }
 }
 
-/// What is handed back after serving: the folder, which may be lost where memory ran out, what serving came to, and the closed store, if
+/// What is handed back after serving: the folder, which may be lost if memory ran out, what serving came to, and the closed store, if
 /// sessions were served.
 #[derive(Drop)]
 pub(crate) struct HandedBack<D> {
@@ -74,11 +73,10 @@ pub(crate) fn serve_workers<
 where
     N::Conn: Send,
     requires some { 1 ≤ vec_len workers.old }
-    requires right { StandsFor B.is (λ s rows origin history. IsSharedStore (folder_view D.log D.faults D.changes) B.since s rows origin history) store [] }
+    requires right { StandsFor B.is (λ s rows origin history. IsSharedStore (folder_in D.Reads) B.since s rows origin history) store [] }
     requires since { (rows : Rows) (origin : Origin) → B.is rows origin → AreSince E.faults origin 0 workers.old.items }
     ensures served { (ends : List ends.SessionEnd) × HasServed B.is B.since
-        (views_of D.log D.faults D.changes N.to_come N.given_back N.faults
-        N.Conn.left N.Conn.taken N.Conn.read_faults N.Conn.write_faults E.drawn E.faults)
+        (views_of D.Reads N.Listener N.Conn.Link E.Entropy)
         (K.second clock.now) service workers.old.items workers.new.items ends result }
 {
     let vault = SharedVault::<D, B>::new(store);

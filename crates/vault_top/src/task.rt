@@ -6,7 +6,7 @@ ghost use Rattle.vault_top.specs.Words.{IsOffered, kind_where, words_of};
 ghost use Rattle.vault_top.specs.Tasks.{AskTask, IsTaskOf, IsWithin, IsWordsCause};
 
 use std::alloc::Global;
-use vault_unlock::SecretKind;
+use unlocking::SecretKind;
 use vault_words::{Job, WordsErr, read_words};
 
 /// What is served: a vault that a secret of this kind unlocks, over the links of the workers' listeners. There are so many sessions, 1 to 1,000,000,
@@ -41,7 +41,7 @@ pub(crate) enum Task {
     Version,
 }
 
-// The task that the words ask for.
+/// The task that the words ask for.
 pub(crate) fn read_task(alloc: Global, words: &[String]) -> Result<Task, WordsErr>
     ensures task { IfOk result (AskTask (words_of words.now)) }
     ensures cause { IfErr result (IsWordsCause (words_of words.now)) }

@@ -1,7 +1,7 @@
 //! An open vault as a tree that many callers ask.
 
 use outside::{Entropy, Folder};
-use shared_vault::SharedTree;
+use shared_tree::SharedTree;
 use std::marker::{Brand, PhantomData};
 use tree_model::{Reply, Request};
 use vault_store::Store;
@@ -48,11 +48,11 @@ impl<D: Folder, B> SharedVault<D, B> {
 }
 
 impl<D: Folder, B: Since> SharedTree for SharedVault<D, B> {
-    ghost use Rattle.outside.specs.Views.{folder_view};
-    ghost use Rattle.store_history.specs.Turns.{draws_for};
+    ghost use Rattle.outside.specs.Views.{folder_in};
+    ghost use Rattle.store_laws.specs.Turns.{draws_for};
     ghost use Rattle.vault_top.specs.Sharing.{IsSharedStore};
 
-    ghost stands = { λ vault rows origin history. IsSharedStore (folder_view D.log D.faults D.changes) B.since vault.store rows origin history };
+    ghost stands = { λ vault rows origin history. IsSharedStore (folder_in D.Reads) B.since vault.store rows origin history };
 
     ghost draws = { draws_for };
 

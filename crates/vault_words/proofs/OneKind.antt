@@ -1,6 +1,6 @@
--- The kinds of an error agree on a request: where help or the version is among the kinds that may come, no other kind is.
--- A step fails by one kind at most, and a parse by its first step that fails. Two places give more than one kind: a word that nothing
--- takes, of which neither kind is a request, and `help` as a subcommand, which a command may disable.
+-- The kinds of an error agree on a request: if help or the version is among the kinds that are possible, no other kind is. A step
+-- fails by one kind at most, and a parse by its first step that fails. Two places give more than one kind: a word that nothing takes,
+-- of which neither kind is a request, and `help` as a subcommand, which a command may disable.
 use Rattle.std.proofs.Common.{◌≡◌, ◌⊎◌, ◌&&◌, ◌||◌, ◌==◌, ◌+◌, ℕ, zero, suc, Bool, true, false, not, List, [], ◌∷◌, Option, Some, None, is_some, length, drop, codes, inl, inr, refl}
 use Rattle.std.specs.Prelude.{encode_utf8, find, if◌then◌else◌, min, nat_lt, slice_get}
 use Rattle.std.specs.Option.{option_map_or}
@@ -49,7 +49,7 @@ one_kind-only_if b x = one_kind-if b (x ∷ []) [] (one_kind-single x) one_kind-
 pub one_kind-unless : (b : Bool) (kinds : Kinds) → OneKind kinds → OneKind (if b then [] else kinds)
 one_kind-unless b kinds p = one_kind-if b [] kinds one_kind-none p
 
--- where something may be there
+-- if something may be there
 pub one_kind-option : {A : Type 0} (f : A → Kinds) (none : Kinds) (o : Option A) → ((a : A) → OneKind (f a)) → OneKind none
     → OneKind (option_map_or f o none)
 one_kind-option f none None p q = q
@@ -175,7 +175,7 @@ one_kind-flag_word c again None word h =
 abbrev pub HasNoHelp : Shape → Names → Type 0
 HasNoHelp s names = (s.disable_help_subcommand ≡ true) ⊎ (names ≡ [])
 
--- where no subcommand is named, none is met
+-- if no subcommand is named, none is met
 pub none_met : (waiting : Waiting) (word : Text) → subcommand_met [] waiting word ≡ None
 none_met idle word = refl
 none_met (option id) word = refl
@@ -186,7 +186,7 @@ one_kind-no_subcommand s word h =
     one_kind-unless (bytes_eq word (45 ∷ 45 ∷ [])) (flag_word_fault s.rules s.args_override_self (long_of word) word h)
     (one_kind-flag_word s.rules s.args_override_self (long_of word) word h)
 
--- a subcommand is met without a fault, where `help` is none
+-- a subcommand is met without a fault, if `help` is none
 pub one_kind-subcommand : (s : Shape) (met : Option Text) (word : Text) (h : Held) → s.disable_help_subcommand ≡ true
     → OneKind (other_fault s met word h)
 one_kind-subcommand s None word h disabled = one_kind-no_subcommand s word h

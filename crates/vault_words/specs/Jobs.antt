@@ -34,7 +34,7 @@ pub data Job : Type 0 where
 abbrev pub number_at : Text → ℕ → ℕ → List Row → Option ℕ
 number_at id least most rows = option_and_then (number_in least most) (first_of id rows)
 
--- from 1 to 64 sessions at once, and 8 where nothing is said
+-- from 1 to 64 sessions at once, and 8 if nothing is said
 abbrev pub at_once_in : List Row → Option ℕ
 at_once_in rows = option_map_or (number_in 1 64) (first_of (codes "at-once") rows) (Some 8)
 

@@ -25,7 +25,7 @@ pub const VERSION: &str = "vaultd 1.0.0\n";
 #[derive(Clone, Copy, Debug, PartialEq, Eq)]
 pub enum Job<'a> {
     /// Serves the vault in the folder `dir` on an address, `-` being standard input and output: so many `sessions` (1 to 1,000,000),
-    /// of which at most `at_once` (1 to 64, 8 where nothing is said) are served at once. With `raw_key` the secret is the two keys.
+    /// of which at most `at_once` (1 to 64, 8 if nothing is said) are served at once. With `raw_key` the secret is the two keys.
     Serve {
         dir: &'a str,
         address: &'a str,
@@ -50,7 +50,7 @@ pub enum Job<'a> {
 }
 
 /// What has to be there before the job begins: the vault's folder, the address to listen on and how many sessions are served at once.
-/// A text is empty where the job has none.
+/// A text is empty if the job has none.
 #[derive(Clone, Copy, Debug, PartialEq, Eq)]
 pub struct Places<'a> {
     pub dir: &'a str,
@@ -58,7 +58,7 @@ pub struct Places<'a> {
     pub at_once: u64,
 }
 
-/// Why words name no job.
+/// Why the arguments were rejected.
 #[derive(Clone, Copy, Debug, PartialEq, Eq)]
 pub enum WordsErr {
     /// clap doesn't take the words, or a number isn't decimal digits without a sign and a leading zero, or is out of its range.

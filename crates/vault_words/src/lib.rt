@@ -6,7 +6,7 @@
 //! ```
 //!
 //! `serve DIR --listen ADDR --sessions N [--at-once M] [--raw-key]`, `make DIR` and `demo --seed S --clients M --requests R`, with
-//! options in any order, `--listen=-` too, and a DIR that begins with a hyphen behind `--`. A number is decimal digits without a sign
+//! options in any order, `--listen=-` too, and a DIR that begins with a hyphen after `--`. A number is decimal digits without a sign
 //! and a leading zero. `--help` and `--version` are jobs too.
 #![tactic(auto)]
 

@@ -21,7 +21,7 @@ pub(crate) fn number(text: &str, least: u64, most: u64) -> Option<u64>
     Some(number)
 }
 
-// The value of decimal digits, where it is below 2^64.
+// The value of decimal digits, if it is below 2^64.
 fn value_of(text: &str) -> Option<u64>
     requires { is_decimal text.now ≡ true }
     ensures { MatchOption result (2 ^ 64 ≤ digits_value 10 text.now) (λ n. n ≡ digits_value 10 text.now) }

@@ -1,14 +1,27 @@
 //! Serves the clear tree of a Cryptomator vault over 9P2000, and makes such vaults. README.md has its words.
+//!
+//! # The program over the host
+//!
+//! The program over the host's folder, streams, sockets, random source and clock.
+//!
+//! ```
+//! let args = env::args(&rt)?.collect::<Vec<_>>(rt.alloc())?;
+//! ExitCode::from(start(&rt, &args)?)
+//! ```
 #![tactic(auto)]
 
+mod error;
+mod starting;
+
+use crate::error::StartErr;
+use crate::starting::start;
 use std::env::{Env, FillError};
 use std::fs::File;
 use std::process::ExitCode;
 use std::rt::Files;
 use std::{env, io};
-use vault_start::{StartErr, start};
 
-/// The status of a fault of the outside.
+// The status of a fault of the outside.
 const FAULT: u8 = 4;
 
 // Whether a word says that standard output is a client's.
@@ -16,7 +29,7 @@ fn is_for_streams(word: &[u8]) -> bool {
     matches!(word, b"-" | b"--listen=-")
 }
 
-// Whether standard output may be a client's, where the words can't be read.
+// Whether standard output may be a client's, if the words can't be read.
 fn may_serve_streams<R: Env>(rt: &R) -> bool {
     let mut word = [0u8; 16];
     for index in 1..usize::MAX {
@@ -40,7 +53,7 @@ fn placeholders<R: Files>(rt: &R) -> io::Result<[R::File; 3]> {
 }
 
 fn main(rt: HostRuntime) -> ExitCode {
-    // Where the program was started without one of the descriptors 0 to 2, no file of the vault is to be given it.
+    // If the program was started without one of the descriptors 0 to 2, no file of the vault is to be given it.
     let Ok(_placeholders) = placeholders(&rt) else {
         return ExitCode::from(FAULT);
     };

@@ -82,7 +82,7 @@ laid_listing ds d path names can is = record {
       );
 }
 
--- ---- where the log is told
+-- ---- if the log is told
 
 pub told_tree : (log : Option Log) (ds : List PlainDeed) → Told log (λ l. CanWait ds (now l)) → Told (disk_in log) IsTree → Told (disk_in (option_map (laid_log ds) log)) IsTree
 told_tree None ds can tree = tt

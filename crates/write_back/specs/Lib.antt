@@ -1,2 +1,4 @@
+pub mod Deeds
+pub mod Sealed
 pub mod View
 pub mod Shown

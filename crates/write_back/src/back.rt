@@ -2,17 +2,18 @@ ghost use Rattle.std.specs.Prelude.{◌≡◌, ◌↔◌, ℕ, List, [], Some, l
 ghost use Rattle.outside.specs.Calls.{HasCause, Told, Changes};
 ghost use Rattle.outside.specs.Disk.{node_at, file};
 ghost use Rattle.outside.specs.Images.{now};
-ghost use Rattle.held_changes.specs.Writing.{IsRewritten};
+ghost use Rattle.live_tree_laws.specs.Writing.{IsRewritten};
 ghost use Rattle.pending_files.specs.Pending.{HasRoom};
 ghost use Rattle.pending_files.specs.Laid.{laid, CanWait};
 ghost use Rattle.chunk_journal.specs.Journal.{IsQuiet, AnyMoment, HasCommitted};
-ghost use Rattle.content_changes.specs.Rewriting.{CanPutChunks, rewritten};
-ghost use Rattle.content_deeds.specs.Deeds.{rewriting_in};
-ghost use Rattle.content_deeds.specs.Sealed.{rewriting_of};
+ghost use Rattle.content_laws.specs.Rewriting.{CanPutChunks, rewritten};
+ghost use Rattle.write_back.specs.Deeds.{rewriting_in};
+ghost use Rattle.write_back.specs.Sealed.{rewriting_of};
 ghost use Rattle.write_back.specs.Shown.{kind_with, HasFile};
 
+use crate::behind::put_behind;
+use crate::putting::SealedChunks;
 use chunk_journal::{Device, Journal};
-use content_deeds::{SealedChunks, put_behind};
 use outside::{Folder, FolderErr, Kind, Reads};
 use pending_files::Pending;
 use std::alloc::Global;
@@ -40,7 +41,7 @@ impl<D: Folder> Model for WriteBack<D> {
     ghost invariant = { λ back. Told (D.log back.journal) (λ log. CanWait back.pending (now log)) };
 }
 
-/// The folder's own answers, but that they show what waits.
+/// The folder as if what waits were already written.
 impl<D: Folder> Reads for WriteBack<D> {
     ghost use Rattle.std.specs.Option.{option_map};
     ghost use Rattle.pending_files.specs.Laid.{laid_log};
@@ -65,7 +66,7 @@ impl<D: Folder> Reads for WriteBack<D> {
     }
 }
 
-/// A kind in which a file has the length that waits for it, if one does.
+// A kind in which a file has the length that waits for it, if one does.
 fn shown_kind(found: Option<Kind>, len: Option<u64>) -> Option<Kind>
     ensures { result ≡ kind_with len found }
 {
@@ -105,7 +106,7 @@ impl<D: Folder> WriteBack<D> {
         self.pending.room(path, chunks)
     }
 
-    /// Puts the sealed chunks of a change behind what waits. `len` is how many bytes reads give the host file before. It takes no
+    /// Puts the sealed chunks of a change after what waits. `len` is how many bytes reads give the host file before. It takes no
     /// memory.
     pub fn put(&mut self, path: &VaultPath, len: u64, change: &SealedChunks<'_>)
         requires room { HasRoom self.old.waiting path.now (length (rewriting_of change.now).sealed) }
@@ -122,7 +123,7 @@ impl<D: Folder> WriteBack<D> {
         put_behind(&mut self.pending, path, len, change);
     }
 
-    /// Commits all that waits, as one batch. Afterwards nothing waits, also where that failed: the folder is then to be opened
+    /// Commits all that waits, as one batch. Afterwards nothing waits, even if that failed: the folder is then to be opened
     /// again. It takes no memory.
     pub fn flush(&mut self) -> Result<(), Device>
         requires quiet { Told (D.log self.old.folder) IsQuiet }

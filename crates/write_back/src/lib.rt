@@ -1,3 +1,22 @@
+//! Changes of contents as deeds, and a journal whose deeds of contents wait in memory.
+//!
+//! # Deeds of contents
+//!
+//! A sealed change of a content file, as the deed that does it.
+//!
+//! ```text
+//! let change = SealedChunks { first: 0, sealed: &sealed, size: 32_864 }; // one full chunk behind the header
+//! put_chunks(&mut pending, &path, &change);
+//! journal.commit(pending.deeds())?;
+//! put_behind(&mut pending, &path, 32_864, &later); // another change, of the file as it will be
+//! ```
+//!
+//! `deeds_rewrite`, `waiting_rewrites` and `chunks_are_cut` are laws: they do nothing, and their clauses hold. They say what the
+//! deed of a change leaves on a disk, alone and after others that wait, and that sealed chunks which lie one after the other are
+//! cut at their borders.
+//!
+//! # What waits
+//!
 //! A journal whose writes of contents wait in memory until they are committed together.
 //!
 //! ```text
@@ -15,7 +34,13 @@
 #![tactic(auto)]
 
 mod back;
-mod laws;
+mod behind;
+mod deed_laws;
+mod flush_laws;
+mod putting;
 
 pub use back::WriteBack;
-pub use laws::flushed_disks;
+pub use behind::put_behind;
+pub use deed_laws::{chunks_are_cut, deeds_rewrite, waiting_rewrites};
+pub use flush_laws::flushed_disks;
+pub use putting::{SealedChunks, put_chunks};

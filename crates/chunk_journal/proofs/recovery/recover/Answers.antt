@@ -16,14 +16,14 @@ use Rattle.chunk_journal.proofs.Pieces.{with_new}
 use Rattle.chunk_journal.proofs.Openings.{damaged_by, told_earlier, told_settled, unopened, Finds, HasSettled, HasRedone, reopened_by, opened_by, opened_closed, redone_damage, left_unread, left_redone}
 use Rattle.chunk_journal.proofs.recovery.recover.Goals as goal
 
--- what stands behind the gate, if anything
+-- what follows the gate, if anything
 abbrev Looks : Option (Vec Deed Global) → Log → Type 0
 Looks found log = (HasFolder (now log) → ⊥) × MatchOption found (IsClosed (now log)) (λ deeds. HoldsBatch (now log) (plains deeds.items))
 
 abbrev Stays : List PlainDeed → Log → Log → Type 0
 Stays bs old new = IsRepeatable bs → StaysRecovered bs old new
 
--- what doing a batch again leaves, of a folder that stood still since it settled
+-- what doing a batch again leaves, of a folder that didn't change since it settled
 redone_stays : (bs : List PlainDeed) (a b c : Option Log) → b ≡ a → Changes b c LogGoesOn → Changes b c (Stays bs) → Changes a c (λ x y. LogGoesOn x y × Stays bs x y)
 redone_stays bs a b c same grown stays = subst (λ (o : Option Log). Changes o c (λ x y. LogGoesOn x y × Stays bs x y)) same (both_changed b c LogGoesOn (Stays bs) grown stays)
 

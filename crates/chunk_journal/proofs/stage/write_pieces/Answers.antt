@@ -16,7 +16,7 @@ use Rattle.chunk_journal.proofs.Faults.{err_cause}
 use Rattle.chunk_journal.proofs.Pieces.{pieces_begun, front_begun, piece_did, piece_broke, front_more, can_piece}
 use Rattle.chunk_journal.proofs.stage.write_pieces.Goals as goal
 
--- the piece behind the front makes the longer front
+-- the piece after the front makes the longer front
 pieces_join : (at room n : ℕ) (bs : List ℕ) → at ≤ length bs → n ≡ min room (length bs - at) → take at bs ++ take room (drop at bs) ≡ take (at + n) bs
 pieces_join at room n bs le is =
     let rest = drop at bs in

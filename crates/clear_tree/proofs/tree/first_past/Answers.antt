@@ -1,4 +1,4 @@
--- The closure tells whether a node stands before the place.
+-- The closure says whether a node is before the place.
 use Rattle.std.proofs.Common.{rules, not}
 use Rattle.std.specs.Option.{option_copied}
 use Rattle.std.proofs.lemmas.Fn.{always_returns_same}

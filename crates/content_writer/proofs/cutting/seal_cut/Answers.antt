@@ -4,8 +4,8 @@ use Rattle.outside.specs.Images.{disk_in}
 use Rattle.outside.proofs.Told.{told_always, told_then}
 use Rattle.tree_model.specs.Contents.{resized}
 use Rattle.file_chunks.specs.File.{content_of}
-use Rattle.content_changes.specs.Rewriting.{IsSealed}
-use Rattle.content_changes.specs.Laws.{IsRewritten, cut_by}
+use Rattle.content_laws.specs.Rewriting.{IsSealed}
+use Rattle.content_laws.specs.Laws.{IsRewritten, cut_by}
 use Rattle.content_writer.proofs.cutting.seal_cut.Goals as goal
 
 pub returns-then-kept-eq0-clause-cut : goal.returns-then-kept-eq0-clause-cut

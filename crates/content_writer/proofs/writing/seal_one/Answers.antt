@@ -1,7 +1,7 @@
 use Rattle.std.proofs.Common.{◌≡◌, ◌+◌, ◌-◌, ◌*◌, ◌<◌, ◌≤◌, ℕ, List, min, length, take, drop, ap, ◌∙◌, arith}
 use Rattle.std.proofs.lemmas.Result.{err_from_is_err_and}
 use Rattle.outside.specs.Images.{disk_in}
-use Rattle.content_changes.specs.Laws.{patched, patched_at}
+use Rattle.content_laws.specs.Laws.{patched, patched_at}
 use Rattle.content_writer.specs.Sealing.{Writing, writing_of}
 use Rattle.content_writer.proofs.WrittenChunks.{ChunkLaws, patched_chunk, replaced_chunk, lost_chunk, partly_kept, length-patched_at, length-replaced, input_rest, input_chunk, sealed_as}
 use Rattle.content_writer.proofs.writing.seal_one.Goals as goal

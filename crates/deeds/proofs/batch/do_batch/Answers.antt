@@ -166,7 +166,7 @@ returns-in_err-do_phase-3-clause-grown g c =
     let l2 = g.F.Reads.log c.do_phase-2.new.folder in
     grown_on l0 l2 (g.F.Reads.log c.do_phase-3.new.folder) (grown_on l0 l1 l2 c.in_ok-do_phase.ensures.grown c.in_ok-do_phase-2.ensures.grown) c.in_err-do_phase-3.ensures.grown
 
--- ---- where a deed is refused, or the folder fails
+-- ---- if a deed is refused, or the folder fails
 
 module _ (ds : List PlainDeed) (l0 l1 : Option Log) where
   abbrev Whole : List PlainDeed → Log → Log → Type 0

@@ -220,7 +220,7 @@ returns-clause-grown g c =
     let d = g.F.Reads.log c.set_len.new.self in
     grown_on (g.F.Reads.log c.args.folder.now) b d c.loop-range.invariant.grown (did_grown (SetLen c.args.path.now c.args.len) b d c.in_ok-set_len.ensures.done)
 
--- ---- where it can't be made to its end
+-- ---- if it can't be made to its end
 
 pub returns-in_err-write-clause-refused : goal.returns-in_err-write-clause-refused
 returns-in_err-write-clause-refused g c =

@@ -1,7 +1,7 @@
 use Rattle.std.proofs.Common.{◌≡◌, ◌+◌, ◌*◌, ◌%◌, ◌^◌, ◌<◌, ℕ, List, [], length, get_or, ap, subst, sym, ◌∙◌, arith, refl}
 use Rattle.aes_block.specs.Aes.{aes}
 use Rattle.aes_block.specs.Bytes.{MakesBlocks}
-use Rattle.aes_bits.specs.Circuit.{AreRoundKeys}
+use Rattle.aes_kernels.specs.Circuit.{AreRoundKeys}
 use Rattle.gcm_mode.specs.Gcm.{counter_block}
 use Rattle.gcm_mode.specs.Counted.{Counted}
 use Rattle.gcm_mode.proofs.Counting.{Counted_none, counter_block_same}

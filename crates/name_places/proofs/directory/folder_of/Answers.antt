@@ -1,6 +1,6 @@
 use Rattle.std.proofs.Common.{ℕ, List, ap, ◌∙◌}
 use Rattle.vault_path.specs.Parts.{is_path}
-use Rattle.dir_paths.proofs.PartLemmas.{is_path-digits}
+use Rattle.vault_names.proofs.PartLemmas.{is_path-digits}
 use Rattle.clear_tree.specs.Places.{host_folder}
 use Rattle.name_places.proofs.directory.folder_of.Goals as goal
 

@@ -1,4 +1,4 @@
-use Rattle.directory_scan.specs.Format.{sealing_of}
+use Rattle.tree_loading.specs.Format.{sealing_of}
 use Rattle.name_places.proofs.Texts.{texts_from}
 use Rattle.name_places.proofs.laws.are_texts.Goals as goal
 

@@ -1,4 +1,4 @@
-use Rattle.directory_scan.specs.Format.{sealing_of}
+use Rattle.tree_loading.specs.Format.{sealing_of}
 use Rattle.name_places.proofs.Texts.{entry_part}
 use Rattle.name_places.proofs.laws.entries_are_parts.Goals as goal
 

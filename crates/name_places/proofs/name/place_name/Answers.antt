@@ -1,5 +1,5 @@
 use Rattle.std.proofs.Common.{ℕ, List, sym, ap, ◌∙◌}
-use Rattle.long_names.specs.Places.{place_of}
+use Rattle.vault_names.specs.Places.{place_of}
 use Rattle.name_places.proofs.Parts.{short_place, long_place}
 use Rattle.name_places.proofs.name.place_name.Goals as goal
 

@@ -1,14 +1,14 @@
 use Rattle.std.proofs.Common.{Err, ap, ◌≡◌, ℕ, ◌^◌, List, take, Option, sym, subst, refl, arith}
 use Rattle.std.proofs.lemmas.List.{length-take}
 use Rattle.outside.specs.Calls.{Rose}
-use Rattle.outside.specs.Views.{link_view}
+use Rattle.outside.specs.Views.{link_in}
 use Rattle.session_server.specs.Steps.{Reads, Writes}
-use Rattle.session_server.proofs.SoFar.{SoFar, OneAnswered, so_far_none, so_far_more, at_clock, talked_stop, talked_fault, talked_limit}
+use Rattle.session_server.proofs.TalkSoFar.{SoFar, OneAnswered, so_far_none, so_far_more, at_clock, talked_stop, talked_fault, talked_limit}
 use Rattle.session_server.proofs.server.answer_messages.Goals as goal
 
 pub loop-answered-init : goal.loop-answered-init
 loop-answered-init g c = record {
-  so_far = so_far_none g.B.TreeObject.stands c.args.object.now (link_view g.L.Link.left g.L.Link.taken g.L.Link.read_faults g.L.Link.write_faults c.args.link.now)
+  so_far = so_far_none g.B.TreeObject.stands c.args.object.now (link_in g.L.Link c.args.link.now)
       (g.K.Clock.second c.args.clock.now) c.args.session c.requires.fresh;
   few = omega arith;
 }
@@ -17,9 +17,9 @@ pub returns-in-Err : goal.returns-in-Err
 returns-in-Err g c =
     record {
       talked = talked_stop g.B.TreeObject.stands c.args.object.now c.loop-answered.object
-          (link_view g.L.Link.left g.L.Link.taken g.L.Link.read_faults g.L.Link.write_faults c.args.link.now)
-          (link_view g.L.Link.left g.L.Link.taken g.L.Link.read_faults g.L.Link.write_faults c.loop-answered.link)
-          (link_view g.L.Link.left g.L.Link.taken g.L.Link.read_faults g.L.Link.write_faults c.read_frame.new.link)
+          (link_in g.L.Link c.args.link.now)
+          (link_in g.L.Link c.loop-answered.link)
+          (link_in g.L.Link c.read_frame.new.link)
           (g.K.Clock.second c.args.clock.now) c.loop-answered.answered c.loop-answered.session c.in-Err.end
           c.loop-answered.invariant.so_far c.loop-answered-test.true c.in-Err.ensures.stops c.read_frame.ensures.taken
           (record { later = c.in-Err.ensures.cause.later; rose = λ is. c.in-Err.ensures.cause.rose (ap Err is) })
@@ -35,9 +35,9 @@ loop-answered-preserved g c =
     record { framed = c.in-Ok.ensures.frame; fits = omega (arith, length-take c.in-Ok.size c.read_frame.new.frame, c.in-Ok.ensures.size.0); exchanged = e.exchanged } in
     record {
       so_far = so_far_more g.B.TreeObject.stands c.args.object.now c.loop-answered.object c.answer-answer.new.object
-          (link_view g.L.Link.left g.L.Link.taken g.L.Link.read_faults g.L.Link.write_faults c.args.link.now)
-          (link_view g.L.Link.left g.L.Link.taken g.L.Link.read_faults g.L.Link.write_faults c.loop-answered.link)
-          (link_view g.L.Link.left g.L.Link.taken g.L.Link.read_faults g.L.Link.write_faults c.write_full.new.link)
+          (link_in g.L.Link c.args.link.now)
+          (link_in g.L.Link c.loop-answered.link)
+          (link_in g.L.Link c.write_full.new.link)
           (g.K.Clock.second c.args.clock.now) c.loop-answered.answered c.loop-answered.session frame c.now-now.result e.asked answer c.answer-answer.new.self
           c.loop-answered.invariant.so_far one
           (record {
@@ -60,9 +60,9 @@ returns-in-Err-write_full g c =
     record { framed = c.in-Ok.ensures.frame; fits = omega (arith, length-take c.in-Ok.size c.read_frame.new.frame, c.in-Ok.ensures.size.0); exchanged = e.exchanged } in
     record {
       talked = talked_fault g.B.TreeObject.stands c.args.object.now c.loop-answered.object c.answer-answer.new.object
-          (link_view g.L.Link.left g.L.Link.taken g.L.Link.read_faults g.L.Link.write_faults c.args.link.now)
-          (link_view g.L.Link.left g.L.Link.taken g.L.Link.read_faults g.L.Link.write_faults c.loop-answered.link)
-          (link_view g.L.Link.left g.L.Link.taken g.L.Link.read_faults g.L.Link.write_faults c.write_full.new.link)
+          (link_in g.L.Link c.args.link.now)
+          (link_in g.L.Link c.loop-answered.link)
+          (link_in g.L.Link c.write_full.new.link)
           (g.K.Clock.second c.args.clock.now) c.loop-answered.answered c.loop-answered.session frame c.now-now.result e.asked answer p.0 c.answer-answer.new.self
           c.loop-answered.invariant.so_far c.loop-answered-test.true one p.1
           (record {
@@ -83,11 +83,11 @@ returns g c =
     let all : c.loop-answered.answered ≡ 2 ^ 32 = omega (arith, c.loop-answered.invariant.few, c.loop-answered-test.false) in
     record {
       talked = talked_limit g.B.TreeObject.stands c.args.object.now c.loop-answered.object
-          (link_view g.L.Link.left g.L.Link.taken g.L.Link.read_faults g.L.Link.write_faults c.args.link.now)
-          (link_view g.L.Link.left g.L.Link.taken g.L.Link.read_faults g.L.Link.write_faults c.loop-answered.link)
+          (link_in g.L.Link c.args.link.now)
+          (link_in g.L.Link c.loop-answered.link)
           (g.K.Clock.second c.args.clock.now) c.loop-answered.session
           (subst (λ (n : ℕ). SoFar g.B.TreeObject.stands c.args.object.now c.loop-answered.object
-          (link_view g.L.Link.left g.L.Link.taken g.L.Link.read_faults g.L.Link.write_faults c.args.link.now)
-          (link_view g.L.Link.left g.L.Link.taken g.L.Link.read_faults g.L.Link.write_faults c.loop-answered.link)
+          (link_in g.L.Link c.args.link.now)
+          (link_in g.L.Link c.loop-answered.link)
           (g.K.Clock.second c.args.clock.now) n c.loop-answered.session) all c.loop-answered.invariant.so_far);
     }

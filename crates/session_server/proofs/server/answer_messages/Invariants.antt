@@ -1,13 +1,13 @@
 use Rattle.std.proofs.Common.{◌-◌, ◌≤◌, ◌^◌}
-use Rattle.outside.specs.Views.{link_view}
-use Rattle.session_server.proofs.SoFar.{SoFar}
+use Rattle.outside.specs.Views.{link_in}
+use Rattle.session_server.proofs.TalkSoFar.{SoFar}
 use Rattle.session_server.proofs.server.answer_messages.Given as goal
 
 abbrev pub invariant-loop-answered : goal.invariant-loop-answered
 invariant-loop-answered g l = record {
   so_far : SoFar g.B.TreeObject.stands l.fn.object l.object
-      (link_view g.L.Link.left g.L.Link.taken g.L.Link.read_faults g.L.Link.write_faults l.fn.link)
-      (link_view g.L.Link.left g.L.Link.taken g.L.Link.read_faults g.L.Link.write_faults l.link)
+      (link_in g.L.Link l.fn.link)
+      (link_in g.L.Link l.link)
       (g.K.Clock.second l.fn.clock) l.answered l.session;
   few : l.answered ≤ 2 ^ 32;
 }

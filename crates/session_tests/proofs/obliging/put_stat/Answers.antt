@@ -1,27 +1,7 @@
-use Rattle.std.proofs.Common.{rules, ℕ, List, [], ◌∷◌, refl}
+use Rattle.std.proofs.Common.{rules, refl}
 use Rattle.std.proofs.lemmas.Str.{IsUtf8-from_ascii}
-use Rattle.tree_model.specs.Wire.{PlainStat}
+use Rattle.session_tests.proofs.Stats.{file_stat}
 use Rattle.session_tests.proofs.obliging.put_stat.Goals as goal
-
--- `vault`
-abbrev vault : List ℕ
-vault = 118 ∷ 97 ∷ 117 ∷ 108 ∷ 116 ∷ []
-
--- the stat of `a`
-abbrev file_stat : PlainStat
-file_stat = record {
-  kind = 0;
-  device = 0;
-  qid = record { kind = 0; version = 0; path = 1 };
-  mode = 420;
-  accessed = 100;
-  modified = 100;
-  length = 5;
-  name = 97 ∷ [];
-  owner = vault;
-  group = vault;
-  modifier = vault;
-}
 
 pub returns-clause-stat : goal.returns-clause-stat
 returns-clause-stat c = (

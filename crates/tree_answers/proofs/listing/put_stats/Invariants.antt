@@ -8,7 +8,7 @@ use Rattle.live_tree.specs.Held.{live_rows}
 use Rattle.tree_answers.specs.Answers.{AreSizes}
 use Rattle.tree_answers.proofs.listing.put_stats.Given as goal
 
--- whole stats were put, and those behind the last name come next
+-- whole stats were put, and those after the last name are next
 abbrev pub invariant-loop-number : goal.invariant-loop-number
 invariant-loop-number l = record {
   within : l.used ≤ length l.room;

@@ -1,5 +1,5 @@
 use Rattle.clear_tree.proofs.Keeping.{keeping_tells_rows}
-use Rattle.directory_scan.specs.Format.{sealing_of}
+use Rattle.tree_loading.specs.Format.{sealing_of}
 use Rattle.tree_loading.proofs.loading.loading_is_clear.Goals as goal
 
 pub returns : goal.returns

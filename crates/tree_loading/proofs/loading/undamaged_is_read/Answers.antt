@@ -1,4 +1,4 @@
-use Rattle.tree_loading.proofs.Reading.{undamaged_is_read}
+use Rattle.tree_loading.proofs.UndamagedReads.{undamaged_is_read}
 use Rattle.tree_loading.proofs.loading.undamaged_is_read.Goals as goal
 
 pub returns : goal.returns

@@ -1,7 +1,7 @@
 use Rattle.std.proofs.Common.{◌≡◌, List, ℕ, true, sym, ap, subst, ◌∙◌}
 use Rattle.outside.specs.Images.{disk_in}
 use Rattle.outside.proofs.Told.{told_always}
-use Rattle.directory_scan.specs.Format.{is_identifier}
+use Rattle.tree_loading.specs.Format.{is_identifier}
 use Rattle.tree_loading.specs.Under.{HasFolder}
 use Rattle.tree_loading.proofs.Settling.{claimed_now, settled_again, was_claimed, was_free, told_absent, told_present}
 use Rattle.tree_loading.proofs.naming.settle_text.Goals as goal

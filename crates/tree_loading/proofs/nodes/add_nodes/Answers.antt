@@ -3,7 +3,7 @@ use Rattle.std.specs.Vec.Iter.{into_iter_items}
 use Rattle.outside.specs.Calls.{Told}
 use Rattle.outside.specs.Images.{disk_in}
 use Rattle.outside.proofs.Told.{told_always}
-use Rattle.directory_scan.specs.Scanned.{all_found}
+use Rattle.tree_loading.specs.Scanned.{all_found}
 use Rattle.tree_loading.specs.Added.{AddsAll}
 use Rattle.tree_loading.proofs.Adding.{AreBehind, AreSorted, all_behind, adds_none, rest_behind, rest_sorted, pushed_before, pushed_folders, pushed_inside, longer, told_more, one_more, ends_later, nil_of, all_yielded, Rest}
 use Rattle.tree_loading.proofs.nodes.add_nodes.Goals as goal

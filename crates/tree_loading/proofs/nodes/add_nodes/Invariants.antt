@@ -2,13 +2,13 @@ use Rattle.std.proofs.Common.{◌≡◌, ◌≤◌, ◌+◌, ◌++◌, length}
 use Rattle.std.specs.Vec.Iter.{into_iter_items}
 use Rattle.outside.specs.Calls.{Told}
 use Rattle.outside.specs.Images.{disk_in}
-use Rattle.directory_scan.specs.Scanned.{all_found}
+use Rattle.tree_loading.specs.Scanned.{all_found}
 use Rattle.tree_loading.specs.Under.{HaveOwnFolders, EndsBefore, IsDirectoryAt}
 use Rattle.tree_loading.specs.Added.{AddsAll}
 use Rattle.tree_loading.proofs.Adding.{AreBehind, AreSorted}
 use Rattle.tree_loading.proofs.nodes.add_nodes.Given as goal
 
--- the nodes so far are added, and the names that are left stand behind them
+-- the nodes so far are added, and the names that are left follow them
 abbrev pub invariant-loop-name : goal.invariant-loop-name
 invariant-loop-name g l =
     record {

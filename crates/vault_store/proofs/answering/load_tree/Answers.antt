@@ -1,6 +1,6 @@
 use Rattle.std.proofs.Common.{◌≡◌, Err, Result, sym, ap, subst}
 use Rattle.std.specs.Result.{IsErrAnd}
-use Rattle.tree_loading.specs.declared.fault.LoadErr.{LoadErr}
+use Rattle.tree_loading.specs.declared.load_fault.LoadErr.{LoadErr}
 use Rattle.node_changes.specs.declared.tree.VaultTree.{VaultTree}
 use Rattle.vault_store.specs.declared.opening.OpenErr.{OpenErr}
 use Rattle.vault_store.specs.declared.opening.OpenErr.TheVariants as open_errs

@@ -4,13 +4,13 @@ use Rattle.std.proofs.lemmas.Result.{IfOk-weaker}
 use Rattle.outside_mem.specs.Links.{Links}
 use Rattle.outside_mem.specs.Streams.{Left}
 use Rattle.outside_mem.specs.Words.{Drawing}
-use Rattle.demo_objects.specs.Objects.{key_line}
+use Rattle.demonstration.specs.Objects.{key_line}
 use Rattle.masterkey_file.specs.Password.{line_of}
 use Rattle.vault_store.specs.Open.{ClosedVault}
-use Rattle.vault_unlock.specs.Secret.{raw_keys}
-use Rattle.vault_unlock.specs.declared.unlocking.SecretKind.TheVariants.{RawKeys}
-use Rattle.shared_sessions.specs.declared.workers.Worker.{Worker}
-use Rattle.vault_top.specs.Span.{course, source_view, span_of}
+use Rattle.unlocking.specs.Secret.{raw_keys}
+use Rattle.unlocking.specs.declared.from_folder.SecretKind.TheVariants.{RawKeys}
+use Rattle.shared_tree.specs.declared.workers.Worker.{Worker}
+use Rattle.vault_top.specs.Span.{course, source_in, span_of}
 use Rattle.vault_top.specs.Sessions.{IsServedWhole}
 use Rattle.vault_top.specs.Demonstrated.{HasHeld, own_views, worker_of}
 use Rattle.vault_top.specs.Serving.{SumsUpKept}
@@ -35,7 +35,7 @@ hold_sessions-kept-requires-clause-since g c κs within = record { all = λ star
 pub returns-in-Some : goal.returns-in-Some
 returns-in-Some g c = IfOk-weaker c.sum_up.result (SumsUpKept c.args.scripts c.in_ok-keys.keys c.in-Some.kept) _
     (λ left summed d are.
-    let secret = course (source_view (λ (s : Left). Some s.left) (λ (s : Left). s.plan.faults)) c.new-secret.result c.hold_sessions-kept.new.secret in
+    let secret = course (λ (s : Left). record { left = Some s.left; faults = s.plan.faults }) c.new-secret.result c.hold_sessions-kept.new.secret in
     let folder = c.in_ok-folder.folder in
     let kept = c.in-Some.kept in
     let workers = c.in_ok-workers.workers.items in

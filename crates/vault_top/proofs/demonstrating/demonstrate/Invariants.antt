@@ -1,6 +1,6 @@
 use Rattle.std.specs.Prelude.{Some}
-use Rattle.vault_unlock.specs.declared.unlocking.SecretKind.TheVariants.{RawKeys}
-use Rattle.demo_objects.specs.Objects.{folder_seen}
+use Rattle.unlocking.specs.declared.from_folder.SecretKind.TheVariants.{RawKeys}
+use Rattle.demonstration.specs.Objects.{folder_seen}
 use Rattle.vault_top.specs.Sharing.{Begins, IsBegun}
 use Rattle.vault_top.specs.Demonstrated.{own_views}
 use Rattle.vault_top.proofs.demonstrating.demonstrate.Given as goal

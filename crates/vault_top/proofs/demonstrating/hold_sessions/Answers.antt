@@ -1,28 +1,25 @@
 use Rattle.std.proofs.lemmas.Option.{IfSome_then}
-use Rattle.vault_top.specs.Span.{course, source_view, views_of}
+use Rattle.vault_top.specs.Span.{course, source_in, views_of}
 use Rattle.vault_top.proofs.Begun.{begun, begun_since}
 use Rattle.vault_top.proofs.Demonstrations.{served_whole}
 use Rattle.vault_top.proofs.demonstrating.hold_sessions.Goals as goal
 
 pub serve_workers-requires-clause-right : goal.serve_workers-requires-clause-right
 serve_workers-requires-clause-right g c κs within =
-    let views = views_of g.D.Reads.log g.D.Reads.faults g.D.Reads.changes g.N.Listener.to_come g.N.Listener.given_back g.N.Listener.faults
-    g.N.Conn.Link.left g.N.Conn.Link.taken g.N.Conn.Link.read_faults g.N.Conn.Link.write_faults g.E.Entropy.drawn g.E.Entropy.faults in
-    let secret = course (source_view g.S.Source.left g.S.Source.faults) c.args.secret.now c.open_vault.new.secret in
+    let views = views_of g.D.Reads g.N.Listener g.N.Conn.Link g.E.Entropy in
+    let secret = course (source_in g.S.Source) c.args.secret.now c.open_vault.new.secret in
     begun g.B.Start.is g.B.Since.since views c.args.service.kind c.args.folder c.args.workers.now.items secret (g.K.Clock.second c.args.clock.now) c.in-Ok.store
     c.requires.start c.requires.since c.in-Ok.ensures.opened
 
 pub serve_workers-requires-clause-since : goal.serve_workers-requires-clause-since
 serve_workers-requires-clause-since g c κs within =
-    let views = views_of g.D.Reads.log g.D.Reads.faults g.D.Reads.changes g.N.Listener.to_come g.N.Listener.given_back g.N.Listener.faults
-    g.N.Conn.Link.left g.N.Conn.Link.taken g.N.Conn.Link.read_faults g.N.Conn.Link.write_faults g.E.Entropy.drawn g.E.Entropy.faults in
+    let views = views_of g.D.Reads g.N.Listener g.N.Conn.Link g.E.Entropy in
     begun_since g.B.Start.is views c.args.folder c.args.workers.now.items c.requires.start
 
 pub returns-in-Ok : goal.returns-in-Ok
 returns-in-Ok g c =
-    let views = views_of g.D.Reads.log g.D.Reads.faults g.D.Reads.changes g.N.Listener.to_come g.N.Listener.given_back g.N.Listener.faults
-    g.N.Conn.Link.left g.N.Conn.Link.taken g.N.Conn.Link.read_faults g.N.Conn.Link.write_faults g.E.Entropy.drawn g.E.Entropy.faults in
-    let secret = course (source_view g.S.Source.left g.S.Source.faults) c.args.secret.now c.open_vault.new.secret in
+    let views = views_of g.D.Reads g.N.Listener g.N.Conn.Link g.E.Entropy in
+    let secret = course (source_in g.S.Source) c.args.secret.now c.open_vault.new.secret in
     let served = c.serve_workers.ensures.served in
     record {
       whole = IfSome_then c.kept_of.result c.kept_of.ensures (λ kept is words.

@@ -1,6 +1,6 @@
 use Rattle.std.proofs.Common.{◌≡◌, ◌∙◌, ◌++◌, ℕ, [], ◌∷◌, List, map, refl, ap}
-use Rattle.demo_work.specs.Summary.{plain_row, summary_line}
-use Rattle.demo_work.specs.declared.rows.DemoRow.{DemoRow}
+use Rattle.demonstration.specs.Summary.{plain_row, summary_line}
+use Rattle.demonstration.specs.declared.rows.DemoRow.{DemoRow}
 use Rattle.vault_top.proofs.demonstrating.sum_up.Goals as goal
 
 pub returns : goal.returns

@@ -3,7 +3,7 @@ use Rattle.std.specs.List.{range_with_len}
 use Rattle.std.proofs.lemmas.List.FromFn.{map-range_with_len_more}
 use Rattle.outside_mem.specs.Links.{Links}
 use Rattle.outside_mem.specs.Words.{Drawing}
-use Rattle.shared_sessions.specs.declared.workers.Worker.{Worker}
+use Rattle.shared_tree.specs.declared.workers.Worker.{Worker}
 use Rattle.vault_top.specs.Demonstrated.{worker_of}
 use Rattle.vault_top.proofs.demonstrating.workers_of.Goals as goal
 

@@ -1,10 +1,10 @@
 use Rattle.std.proofs.Common.{Option, subst, inr, arith}
 use Rattle.outside.specs.Calls.{Changes}
 use Rattle.outside.specs.Images.{Log}
-use Rattle.outside.specs.Views.{folder_view}
+use Rattle.outside.specs.Views.{folder_in}
 use Rattle.chunk_journal.specs.Opening.{StaysOpening}
-use Rattle.vault_keys.specs.Found.{unlocked_data}
-use Rattle.vault_top.specs.Span.{course, source_view, IsOnlyRead}
+use Rattle.unlocking.specs.Found.{unlocked_data}
+use Rattle.vault_top.specs.Span.{course, source_in, IsOnlyRead}
 use Rattle.vault_top.proofs.Opened.{closed_by, recovers}
 use Rattle.vault_top.proofs.opening.open_vault.Goals as goal
 
@@ -26,7 +26,7 @@ returns-in-Ok-open-clause-opened g c =
 
 pub returns-in-Err-open-clause-unopened : goal.returns-in-Err-open-clause-unopened
 returns-in-Err-open-clause-unopened g c =
-    let view = folder_view g.D.Reads.log g.D.Reads.faults g.D.Reads.changes in
+    let view = folder_in g.D.Reads in
     let looked = c.unlock.new.folder in
     let kept = c.in-Err-open.field-0.folder in
     let e = c.in-Ok.ensures in
@@ -40,7 +40,7 @@ returns-in-Err-open-clause-unopened g c =
         unlocked = record { gave = e.unlocked; line = e.line };
         error = c.in-Err-open.field-0.cause;
         is = c.cause_of.ensures;
-        closed = closed_by view (course (source_view g.S.Source.left g.S.Source.faults) c.args.secret.now c.unlock.new.secret) (g.K.Clock.second c.args.clock.now)
+        closed = closed_by view (course (source_in g.S.Source) c.args.secret.now c.unlock.new.secret) (g.K.Clock.second c.args.clock.now)
             c.args.folder looked kept vault c.in-Err-open.field-0.cause read (record {
               damaged = o.damaged;
               left = o.left;

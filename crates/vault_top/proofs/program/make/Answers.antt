@@ -1,5 +1,5 @@
 use Rattle.std.proofs.Common.{◌≤◌, length, refl, inr, arith}
-use Rattle.vault_top.specs.Span.{course, source_view, sink_view, views_of, given_of}
+use Rattle.vault_top.specs.Span.{course, source_in, sink_in, views_of, given_of}
 use Rattle.vault_top.specs.Making.{IsMade, IsNotMade}
 use Rattle.vault_top.specs.Ending.{refused, made}
 use Rattle.vault_top.proofs.Outcomes.{first_item}
@@ -9,10 +9,9 @@ use Rattle.vault_top.proofs.program.make.Goals.{in-Ok, in-Err+in-NotEmpty-1, in-
 
 pub returns : goal.returns
 returns g c = λ words dir second asked.
-    let views = views_of g.D.Reads.log g.D.Reads.faults g.D.Reads.changes g.N.Listener.to_come g.N.Listener.given_back g.N.Listener.faults
-    g.N.Conn.Link.left g.N.Conn.Link.taken g.N.Conn.Link.read_faults g.N.Conn.Link.write_faults g.E.Entropy.drawn g.E.Entropy.faults in
-    let secret = course (source_view g.S.Source.left g.S.Source.faults) c.args.secret.now c.make_vault-made.new.secret in
-    let sink = course (sink_view g.O.Sink.taken g.O.Sink.faults) c.args.out.now c.match-made.out in
+    let views = views_of g.D.Reads g.N.Listener g.N.Conn.Link g.E.Entropy in
+    let secret = course (source_in g.S.Source) c.args.secret.now c.make_vault-made.new.secret in
+    let sink = course (sink_in g.O.Sink) c.args.out.now c.match-made.out in
     let kept = c.make_vault-made.new.folder in
     let given = given_of views.folder secret second c.args.folder kept in
     let first = c.remove-listener.result in

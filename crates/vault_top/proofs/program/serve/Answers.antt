@@ -1,6 +1,6 @@
 use Rattle.std.proofs.Common.{refl, subst}
-use Rattle.vault_unlock.specs.declared.unlocking.SecretKind.{SecretKind}
-use Rattle.vault_top.specs.Span.{course, source_view, sink_view, views_of, given_of}
+use Rattle.unlocking.specs.declared.from_folder.SecretKind.{SecretKind}
+use Rattle.vault_top.specs.Span.{course, source_in, sink_in, views_of, given_of}
 use Rattle.vault_top.specs.Opening.{IsUnopened, IsUnlockedStore}
 use Rattle.vault_top.proofs.Begun.{begun, begun_since}
 use Rattle.vault_top.proofs.Reasons.{run_served, run_unserved}
@@ -8,39 +8,35 @@ use Rattle.vault_top.proofs.program.serve.Goals as goal
 
 pub serve_vault-requires-clause-right : goal.serve_vault-requires-clause-right
 serve_vault-requires-clause-right g c κs within =
-    let views = views_of g.D.Reads.log g.D.Reads.faults g.D.Reads.changes g.N.Listener.to_come g.N.Listener.given_back g.N.Listener.faults
-    g.N.Conn.Link.left g.N.Conn.Link.taken g.N.Conn.Link.read_faults g.N.Conn.Link.write_faults g.E.Entropy.drawn g.E.Entropy.faults in
-    let secret = course (source_view g.S.Source.left g.S.Source.faults) c.args.secret.now c.open_vault.new.secret in
+    let views = views_of g.D.Reads g.N.Listener g.N.Conn.Link g.E.Entropy in
+    let secret = course (source_in g.S.Source) c.args.secret.now c.open_vault.new.secret in
     begun g.B.Start.is g.B.Since.since views c.args.service.kind c.args.folder c.args.workers.now.items secret (g.K.Clock.second c.args.clock.now) c.in-Ok.store
     c.requires.start c.requires.since c.in-Ok.ensures.opened
 
 pub serve_vault-requires-clause-since : goal.serve_vault-requires-clause-since
 serve_vault-requires-clause-since g c κs within =
-    let views = views_of g.D.Reads.log g.D.Reads.faults g.D.Reads.changes g.N.Listener.to_come g.N.Listener.given_back g.N.Listener.faults
-    g.N.Conn.Link.left g.N.Conn.Link.taken g.N.Conn.Link.read_faults g.N.Conn.Link.write_faults g.E.Entropy.drawn g.E.Entropy.faults in
+    let views = views_of g.D.Reads g.N.Listener g.N.Conn.Link g.E.Entropy in
     begun_since g.B.Start.is views c.args.folder c.args.workers.now.items c.requires.start
 
 pub returns-in-Ok : goal.returns-in-Ok
 returns-in-Ok g c = λ words serving asked same.
-    let views = views_of g.D.Reads.log g.D.Reads.faults g.D.Reads.changes g.N.Listener.to_come g.N.Listener.given_back g.N.Listener.faults
-    g.N.Conn.Link.left g.N.Conn.Link.taken g.N.Conn.Link.read_faults g.N.Conn.Link.write_faults g.E.Entropy.drawn g.E.Entropy.faults in
-    let secret = course (source_view g.S.Source.left g.S.Source.faults) c.args.secret.now c.open_vault.new.secret in
+    let views = views_of g.D.Reads g.N.Listener g.N.Conn.Link g.E.Entropy in
+    let secret = course (source_in g.S.Source) c.args.secret.now c.open_vault.new.secret in
     let second = g.K.Clock.second c.args.clock.now in
     run_served g.B.Start.is g.B.Since.since views words secret second c.args.folder serving c.args.service c.in-Ok.store c.args.workers.now.items c.serve_vault.new.workers.items
-    (course (sink_view g.O.Sink.taken g.O.Sink.faults) c.args.out.now c.serve_vault.new.out) c.serve_vault.result asked same c.requires.start c.requires.since
+    (course (sink_in g.O.Sink) c.args.out.now c.serve_vault.new.out) c.serve_vault.result asked same c.requires.start c.requires.since
     (subst (λ (k : SecretKind). IsUnlockedStore views.folder (given_of views.folder secret second c.args.folder c.args.folder) k c.args.folder c.in-Ok.store) same.kind
     c.in-Ok.ensures.opened)
     c.serve_vault.ensures.served
 
 pub returns-in-Err : goal.returns-in-Err
 returns-in-Err g c = λ words serving asked same.
-    let views = views_of g.D.Reads.log g.D.Reads.faults g.D.Reads.changes g.N.Listener.to_come g.N.Listener.given_back g.N.Listener.faults
-    g.N.Conn.Link.left g.N.Conn.Link.taken g.N.Conn.Link.read_faults g.N.Conn.Link.write_faults g.E.Entropy.drawn g.E.Entropy.faults in
-    let secret = course (source_view g.S.Source.left g.S.Source.faults) c.args.secret.now c.open_vault.new.secret in
+    let views = views_of g.D.Reads g.N.Listener g.N.Conn.Link g.E.Entropy in
+    let secret = course (source_in g.S.Source) c.args.secret.now c.open_vault.new.secret in
     let second = g.K.Clock.second c.args.clock.now in
     let kept = c.in-Err.field-0.folder in
     let cause = c.in-Err.field-0.cause in
     run_unserved views words secret second c.args.folder kept serving c.args.workers.now.items
-    (course (sink_view g.O.Sink.taken g.O.Sink.faults) c.args.out.now c.refuse.new.out) _ cause asked refl refl
+    (course (sink_in g.O.Sink) c.args.out.now c.refuse.new.out) _ cause asked refl refl
     (subst (λ (k : SecretKind). IsUnopened (given_of views.folder secret second c.args.folder kept) k cause) same.kind c.in-Err.ensures.unopened)
     c.refuse.ensures

@@ -1,6 +1,6 @@
 use Rattle.std.proofs.Common.{◌≡◌, ℕ, [], length, min, Result, refl, sym, ap, subst, ◌∙◌, inr, arith}
 use Rattle.outside.specs.declared.stream.Failed.{Failed}
-use Rattle.outside.specs.Views.{folder_view}
+use Rattle.outside.specs.Views.{folder_in}
 use Rattle.vault_store.specs.Open.{OpenVault}
 use Rattle.vault_top.specs.Span.{views_of}
 use Rattle.vault_top.specs.Sharing.{IsSharedStore}
@@ -10,8 +10,7 @@ use Rattle.vault_top.proofs.serving.serve_workers.Goals as goal
 
 pub returns-in-Ok : goal.returns-in-Ok
 returns-in-Ok g c =
-    let views = views_of g.D.Reads.log g.D.Reads.faults g.D.Reads.changes g.N.Listener.to_come g.N.Listener.given_back g.N.Listener.faults
-    g.N.Conn.Link.left g.N.Conn.Link.taken g.N.Conn.Link.read_faults g.N.Conn.Link.write_faults g.E.Entropy.drawn g.E.Entropy.faults in
+    let views = views_of g.D.Reads g.N.Listener g.N.Conn.Link g.E.Entropy in
     let many : c.len.result ≡ length c.args.workers.now.items = (let len = c.len.ensures in let ok = c.args.workers.now.ok in omega arith) in
     let store = c.into_store.result in
     record {
@@ -27,7 +26,7 @@ returns-in-Ok g c =
 
 pub returns-in-Err : goal.returns-in-Err
 returns-in-Err g c =
-    let view = folder_view g.D.Reads.log g.D.Reads.faults g.D.Reads.changes in
+    let view = folder_in g.D.Reads in
     record {
       served = (
         [],

@@ -1,6 +1,6 @@
 use Rattle.std.proofs.Common.{◌≡◌, ◌+◌, List, ℕ, length, take, drop, ap, ◌∙◌, ◌++◌}
 use Rattle.std.proofs.lemmas.List.{take_at}
-use Rattle.content_changes.specs.Laws.{patched}
+use Rattle.content_laws.specs.Laws.{patched}
 use Rattle.content_writer.proofs.Patching.{patched_in}
 use Rattle.content_writer.proofs.plaintext.Plaintext.patch.Goals as goal
 

@@ -1,7 +1,7 @@
 use Rattle.std.proofs.Common.{◌≡◌, ◌+◌, max, length, arith}
 use Rattle.std.proofs.lemmas.Result.{err_from_is_err_and}
 use Rattle.outside.specs.Images.{disk_in}
-use Rattle.content_changes.specs.Rewriting.{sealed_size}
+use Rattle.content_laws.specs.Rewriting.{sealed_size}
 use Rattle.content_writer.specs.Sealing.{Writing, writing_of}
 use Rattle.content_writer.proofs.Puttable.{is_written, is_puttable, is_lost}
 use Rattle.content_writer.proofs.writer.ContentWriter.seal.Goals as goal

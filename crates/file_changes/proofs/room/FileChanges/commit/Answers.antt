@@ -1,5 +1,5 @@
 use Rattle.std.proofs.Common.{ap, ◌∙◌}
-use Rattle.content_deeds.specs.Deeds.{deeds_of}
+use Rattle.write_back.specs.Deeds.{deeds_of}
 use Rattle.content_writer.specs.Sealed.{chunks_of}
 use Rattle.file_chunks.specs.declared.size.TheConstants.{SEALED_LENGTH}
 use Rattle.file_changes.proofs.Putting.{same_rewriting, can_be_done}

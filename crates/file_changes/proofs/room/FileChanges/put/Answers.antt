@@ -3,8 +3,8 @@ use Rattle.outside.specs.Calls.{Told}
 use Rattle.outside.proofs.Told.{told_then}
 use Rattle.chunk_journal.specs.Journal.{IsQuiet}
 use Rattle.siv_mode.specs.Keys.{KeyPair}
-use Rattle.directory_scan.specs.Format.{sealing_of}
-use Rattle.content_changes.specs.Rewriting.{Rewriting, CanPutChunks}
+use Rattle.tree_loading.specs.Format.{sealing_of}
+use Rattle.content_laws.specs.Rewriting.{Rewriting, CanPutChunks}
 use Rattle.content_writer.specs.Sealed.{chunks_of}
 use Rattle.file_chunks.specs.declared.size.TheConstants.{SEALED_LENGTH}
 use Rattle.pending_files.specs.Pending.{HasRoom}

@@ -1,6 +1,6 @@
 use Rattle.std.proofs.Common.{arith}
 use Rattle.tree_model.specs.Contents.{resized}
-use Rattle.directory_scan.specs.Format.{sealing_of}
+use Rattle.tree_loading.specs.Format.{sealing_of}
 use Rattle.file_changes.proofs.Telling.{at_rest, told_file, content_changed, content_may_have_changed, content_may_have_rewritten, content_rewritten, content_refused, content_cause, request_cause}
 use Rattle.file_changes.proofs.room.FileChanges.resize.Goals as goal
 

@@ -3,7 +3,7 @@ use Rattle.std.specs.Option.{option_map}
 use Rattle.pending_files.specs.Laid.{laid_log}
 use Rattle.tree_model.specs.Rows.{Content}
 use Rattle.tree_model.specs.Contents.{resized}
-use Rattle.directory_scan.specs.Format.{sealing_of}
+use Rattle.tree_loading.specs.Format.{sealing_of}
 use Rattle.file_changes.specs.Waiting.{HasWritten, IsAtRestOver}
 use Rattle.file_changes.proofs.Telling.{never_early, content_refused, content_cause, request_cause}
 use Rattle.file_changes.proofs.Behind.{changed_since, kept_log, kept_waiting, not_flushed, put_of, sealed_still, stands_laid, told_still}

@@ -6,7 +6,7 @@ use Rattle.tree_model.specs.Contents.{written}
 use Rattle.tree_model.specs.Asked.{write, count}
 use Rattle.tree_model.specs.Step.{says}
 use Rattle.siv_mode.specs.Keys.{KeyPair}
-use Rattle.directory_scan.specs.Format.{sealing_of}
+use Rattle.tree_loading.specs.Format.{sealing_of}
 use Rattle.file_changes.specs.Waiting.{HasWritten, IsAtRestOver}
 use Rattle.file_changes.proofs.Telling.{never_early, content_refused, content_cause, request_cause}
 use Rattle.file_changes.proofs.Behind.{changed_since, kept_log, kept_waiting, not_flushed, put_of, sealed_still, stands_laid, told_still}

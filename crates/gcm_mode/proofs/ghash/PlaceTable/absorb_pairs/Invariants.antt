@@ -3,7 +3,7 @@ use Rattle.std.specs.Int.Bits.{bit_xor}
 use Rattle.gcm_mode.specs.Ghash.{hashed, product, zero_padded, IsHashed}
 use Rattle.gcm_mode.proofs.ghash.PlaceTable.absorb_pairs.Given as goal
 
--- the first 2 * i blocks of the padded text are hashed behind what was hashed before, in two sums
+-- the first 2 * i blocks of the padded text are hashed after what was hashed before, in two sums
 abbrev pub invariant-loop-i : goal.invariant-loop-i
 invariant-loop-i l =
     (front : List ℕ) → IsHashed l.self front l.fn.before

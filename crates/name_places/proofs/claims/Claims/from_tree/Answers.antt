@@ -1,5 +1,5 @@
 use Rattle.std.proofs.Common.{◌≡◌, ℕ, suc, ◌+◌, subst, arith}
-use Rattle.directory_scan.specs.Format.{sealing_of}
+use Rattle.tree_loading.specs.Format.{sealing_of}
 use Rattle.name_places.specs.Index.{AreClaimsBelow}
 use Rattle.name_places.proofs.Indexed.{claims_end}
 use Rattle.name_places.proofs.claims.Claims.from_tree.Goals as goal

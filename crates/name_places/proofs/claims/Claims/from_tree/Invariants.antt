@@ -1,4 +1,4 @@
-use Rattle.directory_scan.specs.Format.{sealing_of}
+use Rattle.tree_loading.specs.Format.{sealing_of}
 use Rattle.name_places.specs.Index.{AreClaimsBelow}
 use Rattle.name_places.proofs.claims.Claims.from_tree.Given as goal
 

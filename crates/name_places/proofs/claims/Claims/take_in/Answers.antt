@@ -1,5 +1,5 @@
 use Rattle.std.proofs.Common.{suc, refl, sym}
-use Rattle.directory_scan.specs.Format.{sealing_of}
+use Rattle.tree_loading.specs.Format.{sealing_of}
 use Rattle.name_places.proofs.Indexed.{below_none, below_put}
 use Rattle.name_places.proofs.claims.Claims.take_in.Goals as goal
 

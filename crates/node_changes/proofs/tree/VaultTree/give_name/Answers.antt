@@ -2,7 +2,7 @@ use Rattle.std.proofs.lemmas.Result.{err_from_is_err_and}
 use Rattle.outside.specs.Images.{disk_in}
 use Rattle.outside.proofs.Told.{told_then, told_always}
 use Rattle.deeds.specs.Plain.{plains}
-use Rattle.directory_scan.specs.Format.{sealing_of}
+use Rattle.tree_loading.specs.Format.{sealing_of}
 use Rattle.node_changes.proofs.Named.{name_refused, memory_refused, place_refused, deeds_refused, can_be_given}
 use Rattle.node_changes.proofs.tree.VaultTree.give_name.Goals as goal
 

@@ -7,7 +7,7 @@ use Rattle.deeds.specs.Plain.{plains}
 use Rattle.tree_model.specs.declared.refusal.Refusal.TheVariants as refusals
 use Rattle.tree_model.specs.Asked.{create, qid}
 use Rattle.tree_model.specs.Step.{says}
-use Rattle.directory_scan.specs.Format.{sealing_of}
+use Rattle.tree_loading.specs.Format.{sealing_of}
 use Rattle.name_places.specs.declared.directory.NewDirectory.{NewDirectory}
 use Rattle.name_places.specs.Asked.{IsTaken}
 use Rattle.name_places.specs.Asked.{identifier_in as drawn_in}

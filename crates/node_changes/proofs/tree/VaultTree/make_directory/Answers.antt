@@ -2,7 +2,7 @@ use Rattle.std.proofs.Common.{List, ℕ, ap, ap₂, ◌∙◌}
 use Rattle.clear_tree.specs.Kept.{KeptDir}
 use Rattle.deeds.specs.Plain.{plains}
 use Rattle.live_tree.specs.Changes.{added, new_node}
-use Rattle.tree_changes.specs.Deeds.{create_dir_deeds}
+use Rattle.tree_deed_laws.specs.Deeds.{create_dir_deeds}
 use Rattle.node_changes.specs.declared.tree.VaultTree.{VaultTree}
 use Rattle.node_changes.proofs.Makings.{directory_makes, place_by, takes_back, took_nothing}
 use Rattle.node_changes.proofs.tree.VaultTree.make_directory.Goals as goal

@@ -1,5 +1,5 @@
 use Rattle.std.proofs.Common.{List, ℕ, ap, ap₂, ◌∙◌}
-use Rattle.tree_changes.specs.Deeds.{create_file_deeds}
+use Rattle.tree_deed_laws.specs.Deeds.{create_file_deeds}
 use Rattle.deeds.specs.Plain.{plains}
 use Rattle.node_changes.proofs.Makings.{file_makes, place_by}
 use Rattle.node_changes.proofs.tree.VaultTree.make_file.Goals as goal

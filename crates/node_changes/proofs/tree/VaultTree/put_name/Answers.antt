@@ -1,6 +1,6 @@
 use Rattle.std.proofs.Common.{◌≡◌, ◌≢◌, refl, subst, arith}
 use Rattle.live_tree.specs.Held.{HeldNode, IsFree}
-use Rattle.held_changes.proofs.Paths.{one_held}
+use Rattle.live_tree_laws.proofs.Paths.{one_held}
 use Rattle.node_changes.proofs.Rows.{rows_named, rows_named_dated}
 use Rattle.node_changes.proofs.tree.VaultTree.put_name.Goals as goal
 use Rattle.node_changes.proofs.tree.VaultTree.put_name.Goals.{in-Some, in_default}

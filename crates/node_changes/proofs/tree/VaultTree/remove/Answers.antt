@@ -3,7 +3,7 @@ use Rattle.deeds.specs.Plain.{plains}
 use Rattle.deeds.specs.declared.deed.Deed.{Deed}
 use Rattle.tree_model.specs.Asked.{remove, done}
 use Rattle.tree_model.specs.Step.{says}
-use Rattle.directory_scan.specs.Format.{sealing_of}
+use Rattle.tree_loading.specs.Format.{sealing_of}
 use Rattle.node_changes.specs.Changed.{LeadsOn}
 use Rattle.node_changes.proofs.Committing.{can_be_done, has_changed, may_have_changed, told_makes, told_answer}
 use Rattle.node_changes.proofs.tree.VaultTree.remove.Goals as goal

@@ -1,5 +1,5 @@
 use Rattle.deeds.specs.Plain.{plains}
-use Rattle.directory_scan.specs.Format.{sealing_of}
+use Rattle.tree_loading.specs.Format.{sealing_of}
 use Rattle.node_changes.proofs.Named.{told_given, told_can, has_renamed, may_have_renamed, told_refused}
 use Rattle.node_changes.proofs.tree.VaultTree.rename.Goals as goal
 

@@ -2,7 +2,7 @@ use Rattle.std.proofs.Common.{◌≡◌, ℕ, List, Ok, sym, ap, ◌∙◌, subs
 use Rattle.std.specs.Option.{option_copied}
 use Rattle.name_places.specs.New.{IsNewPlace}
 use Rattle.tree_model.specs.Names.{clear_name}
-use Rattle.directory_scan.specs.Format.{sealing_of}
+use Rattle.tree_loading.specs.Format.{sealing_of}
 use Rattle.live_tree.specs.Held.{IsFree, IsNamed}
 use Rattle.node_changes.specs.Placed.{identifier_in}
 use Rattle.node_changes.specs.Creating.{IsSiteRefusal}

@@ -1,7 +1,7 @@
 use Rattle.std.proofs.Common.{subst}
 use Rattle.std.proofs.lemmas.Result.{err_from_is_err_and}
 use Rattle.deeds.specs.Plain.{plains}
-use Rattle.directory_scan.specs.Format.{sealing_of}
+use Rattle.tree_loading.specs.Format.{sealing_of}
 use Rattle.node_changes.specs.Removal.{IsRemovalRefusal}
 use Rattle.node_changes.proofs.Refusing.{is_there, is_below_root, is_childless}
 use Rattle.node_changes.proofs.Removals.{refused_by, deeds_refused, removed_leads}

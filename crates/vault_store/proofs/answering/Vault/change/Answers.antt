@@ -1,14 +1,14 @@
 use Rattle.std.proofs.Common.{◌≡◌, [], true, None, IsSome, refl, ap, subst, sym, ◌∙◌}
 use Rattle.std.proofs.lemmas.Result.{err_from_is_err_and}
-use Rattle.outside.specs.Views.{entropy_view, folder_view}
+use Rattle.outside.specs.Views.{entropy_in, folder_in}
 use Rattle.siv_mode.specs.Keys.{KeyPair}
-use Rattle.directory_scan.specs.Format.{sealing_of}
+use Rattle.tree_loading.specs.Format.{sealing_of}
 use Rattle.tree_model.specs.declared.refusal.Refusal.TheVariants as refusals
 use Rattle.tree_model.specs.declared.refusal.Refusal.{Refusal}
 use Rattle.tree_model.specs.Asked.{change, plain_change}
 use Rattle.live_tree.specs.Held.{HeldTree, node_of}
 use Rattle.tree_answers.specs.Answers.{is_own}
-use Rattle.change_plans.specs.Plans.{CanResize, IsPlanned, IsRefused}
+use Rattle.request_checks.specs.Plans.{CanResize, IsPlanned, IsRefused}
 use Rattle.node_changes.specs.declared.tree.VaultTree.{VaultTree}
 use Rattle.vault_store.specs.Open.{view_of}
 use Rattle.vault_store.specs.Sizes.{SizesAreHeld}
@@ -22,8 +22,8 @@ pub returns-in-Ok-Err-clause-outcome : goal.returns-in-Ok-Err-clause-outcome
 returns-in-Ok-Err-clause-outcome g c = λ entries buffer.
     let tree = c.args.self.now.tree in
     let back = c.args.self.now.back in
-    let source = entropy_view g.E.Entropy.drawn g.E.Entropy.faults c.args.entropy.now in
-    let folder = folder_view g.D.Reads.log g.D.Reads.faults g.D.Reads.changes back.folder in
+    let source = entropy_in g.E.Entropy c.args.entropy.now in
+    let folder = folder_in g.D.Reads back.folder in
     let asked = plain_change c.args.change.now in
     let store = view_of tree back.waiting entries None in
     let sizes = subst (λ (k : KeyPair). SizesAreHeld (sealing_of k)) c.keys.ensures c.have_sizes.ensures in
@@ -37,8 +37,8 @@ pub returns-in-Err-clause-outcome : goal.returns-in-Err-clause-outcome
 returns-in-Err-clause-outcome g c = λ entries buffer.
     let tree = c.args.self.now.tree in
     let back = c.args.self.now.back in
-    let source = entropy_view g.E.Entropy.drawn g.E.Entropy.faults c.args.entropy.now in
-    let folder = folder_view g.D.Reads.log g.D.Reads.faults g.D.Reads.changes back.folder in
+    let source = entropy_in g.E.Entropy c.args.entropy.now in
+    let folder = folder_in g.D.Reads back.folder in
     let asked = plain_change c.args.change.now in
     let store = view_of tree back.waiting entries None in
     refused_outcome store store folder folder source source (change c.args.number asked) c.args.now (rest_waits (sealing_of tree.keys) tree.live tree.claims back.waiting folder.log c.requires.rest) refusals.OutOfMemory buffer
@@ -62,11 +62,11 @@ pub returns-clause-outcome : goal.returns-clause-outcome
 returns-clause-outcome g c = λ entries buffer.
     let tree = c.args.self.now.tree in
     let back = c.args.self.now.back in
-    let before = folder_view g.D.Reads.log g.D.Reads.faults g.D.Reads.changes back.folder in
-    let amid = folder_view g.D.Reads.log g.D.Reads.faults g.D.Reads.changes c.flush.new.self.back.folder in
-    let after = folder_view g.D.Reads.log g.D.Reads.faults g.D.Reads.changes c.change_idle.new.self.back.folder in
-    let source = entropy_view g.E.Entropy.drawn g.E.Entropy.faults c.args.entropy.now in
-    let source' = entropy_view g.E.Entropy.drawn g.E.Entropy.faults c.change_idle.new.entropy in
+    let before = folder_in g.D.Reads back.folder in
+    let amid = folder_in g.D.Reads c.flush.new.self.back.folder in
+    let after = folder_in g.D.Reads c.change_idle.new.self.back.folder in
+    let source = entropy_in g.E.Entropy c.args.entropy.now in
+    let source' = entropy_in g.E.Entropy c.change_idle.new.entropy in
     let asked = plain_change c.args.change.now in
     let planned = subst (λ (l : HeldTree). IsPlanned l c.args.number asked c.in-Ok-Ok.plan) (c.live.ensures ∙ ap (λ (t : VaultTree). t.live) (sym c.in_ok-flush.ensures.tree))
     (plan_at (IsPlanned c.live.result.now c.args.number asked) c.in-Ok-Ok.field-0 c.in-Ok-Ok.plan c.in-Ok-Ok.plan c.in-Ok-Ok.field-0-is refl c.in-Ok-Ok.ensures.planned) in
@@ -75,12 +75,12 @@ returns-clause-outcome g c = λ entries buffer.
 
 pub returns-clause-rest : goal.returns-clause-rest
 returns-clause-rest g c =
-    let amid = folder_view g.D.Reads.log g.D.Reads.faults g.D.Reads.changes c.flush.new.self.back.folder in
-    let after = folder_view g.D.Reads.log g.D.Reads.faults g.D.Reads.changes c.change_idle.new.self.back.folder in
+    let amid = folder_in g.D.Reads c.flush.new.self.back.folder in
+    let after = folder_in g.D.Reads c.change_idle.new.self.back.folder in
     let was = c.flush.new.self.tree in
     let new = c.change_idle.new.self in
-    let source = entropy_view g.E.Entropy.drawn g.E.Entropy.faults c.args.entropy.now in
-    let source' = entropy_view g.E.Entropy.drawn g.E.Entropy.faults c.change_idle.new.entropy in
+    let source = entropy_in g.E.Entropy c.args.entropy.now in
+    let source' = entropy_in g.E.Entropy c.change_idle.new.entropy in
     let asked = plain_change c.args.change.now in
     let planned = subst (λ (l : HeldTree). IsPlanned l c.args.number asked c.in-Ok-Ok.plan) (c.live.ensures ∙ ap (λ (t : VaultTree). t.live) (sym c.in_ok-flush.ensures.tree))
     (plan_at (IsPlanned c.live.result.now c.args.number asked) c.in-Ok-Ok.field-0 c.in-Ok-Ok.plan c.in-Ok-Ok.plan c.in-Ok-Ok.field-0-is refl c.in-Ok-Ok.ensures.planned) in
@@ -91,9 +91,9 @@ pub returns-in_err-flush-clause-outcome : goal.returns-in_err-flush-clause-outco
 returns-in_err-flush-clause-outcome g c = λ entries buffer.
     let tree = c.args.self.now.tree in
     let back = c.args.self.now.back in
-    let before = folder_view g.D.Reads.log g.D.Reads.faults g.D.Reads.changes back.folder in
-    let after = folder_view g.D.Reads.log g.D.Reads.faults g.D.Reads.changes c.flush.new.self.back.folder in
-    let source = entropy_view g.E.Entropy.drawn g.E.Entropy.faults c.args.entropy.now in
+    let before = folder_in g.D.Reads back.folder in
+    let after = folder_in g.D.Reads c.flush.new.self.back.folder in
+    let source = entropy_in g.E.Entropy c.args.entropy.now in
     let asked = plain_change c.args.change.now in
     let sizes = subst (λ (k : KeyPair). SizesAreHeld (sealing_of k)) c.keys.ensures c.have_sizes.ensures in
     let planned = subst (λ (l : HeldTree). IsPlanned l c.args.number asked c.in-Ok-Ok.plan) c.live.ensures

@@ -2,18 +2,18 @@ use Rattle.std.proofs.Common.{◌≡◌, ℕ, [], true, Option, None, Ok, refl, 
 use Rattle.outside.specs.Calls.{Rose}
 use Rattle.outside.specs.Disk.{Path as HostPath}
 use Rattle.outside.specs.Images.{disk_in}
-use Rattle.outside.specs.Views.{entropy_view, folder_view}
+use Rattle.outside.specs.Views.{entropy_in, folder_in}
 use Rattle.outside.proofs.Told.{told_always}
 use Rattle.siv_mode.specs.Keys.{KeyPair}
-use Rattle.directory_scan.specs.Format.{sealing_of}
+use Rattle.tree_loading.specs.Format.{sealing_of}
 use Rattle.tree_model.specs.declared.reply.Reply.TheVariants as replies
 use Rattle.tree_model.specs.declared.refusal.Refusal.TheVariants as refusals
 use Rattle.tree_model.specs.Rows.{Content}
 use Rattle.tree_model.specs.Asked.{change}
-use Rattle.tree_history.specs.History.{places}
+use Rattle.tree_model.specs.History.{places}
 use Rattle.live_tree.specs.Held.{live_rows}
-use Rattle.change_plans.specs.Plans.{CanResize, IsPlanned}
-use Rattle.change_plans.specs.declared.planning.Plan.{Plan}
+use Rattle.request_checks.specs.Plans.{CanResize, IsPlanned}
+use Rattle.request_checks.specs.declared.planning.Plan.{Plan}
 use Rattle.node_changes.specs.Changed.{StandsOn}
 use Rattle.node_changes.specs.Renaming.{IsRenaming}
 use Rattle.vault_store.specs.Dated.{IsDated}
@@ -27,9 +27,9 @@ use Rattle.vault_store.proofs.answering.Vault.change_idle.Goals as goal
 
 pub returns-in-Ok-clause-outcome : goal.returns-in-Ok-clause-outcome
 returns-in-Ok-clause-outcome g c = λ entries buffer asked same plan.
-    let source = entropy_view g.E.Entropy.drawn g.E.Entropy.faults c.args.entropy.now in
-    let folder = folder_view g.D.Reads.log g.D.Reads.faults g.D.Reads.changes c.journal.result.now in
-    let after = folder_view g.D.Reads.log g.D.Reads.faults g.D.Reads.changes c.rename.new.journal in
+    let source = entropy_in g.E.Entropy c.args.entropy.now in
+    let folder = folder_in g.D.Reads c.journal.result.now in
+    let after = folder_in g.D.Reads c.rename.new.journal in
     let tree = c.args.self.now.tree in
     let new = c.rename.new.self in
     let sizes = subst (λ (k : KeyPair). SizesAreHeld (sealing_of k)) c.keys.ensures c.have_sizes.ensures in
@@ -37,7 +37,7 @@ returns-in-Ok-clause-outcome g c = λ entries buffer asked same plan.
     let renaming = subst (λ (m : Option ℕ). IsRenaming (sealing_of tree.keys) tree.live tree.claims c.args.number c.in-Rename.name m asked) same
     (is_renaming tree.keys tree.live tree.claims c.args.number asked sizes c.in-Rename.name planned) in
     let changed = c.in-Ok.ensures.changed asked renaming in
-    subst (λ (d : g.row.D.Denot). IsWork (view_of tree [] entries None) (view_of new [] entries None) (folder_view g.D.Reads.log g.D.Reads.faults g.D.Reads.changes d) after source source (change c.args.number asked) c.args.now (Ok replies.Done) buffer buffer) c.journal.ensures.journal
+    subst (λ (d : g.row.D.Denot). IsWork (view_of tree [] entries None) (view_of new [] entries None) (folder_in g.D.Reads d) after source source (change c.args.number asked) c.args.now (Ok replies.Done) buffer buffer) c.journal.ensures.journal
     (changed_reply tree.keys new.keys tree.live new.live tree.claims new.claims entries folder after source source (change c.args.number asked) c.args.now
     None replies.Done buffer (come_undrawn tree.keys new.keys folder after source (change c.args.number asked) c.in-Ok.ensures.keys c.in-Ok.ensures.later)
     refl refl tt (record { form = tt; count = tt; enters = refl; rest = refl }) refl
@@ -46,16 +46,16 @@ returns-in-Ok-clause-outcome g c = λ entries buffer asked same plan.
 
 pub returns-in-Err-clause-outcome : goal.returns-in-Err-clause-outcome
 returns-in-Err-clause-outcome g c = λ entries buffer asked same plan.
-    let source = entropy_view g.E.Entropy.drawn g.E.Entropy.faults c.args.entropy.now in
-    let folder = folder_view g.D.Reads.log g.D.Reads.faults g.D.Reads.changes c.journal.result.now in
-    let after = folder_view g.D.Reads.log g.D.Reads.faults g.D.Reads.changes c.rename.new.journal in
+    let source = entropy_in g.E.Entropy c.args.entropy.now in
+    let folder = folder_in g.D.Reads c.journal.result.now in
+    let after = folder_in g.D.Reads c.rename.new.journal in
     let tree = c.args.self.now.tree in
     let new = c.rename.new.self in
     let sizes = subst (λ (k : KeyPair). SizesAreHeld (sealing_of k)) c.keys.ensures c.have_sizes.ensures in
     let planned = subst (λ (p : Plan). IsPlanned tree.live c.args.number asked p) c.in-Rename.is plan in
     let renaming = subst (λ (m : Option ℕ). IsRenaming (sealing_of tree.keys) tree.live tree.claims c.args.number c.in-Rename.name m asked) same
     (is_renaming tree.keys tree.live tree.claims c.args.number asked sizes c.in-Rename.name planned) in
-    subst (λ (d : g.row.D.Denot). IsWork (view_of tree [] entries None) (view_of new [] entries None) (folder_view g.D.Reads.log g.D.Reads.faults g.D.Reads.changes d) after source source (change c.args.number asked) c.args.now c.refused.result buffer buffer) c.journal.ensures.journal
+    subst (λ (d : g.row.D.Denot). IsWork (view_of tree [] entries None) (view_of new [] entries None) (folder_in g.D.Reads d) after source source (change c.args.number asked) c.args.now c.refused.result buffer buffer) c.journal.ensures.journal
     (change_err tree.keys new.keys tree.live new.live tree.claims new.claims entries folder after source source (change c.args.number asked) c.args.now
     None c.in-Err.error c.refused.result buffer c.refused.ensures.refused c.refused.ensures.broken
     (come_undrawn tree.keys new.keys folder after source (change c.args.number asked) c.in-Err.ensures.keys c.in-Err.ensures.later)
@@ -69,8 +69,8 @@ returns-in-Err-clause-outcome g c = λ entries buffer asked same plan.
 
 pub returns-in-Date-clause-outcome : goal.returns-in-Date-clause-outcome
 returns-in-Date-clause-outcome g c = λ entries buffer asked same plan.
-    let source = entropy_view g.E.Entropy.drawn g.E.Entropy.faults c.args.entropy.now in
-    let folder = folder_view g.D.Reads.log g.D.Reads.faults g.D.Reads.changes c.args.self.now.back.folder in
+    let source = entropy_in g.E.Entropy c.args.entropy.now in
+    let folder = folder_in g.D.Reads c.args.self.now.back.folder in
     let tree = c.args.self.now.tree in
     let new = c.set_mtime.new.tree in
     let sizes = subst (λ (k : KeyPair). SizesAreHeld (sealing_of k)) c.keys.ensures c.have_sizes.ensures in

@@ -1,10 +1,10 @@
 use Rattle.std.proofs.Common.{[], Some, None, is_some, refl, ap, subst, arith}
 use Rattle.std.proofs.lemmas.Result.{err_from_is_err_and}
-use Rattle.outside.specs.Views.{entropy_view, folder_view}
-use Rattle.directory_scan.specs.Format.{sealing_of}
+use Rattle.outside.specs.Views.{entropy_in, folder_in}
+use Rattle.tree_loading.specs.Format.{sealing_of}
 use Rattle.tree_model.specs.Asked.{create}
 use Rattle.live_tree.specs.Held.{HeldTree, live_rows}
-use Rattle.change_plans.specs.Plans.{IsCreationRefusal}
+use Rattle.request_checks.specs.Plans.{IsCreationRefusal}
 use Rattle.node_changes.proofs.Committing.{early_step}
 use Rattle.vault_store.specs.Open.{view_of}
 use Rattle.vault_store.proofs.ContentTurns.{own_reply}
@@ -18,8 +18,8 @@ pub returns-in-Some-clause-outcome : goal.returns-in-Some-clause-outcome
 returns-in-Some-clause-outcome g c = λ entries mode buffer.
     let tree = c.args.self.now.tree in
     let back = c.args.self.now.back in
-    let folder = folder_view g.D.Reads.log g.D.Reads.faults g.D.Reads.changes back.folder in
-    let source = entropy_view g.E.Entropy.drawn g.E.Entropy.faults c.args.entropy.now in
+    let folder = folder_in g.D.Reads back.folder in
+    let source = entropy_in g.E.Entropy c.args.entropy.now in
     let request = create c.args.parent c.args.name.now c.args.is_dir mode in
     let store = view_of tree back.waiting entries None in
     refused_outcome store store folder folder source source request c.args.now (rest_waits (sealing_of tree.keys) tree.live tree.claims back.waiting folder.log c.requires.rest) c.in-Some.refusal buffer
@@ -32,22 +32,22 @@ pub returns-clause-outcome : goal.returns-clause-outcome
 returns-clause-outcome g c = λ entries mode buffer.
     let tree = c.args.self.now.tree in
     let back = c.args.self.now.back in
-    let before = folder_view g.D.Reads.log g.D.Reads.faults g.D.Reads.changes back.folder in
-    let amid = folder_view g.D.Reads.log g.D.Reads.faults g.D.Reads.changes c.flush.new.self.back.folder in
-    let after = folder_view g.D.Reads.log g.D.Reads.faults g.D.Reads.changes c.create_idle.new.self.back.folder in
-    let source = entropy_view g.E.Entropy.drawn g.E.Entropy.faults c.args.entropy.now in
-    let source' = entropy_view g.E.Entropy.drawn g.E.Entropy.faults c.create_idle.new.entropy in
+    let before = folder_in g.D.Reads back.folder in
+    let amid = folder_in g.D.Reads c.flush.new.self.back.folder in
+    let after = folder_in g.D.Reads c.create_idle.new.self.back.folder in
+    let source = entropy_in g.E.Entropy c.args.entropy.now in
+    let source' = entropy_in g.E.Entropy c.create_idle.new.entropy in
     after_flush (view_of tree back.waiting entries None) c.flush.new.self.tree c.create_idle.new.self.tree c.create_idle.new.self.back.waiting entries before amid after source source' (create c.args.parent c.args.name.now c.args.is_dir mode) c.args.now
     c.create_idle.result buffer buffer c.create_idle.ensures.idle (c.in_ok-flush.ensures.flushed entries) (c.create_idle.ensures.outcome entries mode buffer)
 
 pub returns-clause-rest : goal.returns-clause-rest
 returns-clause-rest g c =
-    let amid = folder_view g.D.Reads.log g.D.Reads.faults g.D.Reads.changes c.flush.new.self.back.folder in
-    let after = folder_view g.D.Reads.log g.D.Reads.faults g.D.Reads.changes c.create_idle.new.self.back.folder in
+    let amid = folder_in g.D.Reads c.flush.new.self.back.folder in
+    let after = folder_in g.D.Reads c.create_idle.new.self.back.folder in
     let was = c.flush.new.self.tree in
     let new = c.create_idle.new.self in
-    let source = entropy_view g.E.Entropy.drawn g.E.Entropy.faults c.args.entropy.now in
-    let source' = entropy_view g.E.Entropy.drawn g.E.Entropy.faults c.create_idle.new.entropy in
+    let source = entropy_in g.E.Entropy c.args.entropy.now in
+    let source' = entropy_in g.E.Entropy c.create_idle.new.entropy in
     rests was.keys new.tree.keys was.live new.tree.live was.claims new.tree.claims 0 amid after source source' (create c.args.parent c.args.name.now c.args.is_dir 0) c.args.now c.create_idle.result [] [] new.back.waiting
     c.create_idle.ensures.keys c.create_idle.ensures.idle c.in_ok-flush.ensures.rest (c.create_idle.ensures.outcome 0 0 [])
 
@@ -55,9 +55,9 @@ pub returns-in_err-flush-clause-outcome : goal.returns-in_err-flush-clause-outco
 returns-in_err-flush-clause-outcome g c = λ entries mode buffer.
     let tree = c.args.self.now.tree in
     let back = c.args.self.now.back in
-    let before = folder_view g.D.Reads.log g.D.Reads.faults g.D.Reads.changes back.folder in
-    let after = folder_view g.D.Reads.log g.D.Reads.faults g.D.Reads.changes c.flush.new.self.back.folder in
-    let source = entropy_view g.E.Entropy.drawn g.E.Entropy.faults c.args.entropy.now in
+    let before = folder_in g.D.Reads back.folder in
+    let after = folder_in g.D.Reads c.flush.new.self.back.folder in
+    let source = entropy_in g.E.Entropy c.args.entropy.now in
     let p = err_from_is_err_and c.from_residual.result c.from_residual.ensures.1 in
     rw p.1 (
     flush_failed tree c.flush.new.self.tree back.waiting c.flush.new.self.back.waiting entries before after source (create c.args.parent c.args.name.now c.args.is_dir mode) c.args.now p.0 buffer c.in_err-flush.ensures.tree

@@ -1,5 +1,5 @@
 use Rattle.std.proofs.Common.{refl, [], None, Ok, subst}
-use Rattle.outside.specs.Views.{entropy_view, folder_view}
+use Rattle.outside.specs.Views.{entropy_in, folder_in}
 use Rattle.tree_model.specs.declared.reply.Reply.TheVariants as replies
 use Rattle.tree_model.specs.Asked.{create, done, qid}
 use Rattle.tree_model.specs.Step.{says}
@@ -10,13 +10,13 @@ use Rattle.vault_store.proofs.answering.Vault.create_idle.Goals as goal
 
 pub returns-in-Ok-clause-outcome : goal.returns-in-Ok-clause-outcome
 returns-in-Ok-clause-outcome g c = λ entries mode buffer.
-    let before = folder_view g.D.Reads.log g.D.Reads.faults g.D.Reads.changes c.journal.result.now in
-    let after = folder_view g.D.Reads.log g.D.Reads.faults g.D.Reads.changes c.create.new.journal in
-    let source = entropy_view g.E.Entropy.drawn g.E.Entropy.faults c.args.entropy.now in
-    let source' = entropy_view g.E.Entropy.drawn g.E.Entropy.faults c.create.new.entropy in
+    let before = folder_in g.D.Reads c.journal.result.now in
+    let after = folder_in g.D.Reads c.create.new.journal in
+    let source = entropy_in g.E.Entropy c.args.entropy.now in
+    let source' = entropy_in g.E.Entropy c.create.new.entropy in
     let request = create c.args.parent c.args.name.now c.args.is_dir mode in
     let came = c.in-Ok.ensures.came mode in
-    subst (λ (d : g.row.D.Denot). IsWork (view_of c.args.self.now.tree [] entries None) (view_of c.create.new.self [] entries None) (folder_view g.D.Reads.log g.D.Reads.faults g.D.Reads.changes d) after source source' request c.args.now (Ok (replies.Qid c.in-Ok.qid)) buffer buffer) c.journal.ensures.journal
+    subst (λ (d : g.row.D.Denot). IsWork (view_of c.args.self.now.tree [] entries None) (view_of c.create.new.self [] entries None) (folder_in g.D.Reads d) after source source' request c.args.now (Ok (replies.Qid c.in-Ok.qid)) buffer buffer) c.journal.ensures.journal
     (changed_reply c.args.self.now.tree.keys c.create.new.self.keys c.args.self.now.tree.live c.create.new.self.live c.args.self.now.tree.claims c.create.new.self.claims entries before after source source' request c.args.now
     came.drawn (replies.Qid c.in-Ok.qid) buffer
     (record { keys_are = c.in-Ok.ensures.keys; folder = c.in-Ok.ensures.later; entropy = c.in-Ok.ensures.entropy; may_draw = came.draw.directory; drawn_is = draws c.args.is_dir came.drawn source.drawn source'.drawn came.draw; unspent = came.draw.unspent })
@@ -26,13 +26,13 @@ returns-in-Ok-clause-outcome g c = λ entries mode buffer.
 
 pub returns-in-Err-clause-outcome : goal.returns-in-Err-clause-outcome
 returns-in-Err-clause-outcome g c = λ entries mode buffer.
-    let before = folder_view g.D.Reads.log g.D.Reads.faults g.D.Reads.changes c.journal.result.now in
-    let after = folder_view g.D.Reads.log g.D.Reads.faults g.D.Reads.changes c.create.new.journal in
-    let source = entropy_view g.E.Entropy.drawn g.E.Entropy.faults c.args.entropy.now in
-    let source' = entropy_view g.E.Entropy.drawn g.E.Entropy.faults c.create.new.entropy in
+    let before = folder_in g.D.Reads c.journal.result.now in
+    let after = folder_in g.D.Reads c.create.new.journal in
+    let source = entropy_in g.E.Entropy c.args.entropy.now in
+    let source' = entropy_in g.E.Entropy c.create.new.entropy in
     let request = create c.args.parent c.args.name.now c.args.is_dir mode in
     let came = c.in-Err.ensures.came mode in
-    subst (λ (d : g.row.D.Denot). IsWork (view_of c.args.self.now.tree [] entries None) (view_of c.create.new.self [] entries None) (folder_view g.D.Reads.log g.D.Reads.faults g.D.Reads.changes d) after source source' request c.args.now c.refused.result buffer buffer) c.journal.ensures.journal
+    subst (λ (d : g.row.D.Denot). IsWork (view_of c.args.self.now.tree [] entries None) (view_of c.create.new.self [] entries None) (folder_in g.D.Reads d) after source source' request c.args.now c.refused.result buffer buffer) c.journal.ensures.journal
     (change_err c.args.self.now.tree.keys c.create.new.self.keys c.args.self.now.tree.live c.create.new.self.live c.args.self.now.tree.claims c.create.new.self.claims entries before after source source' request c.args.now
     came.drawn c.in-Err.error c.refused.result buffer c.refused.ensures.refused c.refused.ensures.broken
     (record { keys_are = c.in-Err.ensures.keys; folder = c.in-Err.ensures.later; entropy = c.in-Err.ensures.entropy; may_draw = came.draw.directory; drawn_is = draws c.args.is_dir came.drawn source.drawn source'.drawn came.draw; unspent = came.draw.unspent })

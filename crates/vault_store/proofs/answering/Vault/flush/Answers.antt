@@ -1,5 +1,5 @@
 use Rattle.std.proofs.Common.{refl}
-use Rattle.directory_scan.specs.Format.{sealing_of}
+use Rattle.tree_loading.specs.Format.{sealing_of}
 use Rattle.vault_store.proofs.Rests.{rest_quiet, rests_flushed}
 use Rattle.vault_store.proofs.answering.Vault.flush.Goals as goal
 

@@ -1,8 +1,8 @@
 use Rattle.std.proofs.Common.{ℕ, List, Option, None, refl, sym, ap, subst, ◌∙◌}
 use Rattle.std.specs.Option.{option_copied}
 use Rattle.siv_mode.specs.Keys.{KeyPair}
-use Rattle.outside.specs.Views.{EntropyView, folder_view}
-use Rattle.directory_scan.specs.Format.{sealing_of}
+use Rattle.outside.specs.Views.{EntropyView, folder_in}
+use Rattle.tree_loading.specs.Format.{sealing_of}
 use Rattle.tree_model.specs.declared.request.Request.{Request}
 use Rattle.tree_model.specs.Names.{names_in}
 use Rattle.tree_model.specs.Asked.{look, walk, open_node, read, list, stat_of, plain_reply, plain_request}
@@ -26,8 +26,8 @@ returns-in-Read-clause-outcome g c = λ entries second source.
     let tree = c.args.self.now.tree in
     let back = c.args.self.now.back in
     let back' = c.read.new.folder in
-    let folder = folder_view g.D.Reads.log g.D.Reads.faults g.D.Reads.changes back.folder in
-    let folder' = folder_view g.D.Reads.log g.D.Reads.faults g.D.Reads.changes back'.folder in
+    let folder = folder_in g.D.Reads back.folder in
+    let folder' = folder_in g.D.Reads back'.folder in
     let can = rest_waits (sealing_of tree.keys) tree.live tree.claims back.waiting folder.log c.requires.rest in
     still_outcome (view_of tree back.waiting entries None) (view_of tree back'.waiting entries None) folder folder' source source (plain_request c.args.request.now) second can c.read.result c.args.buffer.now c.read.new.buffer
     (reading_loose (plain_request c.args.request.now) (plain_reply c.read.result) c.requires.reads c.requires.unsynced)
@@ -52,7 +52,7 @@ returns-in-Read-clause-faults g c =
 pub returns-in-Look-clause-outcome : goal.returns-in-Look-clause-outcome
 returns-in-Look-clause-outcome g c = λ entries second source.
     let back = c.args.self.now.back in
-    let folder = folder_view g.D.Reads.log g.D.Reads.faults g.D.Reads.changes back.folder in
+    let folder = folder_in g.D.Reads back.folder in
     let before = over back.waiting folder in
     let store = view_of c.args.self.now.tree back.waiting entries None in
     let can = rest_waits (sealing_of c.args.self.now.tree.keys) c.args.self.now.tree.live c.args.self.now.tree.claims back.waiting folder.log c.requires.rest in
@@ -65,7 +65,7 @@ returns-in-Look-clause-outcome g c = λ entries second source.
 pub returns-in-StatOf-clause-outcome : goal.returns-in-StatOf-clause-outcome
 returns-in-StatOf-clause-outcome g c = λ entries second source.
     let back = c.args.self.now.back in
-    let folder = folder_view g.D.Reads.log g.D.Reads.faults g.D.Reads.changes back.folder in
+    let folder = folder_in g.D.Reads back.folder in
     let before = over back.waiting folder in
     let store = view_of c.args.self.now.tree back.waiting entries None in
     let can = rest_waits (sealing_of c.args.self.now.tree.keys) c.args.self.now.tree.live c.args.self.now.tree.claims back.waiting folder.log c.requires.rest in
@@ -79,7 +79,7 @@ returns-in-StatOf-clause-outcome g c = λ entries second source.
 pub returns-in-OpenNode-clause-outcome : goal.returns-in-OpenNode-clause-outcome
 returns-in-OpenNode-clause-outcome g c = λ entries second source.
     let back = c.args.self.now.back in
-    let folder = folder_view g.D.Reads.log g.D.Reads.faults g.D.Reads.changes back.folder in
+    let folder = folder_in g.D.Reads back.folder in
     let before = over back.waiting folder in
     let store = view_of c.args.self.now.tree back.waiting entries None in
     let can = rest_waits (sealing_of c.args.self.now.tree.keys) c.args.self.now.tree.live c.args.self.now.tree.claims back.waiting folder.log c.requires.rest in
@@ -92,7 +92,7 @@ returns-in-OpenNode-clause-outcome g c = λ entries second source.
 pub returns-in-Walk-clause-outcome : goal.returns-in-Walk-clause-outcome
 returns-in-Walk-clause-outcome g c = λ entries second source.
     let back = c.args.self.now.back in
-    let folder = folder_view g.D.Reads.log g.D.Reads.faults g.D.Reads.changes back.folder in
+    let folder = folder_in g.D.Reads back.folder in
     let before = over back.waiting folder in
     let store = view_of c.args.self.now.tree back.waiting entries None in
     let can = rest_waits (sealing_of c.args.self.now.tree.keys) c.args.self.now.tree.live c.args.self.now.tree.claims back.waiting folder.log c.requires.rest in
@@ -105,7 +105,7 @@ returns-in-Walk-clause-outcome g c = λ entries second source.
 pub returns-in-List-clause-outcome : goal.returns-in-List-clause-outcome
 returns-in-List-clause-outcome g c = λ entries second source.
     let back = c.args.self.now.back in
-    let folder = folder_view g.D.Reads.log g.D.Reads.faults g.D.Reads.changes back.folder in
+    let folder = folder_in g.D.Reads back.folder in
     let before = over back.waiting folder in
     let store = view_of c.args.self.now.tree back.waiting entries None in
     let can = rest_waits (sealing_of c.args.self.now.tree.keys) c.args.self.now.tree.live c.args.self.now.tree.claims back.waiting folder.log c.requires.rest in

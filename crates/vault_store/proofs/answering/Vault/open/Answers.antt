@@ -5,7 +5,7 @@ use Rattle.outside.specs.Images.{Log, disk_in}
 use Rattle.chunk_journal.specs.Opening.{HasOpened}
 use Rattle.tree_loading.specs.Clear.{HasTooMany, root_folder}
 use Rattle.vault_store.specs.declared.opening.OpenErr.{OpenErr}
-use Rattle.directory_scan.specs.Format.{sealing_of}
+use Rattle.tree_loading.specs.Format.{sealing_of}
 use Rattle.node_changes.specs.Changed.{IsAtRest}
 use Rattle.vault_store.proofs.Loads.{loaded_rests}
 use Rattle.vault_store.proofs.Rests.{rests_idle}

@@ -1,7 +1,7 @@
 use Rattle.std.proofs.Common.{[], Some, None, is_some, refl, ap, subst}
 use Rattle.std.proofs.lemmas.Result.{err_from_is_err_and}
-use Rattle.outside.specs.Views.{EntropyView, folder_view}
-use Rattle.directory_scan.specs.Format.{sealing_of}
+use Rattle.outside.specs.Views.{EntropyView, folder_in}
+use Rattle.tree_loading.specs.Format.{sealing_of}
 use Rattle.tree_model.specs.Asked.{remove}
 use Rattle.live_tree.specs.Held.{HeldTree}
 use Rattle.node_changes.specs.Removal.{IsRemovalRefusal}
@@ -15,7 +15,7 @@ pub returns-in-Some-clause-outcome : goal.returns-in-Some-clause-outcome
 returns-in-Some-clause-outcome g c = λ entries source buffer.
     let tree = c.args.self.now.tree in
     let back = c.args.self.now.back in
-    let folder = folder_view g.D.Reads.log g.D.Reads.faults g.D.Reads.changes back.folder in
+    let folder = folder_in g.D.Reads back.folder in
     let request = remove c.args.number in
     let store = view_of tree back.waiting entries None in
     refused_outcome store store folder folder source source request c.args.now (rest_waits (sealing_of tree.keys) tree.live tree.claims back.waiting folder.log c.requires.rest) c.in-Some.refusal buffer
@@ -26,16 +26,16 @@ pub returns-clause-outcome : goal.returns-clause-outcome
 returns-clause-outcome g c = λ entries source buffer.
     let tree = c.args.self.now.tree in
     let back = c.args.self.now.back in
-    let before = folder_view g.D.Reads.log g.D.Reads.faults g.D.Reads.changes back.folder in
-    let amid = folder_view g.D.Reads.log g.D.Reads.faults g.D.Reads.changes c.flush.new.self.back.folder in
-    let after = folder_view g.D.Reads.log g.D.Reads.faults g.D.Reads.changes c.remove_idle.new.self.back.folder in
+    let before = folder_in g.D.Reads back.folder in
+    let amid = folder_in g.D.Reads c.flush.new.self.back.folder in
+    let after = folder_in g.D.Reads c.remove_idle.new.self.back.folder in
     after_flush (view_of tree back.waiting entries None) c.flush.new.self.tree c.remove_idle.new.self.tree c.remove_idle.new.self.back.waiting entries before amid after source source (remove c.args.number) c.args.now
     c.remove_idle.result buffer buffer c.remove_idle.ensures.idle (c.in_ok-flush.ensures.flushed entries) (c.remove_idle.ensures.outcome entries source buffer)
 
 pub returns-clause-rest : goal.returns-clause-rest
 returns-clause-rest g c =
-    let amid = folder_view g.D.Reads.log g.D.Reads.faults g.D.Reads.changes c.flush.new.self.back.folder in
-    let after = folder_view g.D.Reads.log g.D.Reads.faults g.D.Reads.changes c.remove_idle.new.self.back.folder in
+    let amid = folder_in g.D.Reads c.flush.new.self.back.folder in
+    let after = folder_in g.D.Reads c.remove_idle.new.self.back.folder in
     let was = c.flush.new.self.tree in
     let new = c.remove_idle.new.self in
     let source : EntropyView = record { drawn = None; faults = 0 } in
@@ -46,8 +46,8 @@ pub returns-in_err-flush-clause-outcome : goal.returns-in_err-flush-clause-outco
 returns-in_err-flush-clause-outcome g c = λ entries source buffer.
     let tree = c.args.self.now.tree in
     let back = c.args.self.now.back in
-    let before = folder_view g.D.Reads.log g.D.Reads.faults g.D.Reads.changes back.folder in
-    let after = folder_view g.D.Reads.log g.D.Reads.faults g.D.Reads.changes c.flush.new.self.back.folder in
+    let before = folder_in g.D.Reads back.folder in
+    let after = folder_in g.D.Reads c.flush.new.self.back.folder in
     let p = err_from_is_err_and c.from_residual.result c.from_residual.ensures.1 in
     rw p.1 (
     flush_failed tree c.flush.new.self.tree back.waiting c.flush.new.self.back.waiting entries before after source (remove c.args.number) c.args.now p.0 buffer c.in_err-flush.ensures.tree

@@ -1,7 +1,7 @@
 use Rattle.std.proofs.Common.{◌≡◌, Option, None, refl, [], Ok, subst}
 use Rattle.outside.specs.Disk.{Path as HostPath}
 use Rattle.outside.specs.Calls.{Rose}
-use Rattle.outside.specs.Views.{folder_view}
+use Rattle.outside.specs.Views.{folder_in}
 use Rattle.outside.specs.Images.{disk_in}
 use Rattle.outside.proofs.Told.{told_always}
 use Rattle.tree_model.specs.declared.reply.Reply.TheVariants as replies
@@ -13,9 +13,9 @@ use Rattle.vault_store.proofs.answering.Vault.remove_idle.Goals as goal
 
 pub returns-in-Ok-clause-outcome : goal.returns-in-Ok-clause-outcome
 returns-in-Ok-clause-outcome g c = λ entries source buffer.
-    let before = folder_view g.D.Reads.log g.D.Reads.faults g.D.Reads.changes c.journal.result.now in
-    let after = folder_view g.D.Reads.log g.D.Reads.faults g.D.Reads.changes c.remove.new.journal in
-    subst (λ (d : g.row.D.Denot). IsWork (view_of c.args.self.now.tree [] entries None) (view_of c.remove.new.self [] entries None) (folder_view g.D.Reads.log g.D.Reads.faults g.D.Reads.changes d) after source source (remove c.args.number) c.args.now (Ok (replies.Done)) buffer buffer) c.journal.ensures.journal
+    let before = folder_in g.D.Reads c.journal.result.now in
+    let after = folder_in g.D.Reads c.remove.new.journal in
+    subst (λ (d : g.row.D.Denot). IsWork (view_of c.args.self.now.tree [] entries None) (view_of c.remove.new.self [] entries None) (folder_in g.D.Reads d) after source source (remove c.args.number) c.args.now (Ok (replies.Done)) buffer buffer) c.journal.ensures.journal
     (changed_reply c.args.self.now.tree.keys c.remove.new.self.keys c.args.self.now.tree.live c.remove.new.self.live c.args.self.now.tree.claims c.remove.new.self.claims entries before after source source (remove c.args.number) c.args.now
     None replies.Done buffer
     (come_undrawn c.args.self.now.tree.keys c.remove.new.self.keys before after source (remove c.args.number) c.in-Ok.ensures.keys c.in-Ok.ensures.later)
@@ -23,9 +23,9 @@ returns-in-Ok-clause-outcome g c = λ entries source buffer.
 
 pub returns-in-Err-clause-outcome : goal.returns-in-Err-clause-outcome
 returns-in-Err-clause-outcome g c = λ entries source buffer.
-    let before = folder_view g.D.Reads.log g.D.Reads.faults g.D.Reads.changes c.journal.result.now in
-    let after = folder_view g.D.Reads.log g.D.Reads.faults g.D.Reads.changes c.remove.new.journal in
-    subst (λ (d : g.row.D.Denot). IsWork (view_of c.args.self.now.tree [] entries None) (view_of c.remove.new.self [] entries None) (folder_view g.D.Reads.log g.D.Reads.faults g.D.Reads.changes d) after source source (remove c.args.number) c.args.now c.refused.result buffer buffer) c.journal.ensures.journal
+    let before = folder_in g.D.Reads c.journal.result.now in
+    let after = folder_in g.D.Reads c.remove.new.journal in
+    subst (λ (d : g.row.D.Denot). IsWork (view_of c.args.self.now.tree [] entries None) (view_of c.remove.new.self [] entries None) (folder_in g.D.Reads d) after source source (remove c.args.number) c.args.now c.refused.result buffer buffer) c.journal.ensures.journal
     (change_err c.args.self.now.tree.keys c.remove.new.self.keys c.args.self.now.tree.live c.remove.new.self.live c.args.self.now.tree.claims c.remove.new.self.claims entries before after source source (remove c.args.number) c.args.now
     None c.in-Err.error c.refused.result buffer c.refused.ensures.refused c.refused.ensures.broken
     (come_undrawn c.args.self.now.tree.keys c.remove.new.self.keys before after source (remove c.args.number) c.in-Err.ensures.keys c.in-Err.ensures.later)

@@ -1,11 +1,11 @@
 use Rattle.std.proofs.Common.{[], None, Ok, refl, sym, ap, subst, ◌∙◌}
 use Rattle.std.proofs.lemmas.Result.{err_from_is_err_and}
-use Rattle.outside.specs.Views.{folder_view}
-use Rattle.directory_scan.specs.Format.{sealing_of}
+use Rattle.outside.specs.Views.{folder_in}
+use Rattle.tree_loading.specs.Format.{sealing_of}
 use Rattle.tree_model.specs.declared.reply.Reply.{Reply}
 use Rattle.tree_model.specs.Asked.{plain_reply, sync}
 use Rattle.tree_model.specs.Step.{says}
-use Rattle.stop_history.specs.Stable.{is_kept}
+use Rattle.crash_laws.specs.Stable.{is_kept}
 use Rattle.live_tree.specs.Held.{HeldTree}
 use Rattle.node_changes.specs.declared.tree.VaultTree.{VaultTree}
 use Rattle.tree_answers.specs.Answers.{IsStepOf}
@@ -19,7 +19,7 @@ pub returns-in-Refused-clause-outcome : goal.returns-in-Refused-clause-outcome
 returns-in-Refused-clause-outcome g c = λ entries second source buffer.
     let tree = c.args.self.now.tree in
     let back = c.args.self.now.back in
-    let folder = folder_view g.D.Reads.log g.D.Reads.faults g.D.Reads.changes back.folder in
+    let folder = folder_in g.D.Reads back.folder in
     let store = view_of tree back.waiting entries None in
     still_outcome store store folder folder source source (sync c.args.number) second (rest_waits (sealing_of tree.keys) tree.live tree.claims back.waiting folder.log c.requires.rest) c.sync-reply.result buffer buffer
     (ap (λ (r : Reply). is_kept (sync c.args.number) (plain_reply r)) c.in-Refused.is)
@@ -31,8 +31,8 @@ returns-clause-outcome g c = λ entries second source buffer.
     let tree = c.args.self.now.tree in
     let back = c.args.self.now.back in
     let new = c.flush.new.self in
-    let before = folder_view g.D.Reads.log g.D.Reads.faults g.D.Reads.changes back.folder in
-    let after = folder_view g.D.Reads.log g.D.Reads.faults g.D.Reads.changes new.back.folder in
+    let before = folder_in g.D.Reads back.folder in
+    let after = folder_in g.D.Reads new.back.folder in
     let store = view_of new.tree [] entries None in
     let same = c.live.ensures ∙ ap (λ (t : VaultTree). t.live) (sym c.in_ok-flush.ensures.tree) in
     after_flush (view_of tree back.waiting entries None) new.tree new.tree new.back.waiting entries before after after source source (sync c.args.number) second (Ok c.sync-reply.result) buffer buffer
@@ -50,8 +50,8 @@ pub returns-in_err-flush-clause-outcome : goal.returns-in_err-flush-clause-outco
 returns-in_err-flush-clause-outcome g c = λ entries second source buffer.
     let tree = c.args.self.now.tree in
     let back = c.args.self.now.back in
-    let before = folder_view g.D.Reads.log g.D.Reads.faults g.D.Reads.changes back.folder in
-    let after = folder_view g.D.Reads.log g.D.Reads.faults g.D.Reads.changes c.flush.new.self.back.folder in
+    let before = folder_in g.D.Reads back.folder in
+    let after = folder_in g.D.Reads c.flush.new.self.back.folder in
     let p = err_from_is_err_and c.from_residual.result c.from_residual.ensures.1 in
     rw p.1 (
     flush_failed tree c.flush.new.self.tree back.waiting c.flush.new.self.back.waiting entries before after source (sync c.args.number) second p.0 buffer c.in_err-flush.ensures.tree

@@ -1,11 +1,11 @@
 use Rattle.std.proofs.Common.{Some, None, refl, subst, sym, ◌∙◌, arith}
-use Rattle.outside.specs.Views.{entropy_view, folder_view}
-use Rattle.directory_scan.specs.Format.{sealing_of}
+use Rattle.outside.specs.Views.{entropy_in, folder_in}
+use Rattle.tree_loading.specs.Format.{sealing_of}
 use Rattle.tree_model.specs.declared.reply.Reply.TheVariants as replies
 use Rattle.tree_model.specs.Asked.{open_node, qid}
 use Rattle.tree_model.specs.Step.{says}
 use Rattle.live_tree.specs.Held.{HeldTree, live_rows}
-use Rattle.change_plans.specs.Files.{IsResizable}
+use Rattle.request_checks.specs.Files.{IsResizable}
 use Rattle.node_changes.proofs.Committing.{early_step}
 use Rattle.vault_store.specs.Open.{view_of}
 use Rattle.vault_store.proofs.ContentTurns.{come_drawing, open_early, own_reply, truncation_here}
@@ -19,8 +19,8 @@ pub returns-in-Some-clause-outcome : goal.returns-in-Some-clause-outcome
 returns-in-Some-clause-outcome g c = λ entries buffer.
     let tree = c.args.self.now.tree in
     let back = c.args.self.now.back in
-    let folder = folder_view g.D.Reads.log g.D.Reads.faults g.D.Reads.changes back.folder in
-    let source = entropy_view g.E.Entropy.drawn g.E.Entropy.faults c.args.entropy.now in
+    let folder = folder_in g.D.Reads back.folder in
+    let source = entropy_in g.E.Entropy c.args.entropy.now in
     let request = open_node c.args.number c.args.mode in
     let store = view_of tree back.waiting entries None in
     refused_outcome store store folder folder source source request c.args.now (rest_waits (sealing_of tree.keys) tree.live tree.claims back.waiting folder.log c.requires.rest) c.in-Some.refusal buffer
@@ -34,10 +34,10 @@ returns-in-Ok-clause-outcome g c = λ entries buffer.
     let tree = c.args.self.now.tree in
     let back = c.args.self.now.back in
     let new = c.truncate.new.tree in
-    let before = folder_view g.D.Reads.log g.D.Reads.faults g.D.Reads.changes back.folder in
-    let after = folder_view g.D.Reads.log g.D.Reads.faults g.D.Reads.changes c.truncate.new.back.folder in
-    let source = entropy_view g.E.Entropy.drawn g.E.Entropy.faults c.args.entropy.now in
-    let source' = entropy_view g.E.Entropy.drawn g.E.Entropy.faults c.truncate.new.entropy in
+    let before = folder_in g.D.Reads back.folder in
+    let after = folder_in g.D.Reads c.truncate.new.back.folder in
+    let source = entropy_in g.E.Entropy c.args.entropy.now in
+    let source' = entropy_in g.E.Entropy c.truncate.new.entropy in
     let request = open_node c.args.number c.args.mode in
     let result = c.changed_qid-qid.result in
     let resizing = truncation_here tree.keys c.keys.result.now tree.live c.live.result.now c.live-2.result.now tree.claims c.args.number c.args.mode c.args.now result c.keys.ensures c.live.ensures c.live-2.ensures
@@ -52,10 +52,10 @@ returns-in-Err-clause-outcome g c = λ entries buffer.
     let tree = c.args.self.now.tree in
     let back = c.args.self.now.back in
     let new = c.truncate.new.tree in
-    let before = folder_view g.D.Reads.log g.D.Reads.faults g.D.Reads.changes back.folder in
-    let after = folder_view g.D.Reads.log g.D.Reads.faults g.D.Reads.changes c.truncate.new.back.folder in
-    let source = entropy_view g.E.Entropy.drawn g.E.Entropy.faults c.args.entropy.now in
-    let source' = entropy_view g.E.Entropy.drawn g.E.Entropy.faults c.truncate.new.entropy in
+    let before = folder_in g.D.Reads back.folder in
+    let after = folder_in g.D.Reads c.truncate.new.back.folder in
+    let source = entropy_in g.E.Entropy c.args.entropy.now in
+    let source' = entropy_in g.E.Entropy c.truncate.new.entropy in
     let request = open_node c.args.number c.args.mode in
     let result = c.changed_qid-qid.result in
     let answer = says (qid result) in

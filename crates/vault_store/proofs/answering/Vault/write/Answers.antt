@@ -1,6 +1,6 @@
 use Rattle.std.proofs.Common.{◌≡◌, length, Some, None, refl, sym, ◌∙◌, eqb-true, arith}
-use Rattle.outside.specs.Views.{entropy_view, folder_view}
-use Rattle.directory_scan.specs.Format.{sealing_of}
+use Rattle.outside.specs.Views.{entropy_in, folder_in}
+use Rattle.tree_loading.specs.Format.{sealing_of}
 use Rattle.tree_model.specs.declared.reply.Reply.TheVariants as replies
 use Rattle.tree_model.specs.Asked.{write}
 use Rattle.live_tree.specs.Held.{live_rows}
@@ -17,8 +17,8 @@ pub returns-in-Some-clause-outcome : goal.returns-in-Some-clause-outcome
 returns-in-Some-clause-outcome g c = λ entries buffer.
     let tree = c.args.self.now.tree in
     let back = c.args.self.now.back in
-    let folder = folder_view g.D.Reads.log g.D.Reads.faults g.D.Reads.changes back.folder in
-    let source = entropy_view g.E.Entropy.drawn g.E.Entropy.faults c.args.entropy.now in
+    let folder = folder_in g.D.Reads back.folder in
+    let source = entropy_in g.E.Entropy c.args.entropy.now in
     let request = write c.args.number c.args.at c.args.bytes.now in
     let store = view_of tree back.waiting entries None in
     refused_outcome store store folder folder source source request c.args.now (rest_waits (sealing_of tree.keys) tree.live tree.claims back.waiting folder.log c.requires.rest) c.in-Some.refusal buffer
@@ -31,8 +31,8 @@ pub returns-then-is_empty-clause-outcome : goal.returns-then-is_empty-clause-out
 returns-then-is_empty-clause-outcome g c = λ entries buffer.
     let tree = c.args.self.now.tree in
     let back = c.args.self.now.back in
-    let folder = folder_view g.D.Reads.log g.D.Reads.faults g.D.Reads.changes back.folder in
-    let source = entropy_view g.E.Entropy.drawn g.E.Entropy.faults c.args.entropy.now in
+    let folder = folder_in g.D.Reads back.folder in
+    let source = entropy_in g.E.Entropy c.args.entropy.now in
     let request = write c.args.number c.args.at c.args.bytes.now in
     let store = view_of tree back.waiting entries None in
     let empty : length c.args.bytes.now ≡ 0 = eqb-true (length c.args.bytes.now) 0 (sym c.is_empty.ensures ∙ c.if-is_empty.true) in
@@ -48,10 +48,10 @@ returns-in-Ok-clause-outcome g c = λ entries buffer.
     let tree = c.args.self.now.tree in
     let back = c.args.self.now.back in
     let new = c.write.new.tree in
-    let before = folder_view g.D.Reads.log g.D.Reads.faults g.D.Reads.changes back.folder in
-    let after = folder_view g.D.Reads.log g.D.Reads.faults g.D.Reads.changes c.write.new.back.folder in
-    let source = entropy_view g.E.Entropy.drawn g.E.Entropy.faults c.args.entropy.now in
-    let source' = entropy_view g.E.Entropy.drawn g.E.Entropy.faults c.write.new.entropy in
+    let before = folder_in g.D.Reads back.folder in
+    let after = folder_in g.D.Reads c.write.new.back.folder in
+    let source = entropy_in g.E.Entropy c.args.entropy.now in
+    let source' = entropy_in g.E.Entropy c.write.new.entropy in
     let request = write c.args.number c.args.at c.args.bytes.now in
     written tree.keys new.keys tree.live new.live tree.claims new.claims back.waiting c.write.new.back.waiting entries before after source source' request c.args.now
     (replies.Count _) buffer (record { form = refl; count = tt; enters = refl; rest = refl }) refl refl refl refl (λ made. tt) (λ rows. refl)
@@ -63,10 +63,10 @@ returns-in-Err-clause-outcome g c = λ entries buffer.
     let tree = c.args.self.now.tree in
     let back = c.args.self.now.back in
     let new = c.write.new.tree in
-    let before = folder_view g.D.Reads.log g.D.Reads.faults g.D.Reads.changes back.folder in
-    let after = folder_view g.D.Reads.log g.D.Reads.faults g.D.Reads.changes c.write.new.back.folder in
-    let source = entropy_view g.E.Entropy.drawn g.E.Entropy.faults c.args.entropy.now in
-    let source' = entropy_view g.E.Entropy.drawn g.E.Entropy.faults c.write.new.entropy in
+    let before = folder_in g.D.Reads back.folder in
+    let after = folder_in g.D.Reads c.write.new.back.folder in
+    let source = entropy_in g.E.Entropy c.args.entropy.now in
+    let source' = entropy_in g.E.Entropy c.write.new.entropy in
     let request = write c.args.number c.args.at c.args.bytes.now in
     put_err tree.keys new.keys tree.live new.live tree.claims new.claims back.waiting c.write.new.back.waiting entries before after source source' request c.args.now
     (come_drawing tree.keys new.keys before after source source' request c.in-Err.ensures.keys c.in-Err.ensures.later c.in-Err.ensures.entropy c.in-Err.ensures.drawn (λ no. no))

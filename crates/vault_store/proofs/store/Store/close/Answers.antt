@@ -1,10 +1,10 @@
 use Rattle.std.proofs.Common.{◌≡◌, [], IsNone, OnOk, Result, sym, ap, subst, ◌∙◌}
 use Rattle.outside.specs.Calls.{Changes}
-use Rattle.outside.specs.Views.{folder_view}
+use Rattle.outside.specs.Views.{folder_in}
 use Rattle.outside.specs.declared.stream.Failed.{Failed}
 use Rattle.chunk_journal.specs.Journal.{AnyMoment}
 use Rattle.node_changes.specs.declared.tree.VaultTree.{VaultTree}
-use Rattle.store_history.specs.Turns.{IsFlushed}
+use Rattle.store_laws.specs.Turns.{IsFlushed}
 use Rattle.vault_store.specs.Open.{OpenVault, idle_of, view_of}
 use Rattle.vault_store.proofs.Closing.{flushed_view, never_ok, never_runs, ok_always}
 use Rattle.vault_store.proofs.store.Store.close.Goals as goal
@@ -24,15 +24,15 @@ returns-clause-idle g c =
 pub returns-clause-flushed : goal.returns-clause-flushed
 returns-clause-flushed g c =
     let inside = c.self.inside in
-    let before = folder_view g.D.Reads.log g.D.Reads.faults g.D.Reads.changes inside.vault.back.folder in
-    let after = folder_view g.D.Reads.log g.D.Reads.faults g.D.Reads.changes c.into_folder.result in
+    let before = folder_in g.D.Reads inside.vault.back.folder in
+    let after = folder_in g.D.Reads c.into_folder.result in
     let store = view_of inside.vault.tree inside.vault.back.waiting inside.entries inside.stopped in
-    subst (λ (v : OpenVault g.row.D.Denot). IsNone v.store.stopped → OnOk c.new-closed.result.committed (IsFlushed v.store (idle_of v.store) (folder_view g.D.Reads.log g.D.Reads.faults g.D.Reads.changes v.folder) (folder_view g.D.Reads.log g.D.Reads.faults g.D.Reads.changes c.into_folder.result))) c.self.view_is
+    subst (λ (v : OpenVault g.row.D.Denot). IsNone v.store.stopped → OnOk c.new-closed.result.committed (IsFlushed v.store (idle_of v.store) (folder_in g.D.Reads v.folder) (folder_in g.D.Reads c.into_folder.result))) c.self.view_is
     (λ runs. subst (λ (r : Result _ Failed). OnOk r (IsFlushed store (idle_of store) before after)) (sym c.new-closed.ensures.committed) (elim c.match-stopped.branch [
       | in-None+in-Ok w ↦
           ok_always c.match-stopped.committed (IsFlushed store (idle_of store) before after)
-          (flushed_view inside.vault.tree w.flush.new.self.tree inside.vault.back.waiting inside.entries inside.stopped before (folder_view g.D.Reads.log g.D.Reads.faults g.D.Reads.changes w.flush.new.self.back.folder) after w.in-Ok.ensures.tree w.in-None.is
-          (ap (λ (d : g.row.D.Denot). folder_view g.D.Reads.log g.D.Reads.faults g.D.Reads.changes d) (c.into_folder.ensures ∙ ap (λ v. v.back.folder) w.vault-is)) (w.in-Ok.ensures.flushed inside.entries))
+          (flushed_view inside.vault.tree w.flush.new.self.tree inside.vault.back.waiting inside.entries inside.stopped before (folder_in g.D.Reads w.flush.new.self.back.folder) after w.in-Ok.ensures.tree w.in-None.is
+          (ap (λ (d : g.row.D.Denot). folder_in g.D.Reads d) (c.into_folder.ensures ∙ ap (λ v. v.back.folder) w.vault-is)) (w.in-Ok.ensures.flushed inside.entries))
       | in-None+in-Err w ↦ never_ok c.match-stopped.committed _ (IsFlushed store (idle_of store) before after) w.committed-is
       | in-Some w ↦ never_ok c.match-stopped.committed _ (IsFlushed store (idle_of store) before after) w.committed-is
     ]))
@@ -40,7 +40,7 @@ returns-clause-flushed g c =
 pub returns-clause-moments : goal.returns-clause-moments
 returns-clause-moments g c =
     let inside = c.self.inside in
-    let before = folder_view g.D.Reads.log g.D.Reads.faults g.D.Reads.changes inside.vault.back.folder in
+    let before = folder_in g.D.Reads inside.vault.back.folder in
     subst (λ (v : OpenVault g.row.D.Denot). IsNone v.store.stopped → Changes (g.D.Reads.log v.folder) (g.D.Reads.log c.into_folder.result) (AnyMoment v.store.waiting)) c.self.view_is
     (λ runs. elim c.match-stopped.branch [
       | in-None+in-Ok w ↦

@@ -4,13 +4,13 @@ use Rattle.outside.specs.Disk.{node_at, file}
 use Rattle.outside.specs.Images.{now}
 use Rattle.deeds.specs.Deeds.{PlainDeed}
 use Rattle.pending_files.specs.Laid.{laid, CanWait}
-use Rattle.held_changes.specs.Writing.{IsRewritten}
-use Rattle.content_changes.specs.Rewriting.{rewritten}
-use Rattle.content_deeds.specs.Deeds.{rewriting_in}
-use Rattle.content_deeds.specs.Sealed.{rewriting_of}
+use Rattle.live_tree_laws.specs.Writing.{IsRewritten}
+use Rattle.content_laws.specs.Rewriting.{rewritten}
+use Rattle.write_back.specs.Deeds.{rewriting_in}
+use Rattle.write_back.specs.Sealed.{rewriting_of}
 use Rattle.write_back.specs.View.{WriteBackView}
 use Rattle.write_back.proofs.Showing.{at_view}
-use Rattle.write_back.proofs.Waiting.{put_waits, put_rewrites}
+use Rattle.write_back.proofs.WaitingLogs.{put_waits, put_rewrites}
 use Rattle.write_back.proofs.back.WriteBack.put.Goals as goal
 
 pub invariant_of-self : goal.invariant_of-self

@@ -1,7 +1,0 @@
-use Rattle.std.proofs.Common.{ℕ, List, ◌-◌}
-use Rattle.aes_bits.specs.Circuit.{ArePlanes, AreRoundKeys, HasBlocks, after}
-use Rattle.aes_bits.proofs.blocks.encrypted_eight.Given as goal
-
--- the blocks after r - 1 rounds
-abbrev pub invariant-loop-r : goal.invariant-loop-r
-invariant-loop-r l = ArePlanes l.x × ((key : List ℕ) → AreRoundKeys key l.keys → HasBlocks l.x (after key l.blocks (l.r - 1)))

@@ -1,0 +1,12 @@
+pub mod Vectors
+pub mod Rounds
+pub mod LaneKeys
+pub mod Elements
+pub mod Gates
+pub mod SBox
+pub mod Swaps
+pub mod Mixing
+pub mod PlaneKeys
+pub mod Turning
+pub mod States
+pub mod Groups

@@ -1,0 +1,16 @@
+use Rattle.std.proofs.Common.{◌≡◌, ℕ, List, [], ◌∷◌, map, get_or, ap, ap₂}
+use Rattle.aes_kernels.proofs.Vectors.{looked-map, sum-maps}
+use Rattle.aes_kernels.specs.declared.tables.TheConstants.{SB1T, SB1U, SB2T, SB2U}
+use Rattle.aes_kernels.specs.Nibbles.{inverse_lower, inverse_upper, looked_up}
+use Rattle.aes_kernels.proofs.nibbles.substituted.Goals as goal
+
+pub returns : goal.returns
+returns c =
+    let x : List ℕ = c.args.x in
+    let u : get_or c.inverse.result 0 [] ≡ map inverse_upper x = ap (λ (l : List (List ℕ)). get_or l 0 []) c.inverse.ensures in
+    let t : get_or c.inverse.result 1 [] ≡ map inverse_lower x = ap (λ (l : List (List ℕ)). get_or l 1 []) c.inverse.ensures in
+    ap₂ (λ (p q : List ℕ). p ∷ q ∷ [])
+    (sum-maps (λ b. looked_up SB1U (inverse_upper b)) (λ b. looked_up SB1T (inverse_lower b)) x _ _
+    (looked-map SB1U inverse_upper x _ _ c.look_up.ensures u) (looked-map SB1T inverse_lower x _ _ c.look_up-2.ensures t))
+    (sum-maps (λ b. looked_up SB2U (inverse_upper b)) (λ b. looked_up SB2T (inverse_lower b)) x _ _
+    (looked-map SB2U inverse_upper x _ _ c.look_up-3.ensures u) (looked-map SB2T inverse_lower x _ _ c.look_up-4.ensures t))

@@ -1,0 +1,8 @@
+use Rattle.aes_kernels.proofs.Swaps.{lower1-at, upper1-at}
+use Rattle.aes_kernels.proofs.planes.swap1.Goals as goal
+
+pub returns-clause-upper : goal.returns-clause-upper
+returns-clause-upper c = λ lane within. upper1-at c.args.a c.args.b lane c.fits-a.0 c.fits-b.0 within
+
+pub returns-clause-lower : goal.returns-clause-lower
+returns-clause-lower c = λ lane within. lower1-at c.args.a c.args.b lane c.fits-a.0 c.fits-b.0 within

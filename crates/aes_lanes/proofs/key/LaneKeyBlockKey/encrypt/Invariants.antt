@@ -1,7 +1,0 @@
-use Rattle.std.proofs.Common.{◌≡◌, ◌-◌, map}
-use Rattle.aes_lanes.specs.Nibbles.{based}
-use Rattle.aes_lanes.proofs.Keys.{after}
-use Rattle.aes_lanes.proofs.key.LaneKeyBlockKey.encrypt.Given as goal
-
-abbrev pub invariant-loop-r : goal.invariant-loop-r
-invariant-loop-r l = l.x ≡ map based (after l.self (l.r - 1) l.block)

@@ -1,5 +1,0 @@
-use Rattle.content_changes.proofs.Sizes.{clear_sealed, sealed_clear}
-use Rattle.content_changes.proofs.changing.sealed_sizes.Goals as goal
-
-pub returns : goal.returns
-returns c = record { clear = clear_sealed; sealed = sealed_clear }

@@ -1,4 +1,0 @@
-pub mod Slices
-pub mod Places
-pub mod Lines
-pub mod Ordered

@@ -1,5 +1,0 @@
-use Rattle.demo_rows.proofs.Ordered.{AreOrderedTo}
-use Rattle.demo_rows.proofs.left.are_ordered.Given as goal
-
-abbrev pub invariant-loop-index : goal.invariant-loop-index
-invariant-loop-index l = record { ordered : AreOrderedTo l.rows l.index }

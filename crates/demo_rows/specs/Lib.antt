@@ -1,4 +1,0 @@
-pub mod Errors
-pub mod Left
-pub mod Reading
-pub mod Nodes

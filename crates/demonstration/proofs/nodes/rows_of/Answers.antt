@@ -1,0 +1,28 @@
+use Rattle.std.proofs.Common.{◌≡◌, ◌∙◌, ◌∷◌, [], List, Option, length, sym, ap, subst, arith}
+use Rattle.std.proofs.lemmas.List.{length-append}
+use Rattle.outside.specs.Disk.{Disk}
+use Rattle.outside.specs.Images.{disk_in}
+use Rattle.demonstration.specs.declared.rows.DemoRow.{DemoRow}
+use Rattle.demonstration.specs.Nodes.{AreRowsOf, IsRowOf}
+use Rattle.demonstration.proofs.Places.{rows_pushed}
+use Rattle.demonstration.proofs.nodes.rows_of.Goals as goal
+
+pub loop-number-preserved : goal.loop-number-preserved
+loop-number-preserved g c =
+    let so_far = c.loop-number.invariant in
+    let keys = c.args.keys.now in
+    let tree = c.args.tree.now in
+    let first = disk_in (g.R.Reads.log c.args.folder.now) in
+    let now = disk_in (g.R.Reads.log c.loop-number.folder) in
+    let same : now ≡ first = ap disk_in so_far.log in
+    let rows = c.loop-number.rows.items in
+    let row = c.in_ok-row.row in
+    let all : AreRowsOf keys now tree c.deref.result.now =
+    subst (λ (l : List DemoRow). AreRowsOf keys now tree l) (sym c.deref.ensures.value) (subst (λ (d : Option Disk). AreRowsOf keys d tree rows) (sym same) so_far.rows)
+    in
+    let is : IsRowOf keys first tree c.loop-number.number row = subst (λ (d : Option Disk). IsRowOf keys d tree c.loop-number.number row) same (c.in_ok-row.ensures.row all) in
+    record {
+      log = c.in_ok-row.ensures.log ∙ so_far.log;
+      count = omega (arith, ap length c.in_ok-push.ensures.items, length-append rows (row ∷ []), so_far.count);
+      rows = subst (λ (l : List DemoRow). AreRowsOf keys first tree l) (sym c.in_ok-push.ensures.items) (rows_pushed keys first tree rows row c.loop-number.number so_far.count so_far.rows is);
+    }

@@ -1,0 +1,9 @@
+pub mod Words
+pub mod Script
+pub mod Summary
+pub mod Small
+pub mod Errors
+pub mod Left
+pub mod Reading
+pub mod Nodes
+pub mod Objects

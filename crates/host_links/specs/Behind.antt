@@ -1,0 +1,27 @@
+-- What of the runtime is behind an object.
+use Rattle.std.specs.Prelude.{Option}
+use Rattle.host_links.specs.declared.ends.Untold.{Untold}
+use Rattle.host_links.specs.declared.ends.Output.{Output}
+use Rattle.host_links.specs.declared.stream.StdSource.{StdSource}
+use Rattle.host_links.specs.declared.stream.StdSink.{StdSink}
+use Rattle.host_links.specs.declared.link.StreamLink.{StreamLink}
+use Rattle.host_links.specs.declared.listen.HostListen.{HostListen}
+
+-- the reader of a source
+abbrev pub source_reader : {I : Type 0} → StdSource I → I
+source_reader source = source.input
+
+-- the writer of a sink
+abbrev pub sink_writer : {O : Type 0} → StdSink O → O
+sink_writer sink = sink.output
+
+-- the reader and the writer of a link
+abbrev pub link_reader : {I O : Type 0} → StreamLink I O → I
+link_reader link = link.input
+
+abbrev pub link_writer : {I O : Type 0} → StreamLink I O → O
+link_writer link = link.output
+
+-- the link that is to come, if it hasn't come yet
+abbrev pub link_to_come : {R I : Type 0} → HostListen R I → Option (StreamLink (Untold I) (Output R))
+link_to_come listen = listen.link

@@ -1,0 +1,9 @@
+pub mod CipherArrays
+pub mod CipherSchedules
+pub mod CipherXors
+pub mod FieldLemmas
+pub mod GcmTexts
+pub mod MacLemmas
+pub mod SivLemmas
+pub mod Contents
+pub mod Openings

@@ -1,0 +1,5 @@
+pub mod SeenContents
+pub mod SeenRows
+pub mod Ends
+pub mod Listed
+pub mod Walks

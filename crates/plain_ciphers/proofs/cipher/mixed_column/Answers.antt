@@ -1,7 +1,0 @@
-use Rattle.std.proofs.Common.{rules}
-use Rattle.plain_ciphers.proofs.CipherArrays.{from_fn-is}
-use Rattle.plain_ciphers.proofs.FieldLemmas.{mixed-is, row_of}
-use Rattle.plain_ciphers.proofs.cipher.mixed_column.Goals as goal
-
-pub returns : goal.returns
-returns c = mixed-is c.args.column c.from_fn.result (from_fn-is (row_of c.args.column) c.from_fn.ensures.items (λ i y q h called. search rules))

@@ -1,6 +1,0 @@
-use Rattle.std.proofs.Common.{arith}
-use Rattle.plain_ciphers.proofs.FieldLemmas.{affine-rotated}
-use Rattle.plain_ciphers.proofs.field.affine.Goals as goal
-
-pub returns : goal.returns
-returns c = rw (c.rotate_left.ensures, c.rotate_left-2.ensures, c.rotate_left-3.ensures, c.rotate_left-4.ensures) (affine-rotated c.args.b (omega arith))

@@ -1,5 +1,0 @@
-use Rattle.plain_ciphers.proofs.FieldLemmas.{IsSought}
-use Rattle.plain_ciphers.proofs.field.inverse.Given as goal
-
-abbrev pub invariant-loop-x : goal.invariant-loop-x
-invariant-loop-x l = IsSought l.b l.x

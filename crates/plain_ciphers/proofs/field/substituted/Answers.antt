@@ -1,7 +1,0 @@
-use Rattle.std.proofs.Common.{◌∙◌, ap}
-use Rattle.aes_block.specs.Field.{affine, substituted}
-use Rattle.plain_ciphers.proofs.field.substituted.Goals as goal
-
-pub returns : goal.returns
-unfolding substituted
-returns c = c.affine.ensures ∙ ap affine c.inverse.ensures

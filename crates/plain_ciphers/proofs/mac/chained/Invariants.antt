@@ -1,7 +1,0 @@
-use Rattle.std.proofs.Common.{◌≡◌}
-use Rattle.aes_block.specs.Aes.{aes}
-use Rattle.siv_mode.specs.Cmac.{chained}
-use Rattle.plain_ciphers.proofs.mac.chained.Given as goal
-
-abbrev pub invariant-loop-i : goal.invariant-loop-i
-invariant-loop-i l = l.chain ≡ chained (aes l.key) l.text l.i

@@ -1,5 +1,0 @@
-pub mod Fitting
-pub mod Lists
-pub mod NameLemmas
-pub mod Putting
-pub mod Ways

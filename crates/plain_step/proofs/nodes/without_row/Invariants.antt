@@ -1,9 +1,0 @@
-use Rattle.std.proofs.Common.{◌≡◌, ◌==◌, ◌++◌, not, filter, drop}
-use Rattle.tree_model.specs.Rows.{Row}
-use Rattle.plain_step.specs.Seen.{nodes_seen}
-use Rattle.plain_step.proofs.nodes.without_row.Given as goal
-
-abbrev pub invariant-loop-row : goal.invariant-loop-row
-invariant-loop-row l =
-    nodes_seen l.nodes.items ++ filter (λ (row : Row). not (row.number == l.old.number)) (nodes_seen (drop l.row-index l.row-items))
-    ≡ filter (λ (row : Row). not (row.number == l.old.number)) (nodes_seen l.row-items)

@@ -1,4 +1,0 @@
-pub mod Seen
-pub mod Ends
-pub mod Listed
-pub mod Walks

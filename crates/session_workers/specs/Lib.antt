@@ -1,4 +1,0 @@
-pub mod Ends
-pub mod Shares
-pub mod Links
-pub mod Workers

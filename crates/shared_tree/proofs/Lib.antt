@@ -1,0 +1,5 @@
+pub mod Histories
+pub mod Asking
+pub mod Turning
+pub mod Crews
+pub mod Joining

@@ -1,0 +1,5 @@
+pub mod Turns
+pub mod Trees
+pub mod Clients
+pub mod Workers
+pub mod Joined

@@ -1,5 +1,0 @@
-use Rattle.stop_history.proofs.Moves.{idles}
-use Rattle.stop_history.proofs.laws.idles.Goals as goal
-
-pub returns : goal.returns
-returns c start = λ opened rows history pending pending' log entry after is at stable does shows. idles _ opened rows history pending pending' log entry is at stable after does shows

@@ -1,5 +1,0 @@
-use Rattle.stop_history.proofs.Trees.{clear_recovered}
-use Rattle.stop_history.proofs.laws.recovers_to_trees.Goals as goal
-
-pub returns : goal.returns
-returns c = clear_recovered

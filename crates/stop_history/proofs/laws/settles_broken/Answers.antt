@@ -1,5 +1,0 @@
-use Rattle.stop_history.proofs.Moves.{settles_broken}
-use Rattle.stop_history.proofs.laws.settles_broken.Goals as goal
-
-pub returns : goal.returns
-returns c start = λ blind opened rows. settles_broken _ opened rows blind

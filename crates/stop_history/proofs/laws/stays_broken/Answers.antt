@@ -1,5 +1,0 @@
-use Rattle.stop_history.proofs.Moves.{stays_broken}
-use Rattle.stop_history.proofs.laws.stays_broken.Goals as goal
-
-pub returns : goal.returns
-returns c start = λ opened rows. stays_broken _ opened rows

@@ -1,5 +1,0 @@
-use Rattle.stop_history.proofs.Stops.{state_stops}
-use Rattle.stop_history.proofs.laws.stops_recover.Goals as goal
-
-pub returns : goal.returns
-returns c start = λ opened rows. state_stops _ rows opened

@@ -1,8 +1,0 @@
-use Rattle.stop_history.proofs.Moves.{running_stable, ended_moment}
-use Rattle.stop_history.proofs.laws.tallies_hold.Goals as goal
-
-pub returns-clause-stable : goal.returns-clause-stable
-returns-clause-stable c start = λ opened rows. running_stable _ opened rows
-
-pub returns-clause-moment : goal.returns-clause-moment
-returns-clause-moment c start = ended_moment

@@ -1,9 +1,0 @@
-pub mod Others
-pub mod Shows
-pub mod Alike
-pub mod Placed
-pub mod Turns
-pub mod Stopped
-pub mod Flushed
-pub mod Openings
-pub mod Ends

@@ -1,3 +1,0 @@
-pub mod Store
-pub mod Turns
-pub mod Ends

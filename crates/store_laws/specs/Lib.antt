@@ -1,0 +1,4 @@
+pub mod Store
+pub mod Turns
+pub mod Ends
+pub mod Places

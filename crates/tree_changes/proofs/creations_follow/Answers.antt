@@ -1,8 +1,0 @@
-use Rattle.tree_changes.proofs.Shapes.{directory_follows, file_follows}
-use Rattle.tree_changes.proofs.creations_follow.Goals as goal
-
-pub returns-clause-file : goal.returns-clause-file
-returns-clause-file c = file_follows
-
-pub returns-clause-directory : goal.returns-clause-directory
-returns-clause-directory c = directory_follows

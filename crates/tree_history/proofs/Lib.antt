@@ -1,2 +1,0 @@
-pub mod Faultless
-pub mod Histories

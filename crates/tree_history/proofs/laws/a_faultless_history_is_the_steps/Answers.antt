@@ -1,5 +1,0 @@
-use Rattle.tree_history.proofs.Faultless.{are_stepped}
-use Rattle.tree_history.proofs.laws.a_faultless_history_is_the_steps.Goals as goal
-
-pub returns : goal.returns
-returns c = are_stepped

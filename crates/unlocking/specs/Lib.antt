@@ -1,0 +1,9 @@
+pub mod FromFiles
+pub mod Errors
+pub mod Found
+pub mod Files
+pub mod Finding
+pub mod Secret
+pub mod Reading
+pub mod FromFolder
+pub mod Refusals

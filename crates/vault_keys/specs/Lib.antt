@@ -1,3 +1,0 @@
-pub mod Unlock
-pub mod Errors
-pub mod Found

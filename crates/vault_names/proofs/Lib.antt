@@ -1,0 +1,5 @@
+pub mod ByteLemmas
+pub mod NameLemmas
+pub mod Opening
+pub mod NumberLemmas
+pub mod PartLemmas

@@ -1,0 +1,4 @@
+pub mod Faults
+pub mod Sealed
+pub mod Folder
+pub mod Places

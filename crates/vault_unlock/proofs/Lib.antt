@@ -1,5 +1,0 @@
-pub mod Decoding
-pub mod Lines
-pub mod Passwords
-pub mod ByKind
-pub mod Found

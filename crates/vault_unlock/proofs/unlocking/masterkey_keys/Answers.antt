@@ -1,5 +1,0 @@
-use Rattle.vault_unlock.proofs.Found.{masterkey_long}
-use Rattle.vault_unlock.proofs.unlocking.masterkey_keys.Goals as goal
-
-pub returns-in-TooLong-clause-cause : goal.returns-in-TooLong-clause-cause
-returns-in-TooLong-clause-cause c = λ seen is. masterkey_long c.args.found.now _ c.args.password.now c.in-TooLong.is seen is

@@ -1,4 +1,0 @@
-pub mod Secret
-pub mod Reading
-pub mod Unlock
-pub mod Refusals

@@ -1,0 +1,19 @@
+use Rattle.std.proofs.Common.{refl, arith}
+use Rattle.vaultd.proofs.starting.serve_socket.Goals as goal
+
+pub returns : goal.returns
+returns g c = record {
+  folder = c.in_ok-folder.folder;
+  base = c.in_ok-folder.ensures.base;
+  secret = _;
+  second = _;
+  workers = _;
+  many = (let count = c.in_ok-workers.ensures.count in let ok = c.in_ok-workers.workers.ok in omega arith);
+  new = c.in_ok-workers.ensures.sound;
+  workers_after = _;
+  before = _;
+  after = _;
+  ended = c.run-ended.result;
+  run = c.run-ended.ensures.run;
+  status_is = refl;
+}

@@ -1,0 +1,2 @@
+pub mod RowVersions
+pub mod ShapeVersions
