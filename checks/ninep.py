@@ -1,4 +1,4 @@
-"""A small 9P2000 client over a program's standard streams or a socket, for the checks and benches."""
+"""A small 9P2000 client over a program's standard streams or a socket, for the checks, the model and the benches."""
 
 import os
 import socket
@@ -8,8 +8,8 @@ import subprocess
 NO_FID = 0xFFFFFFFF
 NO_TAG = 0xFFFF
 DIRECTORY = 0x80
-KINDS = {"version": 100, "attach": 104, "walk": 110, "open": 112, "create": 114, "read": 116, "write": 118, "clunk": 120, "remove": 122, "stat": 124}
-KINDS |= {"wstat": 126}
+KINDS = {"version": 100, "auth": 102, "attach": 104, "flush": 108, "walk": 110, "open": 112, "create": 114, "read": 116, "write": 118, "clunk": 120}
+KINDS |= {"remove": 122, "stat": 124, "wstat": 126}  # the types of requests (intro(5)); a reply's is one more
 ERROR = 107
 
 
@@ -19,6 +19,27 @@ class Refused(Exception):
 
 def string(data):
     return struct.pack("<H", len(data)) + data
+
+
+def message(kind, body=b"", tag=1):
+    """A request of a kind, with its fields' bytes."""
+    return struct.pack("<IBH", 7 + len(body), KINDS[kind], tag) + body
+
+
+def times_in(reply, is_list):
+    """Where a reply has the two times (8 bytes) of each of its stats: of an Rstat, or of an Rread that lists a directory."""
+    at = {KINDS["stat"] + 1: 9, KINDS["read"] + 1: 11 if is_list else len(reply)}.get(reply[4], len(reply))
+    while at + 41 <= len(reply):
+        yield at + 25
+        at += 2 + struct.unpack_from("<H", reply, at)[0]
+
+
+def without_times(reply, is_list):
+    """A reply with zeros in place of its stats' times."""
+    blank = bytearray(reply)
+    for at in times_in(reply, is_list):
+        blank[at : at + 8] = bytes(8)
+    return bytes(blank)
 
 
 class Stat:
@@ -56,7 +77,7 @@ class Session:
         self.ask("attach", struct.pack("<II", 0, NO_FID) + string(b"u") + string(b""))
 
     def ask(self, kind, body, tag=1):
-        self.sink.write(struct.pack("<IBH", 7 + len(body), KINDS[kind], tag) + body)
+        self.sink.write(message(kind, body, tag))
         self.sink.flush()
         (size,) = struct.unpack("<I", self.take(4))
         reply = self.take(size - 4)
