@@ -8,7 +8,7 @@ from typing import NamedTuple
 
 TOP = os.path.dirname(os.path.dirname(os.path.abspath(__file__)))
 CRASH = os.path.join(TOP, "crates", "journal_crash", "out", "journal_crash")
-PACKAGE, COMPILER = "the Python package cryptography", "a C compiler, cc"
+PACKAGE, COMPILER, TRACER = "the Python package cryptography", "a C compiler, cc", "strace"
 CRASHES = "crates/journal_crash/out/journal_crash, which the gate builds"
 
 
@@ -41,6 +41,7 @@ CHECKS = [
     Check("clients that change a vault, and kills", ["checks/changes"], smaller=["checks/changes", "--kills", "4"]),
     Check("starts and stops", ["checks/starts"], is_alone=True, unproved=SCRYPT),
     Check("refused memory", ["checks/memory", "10"], (COMPILER,), unproved="the address sanitizer has a malloc of its own"),
+    Check("what is flushed before each answer", ["checks/flushes"], (TRACER,), smaller=["checks/flushes", "--no-make"]),
     Check("kills amid commits", ["bench/crash", "--built", "200"], (CRASHES,)),
     Check("random frames against the model", frames(2000, "--seed", "1"), (PACKAGE,)),
     Check("random frames over damaged vaults", frames(2000, "--damaged", "--seed", "2"), (PACKAGE,)),
@@ -53,6 +54,7 @@ CHECKS = [
 IS_THERE = {
     PACKAGE: lambda: importlib.util.find_spec("cryptography") is not None,
     COMPILER: lambda: shutil.which("cc") is not None,
+    TRACER: lambda: shutil.which("strace") is not None,
     CRASHES: lambda: os.access(CRASH, os.X_OK),
 }
 
