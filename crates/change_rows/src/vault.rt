@@ -4,13 +4,11 @@ use crate::error::RunErr;
 use crate::words::{Node, first_node, words};
 use outside::Refused;
 use outside_mem::{MemFolder, SeedEntropy};
-use siv_mode::VaultKeys;
 use std::alloc::Global;
 use tree_model::{Qid, Reply, Request};
+use vault_keys::VaultKeys;
+use vault_layout::DEFAULT_THRESHOLD;
 use vault_store::{OpenErr, Store};
-
-// Most characters of a sealed name's text at its short place.
-const THRESHOLD: u32 = 220;
 
 // When vaults are opened.
 const OPENED: u32 = 50;
@@ -34,7 +32,7 @@ pub(crate) fn seeded(alloc: Global) -> SeedEntropy {
 /// Opens the vault in a folder, whose keys are zeros.
 pub(crate) fn open(alloc: Global, folder: MemFolder) -> Result<Vault, Refused<MemFolder, OpenErr>> {
     let keys = VaultKeys::new(&[0; 32], &[0; 32]);
-    Store::open(alloc, folder, &keys, THRESHOLD, OPENED)
+    Store::open(alloc, folder, &keys, DEFAULT_THRESHOLD, OPENED)
 }
 
 // A directory that is to be listed, and what is before its nodes' names.

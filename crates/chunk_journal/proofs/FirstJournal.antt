@@ -4,14 +4,16 @@ use Rattle.outside.specs.Disk.{Disk, Path, Node, folder, file, node_at, IsFolder
 use Rattle.outside.specs.Calls.{Told, Changes}
 use Rattle.chunk_journal.proofs.Faults.{closed_free}
 use Rattle.outside.specs.Changes.{Put, Move, CanDo, IsPartOf, done, set_at}
-use Rattle.outside.specs.Images.{Log, now, LeavesOnly, IsSteady, HasKept}
+use Rattle.outside.specs.Images.{Log, now, IsSteady, HasKept}
 use Rattle.outside.proofs.Paths.{set_here, set_there}
 use Rattle.outside.proofs.Moments.{weaker, joined}
 use Rattle.outside.proofs.Told.{through}
 use Rattle.outside.proofs.Told.{both_changed, changed_from}
 use Rattle.deeds.proofs.Again.{at_disk}
 use Rattle.chunk_journal.specs.Journal.{journal_file, new_file, IsClosed, IsAlike, IsReady, RecoversLike, IsQuiet, StaysShut}
+use Rattle.chunk_journal.specs.Stages.{LeavesParts}
 use Rattle.chunk_journal.proofs.Gate.{files_apart, shut_reopens}
+use Rattle.chunk_journal.proofs.Tidy.{move_tidy, put_rest, put_tidy, tidy_joined}
 
 pub record HasNew (old new : Log) : Type 0 where
   pub at_start : IsQuiet old
@@ -22,11 +24,6 @@ pub record HasNew (old new : Log) : Type 0 where
 
 journal_apart : journal_file ≢ new_file
 journal_apart e = files_apart (sym e)
-
-put_rest : (bytes : List ℕ) (d c : Disk) → IsPartOf (Put new_file bytes) d c → (q : Path) → q ≢ new_file → node_at c q ≡ node_at d q
-put_rest bytes d c (inl same) q ne = at_disk q same
-put_rest bytes d c (inr (inl never)) q ne = absurd never
-put_rest bytes d c (inr (inr set)) q ne = at_disk q set.2 ∙ set_there d new_file set.0 q ne
 
 no_folder_file : (o : Option Node) (bytes : List ℕ) → o ≡ Some (file bytes) → o ≡ Some folder → ⊥
 no_folder_file o bytes f is = let e : Some (file bytes) ≡ Some folder = sym f ∙ is in cc
@@ -49,10 +46,13 @@ part_new old c shut part =
     let rest = put_rest (0 ∷ []) (now old) c part in
     still_shut (now old) c (same_closed (now old) c (rest journal_file journal_apart) shut.closed) (λ q ne nm. rest q nm) (put_no_folder (0 ∷ []) (now old) c shut.no_folder part)
 
-pub new_leaves : (old new : Log) → IsQuiet old → LeavesOnly old new (IsPartOf (Put new_file (0 ∷ [])) (now old)) → StaysShut old new
-new_leaves old new shut all = weaker old new _ (RecoversLike (now old)) (λ c part. part_new old c shut part) all
+pub new_leaves : (old new : Log) → IsQuiet old → LeavesParts (Put new_file (0 ∷ [])) old new → StaysShut old new
+new_leaves old new shut all = record {
+  recovers = weaker old new _ (RecoversLike (now old)) (λ c part. part_new old c shut part) all.images;
+  tidy = put_tidy (0 ∷ []) old new shut.steady all;
+}
 
-pub has_new : (old new : Log) → IsQuiet old → HasKept (Put new_file (0 ∷ [])) old new → LeavesOnly old new (IsPartOf (Put new_file (0 ∷ [])) (now old)) → HasNew old new
+pub has_new : (old new : Log) → IsQuiet old → HasKept (Put new_file (0 ∷ [])) old new → LeavesParts (Put new_file (0 ∷ [])) old new → HasNew old new
 has_new old new shut kept all = record {
   at_start = shut;
   stays = new_leaves old new shut all;
@@ -81,8 +81,11 @@ part_moved old mid c has (inr (inl moved)) =
     still_shut (now old) c (inr (0 ∷ [], moved_here (now mid) c moved.2 ∙ has.here, gate_shut (0 ∷ []) refl)) (λ q ne nm. moved_rest (now mid) c moved.2 q ne nm ∙ has.rest q nm) (λ is. moved_away (now mid) c moved.2 is)
 part_moved old mid c has (inr (inr set)) = absurd set.1
 
-pub move_leaves : (old mid new : Log) → HasNew old mid → LeavesOnly mid new (IsPartOf (Move new_file journal_file) (now mid)) → StaysShut old new
-move_leaves old mid new has all = joined old mid new (RecoversLike (now old)) has.stays (weaker mid new _ (RecoversLike (now old)) (λ c part. part_moved old mid c has part) all)
+pub move_leaves : (old mid new : Log) → HasNew old mid → LeavesParts (Move new_file journal_file) mid new → StaysShut old new
+move_leaves old mid new has all = record {
+  recovers = joined old mid new (RecoversLike (now old)) has.stays.recovers (weaker mid new _ (RecoversLike (now old)) (λ c part. part_moved old mid c has part) all.images);
+  tidy = tidy_joined old mid new has.stays.tidy (move_tidy mid new has.steady all);
+}
 
 pub at_rest : (old mid new : Log) → HasNew old mid → HasKept (Move new_file journal_file) mid new → IsReady new × IsAlike (now old) (now new)
 at_rest old mid new has kept = (
@@ -108,10 +111,10 @@ can_move old mid has = record {
 -- ---- the same of logs that are told
 
 abbrev PutParts : Path → Log → Log → Type 0
-PutParts beside old new = LeavesOnly old new (IsPartOf (Put beside (0 ∷ [])) (now old))
+PutParts beside old new = LeavesParts (Put beside (0 ∷ [])) old new
 
 abbrev MoveParts : Path → Path → Log → Log → Type 0
-MoveParts beside path old new = LeavesOnly old new (IsPartOf (Move beside path) (now old))
+MoveParts beside path old new = LeavesParts (Move beside path) old new
 
 module _ (beside : Path) (is_new : beside ≡ new_file) where
   pub told_new_leaves : (a b : Option Log) → Told a IsQuiet → Changes a b (PutParts beside) → Changes a b StaysShut

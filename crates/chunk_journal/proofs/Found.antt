@@ -7,7 +7,7 @@ use Rattle.deeds.specs.Deeds.{PlainDeed, DoesAll, in_order}
 use Rattle.deeds.specs.Applying.{Applies}
 use Rattle.deeds.proofs.Applying.{applies_one}
 use Rattle.deeds.proofs.Doing.{same_run}
-use Rattle.chunk_journal.specs.Journal.{HoldsBatch, IsFound, IsUnheld, IsReopenable, RecoversTo, RecoversLike, Recovered, IsAlike, StaysRecovered}
+use Rattle.chunk_journal.specs.Journal.{HoldsBatch, IsFound, IsUnheld, IsReopenable, RecoversTo, RecoversLike, Recovered, IsAlike, StaysRecovered, TidySince}
 use Rattle.chunk_journal.specs.Opening.{IsOpening, StaysOpening, HasOpened}
 use Rattle.chunk_journal.specs.Commits.{StaysFound, StaysAsFound}
 use Rattle.chunk_journal.proofs.Gate.{closed_not_held, one_held}
@@ -89,6 +89,12 @@ recovered_once = once Recovered Applies applied
 
 pub stays_as_found : (old new : Log) → StaysOpening old new → IsReopenable (now old) → StaysAsFound old new
 stays_as_found = stays_like Recovered Applies applied
+
+-- ---- what isn't on the disk
+
+pub stays_tidy : (old new : Log) → StaysOpening old new → IsReopenable (now old) → TidySince (suc (moment old)) new
+stays_tidy old new (inl same) fit m from to = absurd (omega (arith, from, to, ap moment same))
+stays_tidy old new (inr opening) fit m from to = (opening.tidy fit.repeatable).each m from to
 
 -- ---- an opening that ended well
 

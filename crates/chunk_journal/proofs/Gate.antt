@@ -18,7 +18,7 @@ use Rattle.outside.specs.Calls.{Told, Changes}
 use Rattle.outside.proofs.Told.{through}
 use Rattle.outside.proofs.Told.{both_changed, changed_from}
 use Rattle.outside.proofs.Moments.{weaker, joined}
-use Rattle.deeds.specs.Deeds.{PlainDeed, DoesAll, AreApart, Unnamed, IsAmid, StaysAmid, IsSameDisk}
+use Rattle.deeds.specs.Deeds.{PlainDeed, DoesAll, AreApart, LogGoesOn, Unnamed, IsAmid, StaysAmid, IsSameDisk}
 use Rattle.deeds.specs.Applying.{Applies, GoesAsFar, StaysApplied}
 use Rattle.deeds.proofs.Applying.{apart_part, applied_again, applies_one, applies_whole, unnamed_part, whole_stays}
 use Rattle.deeds.proofs.Again.{at_disk, again_amid}
@@ -28,8 +28,9 @@ use Rattle.deeds.proofs.Phases.{apart_ordered, unnamed_ordered}
 use Rattle.deeds.specs.Deeds.{in_order}
 use Rattle.deeds.specs.Grammar.{behind_gate, IsBatch}
 use Rattle.deeds.proofs.Doing.{same_run}
-use Rattle.chunk_journal.specs.Stages.{IsShutBeside, KeepsShut, HasStaged}
+use Rattle.chunk_journal.specs.Stages.{LeavesParts, IsShutBeside, KeepsShut, HasStaged}
 use Rattle.chunk_journal.specs.Journal.{journal_file, new_file, journal_name, new_name, names_apart, IsAlike, IsBeforeOrAfter, IsReady, IsReopenable, IsRepeatable, AnyMoment, HasCommitted, RecoversTo, RecoversLike, Recovered, RecoveredLike, IsClosed, IsFound, StaysRecovered, HasRecovered, HoldsBatch}
+use Rattle.chunk_journal.proofs.Tidy.{deeds_tidy, pieces_tidy, tidy_joined, write_tidy}
 
 pub files_apart : new_file ≢ journal_file
 files_apart e = names_apart (cc)
@@ -116,10 +117,6 @@ deeds_cause ds errors.Failed log a b F can cause unfit = record { later = cause.
 deeds_cause ds (errors.Unfit index) None a b F can cause unfit = record { later = cause.later; rose = λ _. unfit }
 deeds_cause ds (errors.Unfit index) (Some l) a b F can cause unfit = absurd (refused_cannot ds index (now l) can.0 unfit can.1)
 
--- what a write that was synced leaves at each moment
-abbrev pub LeavesParts : Path → ℕ → List ℕ → Log → Log → Type 0
-LeavesParts path at bytes old new = LeavesOnly old new (IsPartOf (Write path at bytes) (now old))
-
 -- ---- the stages
 
 module _ (bs : List PlainDeed) (batch : IsBatch bs) (repeatable : IsRepeatable bs) where
@@ -171,8 +168,11 @@ module _ (bs : List PlainDeed) (batch : IsBatch bs) (repeatable : IsRepeatable b
 
   -- the batch follows the closed gate
   pub staged_leaves : (old new : Log) → IsReady old → KeepsShut old new → AnyMoment bs old new
-  staged_leaves old new ready keeps = λ after run. weaker old new (IsShutBeside (now old)) (IsBeforeOrAfter (now old) after)
-      (λ c b. (c, inl (inr (b.bytes, b.here, b.shut), refl), inl (λ q ne nm. b.alike q ne), shut_reopens c (inr (b.bytes, b.here, b.shut)) (λ is. ready.no_folder (sym (b.alike new_file files_apart) ∙ is)))) keeps
+  staged_leaves old new ready keeps = record {
+    recovers = λ after run. weaker old new (IsShutBeside (now old)) (IsBeforeOrAfter (now old) after)
+        (λ c b. (c, inl (inr (b.bytes, b.here, b.shut), refl), inl (λ q ne nm. b.alike q ne), shut_reopens c (inr (b.bytes, b.here, b.shut)) (λ is. ready.no_folder (sym (b.alike new_file files_apart) ∙ is)))) keeps.images;
+    tidy = pieces_tidy old new ready.steady keeps;
+  }
 
   pub staged : (old new : Log) → IsReady old → KeepsShut old new → HasStaged bs old new → IsStaged old new
   staged old new ready keeps has = record {
@@ -202,11 +202,14 @@ module _ (bs : List PlainDeed) (batch : IsBatch bs) (repeatable : IsRepeatable b
       (λ (shut : torn.0 ≡ 1 → ⊥). let closed : IsClosed c = inr (w.bytes, w.here, λ h. shut (sym (ap (λ (l : List ℕ). get_or l 0 0) torn.1) ∙ h)) in (c, inl (closed, refl), inl alike, shut_reopens c closed clear))
       (cases_eq torn.0 1)
 
-  pub gate_leaves : (old mid new : Log) → IsStaged old mid → LeavesOnly mid new (IsPartOf (Write journal_file 0 (1 ∷ [])) (now mid)) → AnyMoment bs old new
-  gate_leaves old mid new stage all = λ after run. joined old mid new (IsBeforeOrAfter (now old) after) (stage.any after run)
-      (weaker mid new _ (IsBeforeOrAfter (now old) after) (λ c part. part_opened old mid after c stage run part) all)
+  pub gate_leaves : (old mid new : Log) → IsStaged old mid → LeavesParts (Write journal_file 0 (1 ∷ [])) mid new → AnyMoment bs old new
+  gate_leaves old mid new stage all = record {
+    recovers = λ after run. joined old mid new (IsBeforeOrAfter (now old) after) (stage.any.recovers after run)
+        (weaker mid new _ (IsBeforeOrAfter (now old) after) (λ c part. part_opened old mid after c stage run part) all.images);
+    tidy = tidy_joined old mid new stage.any.tidy (write_tidy 0 (1 ∷ []) mid new stage.steady all);
+  }
 
-  pub opened : (old mid new : Log) → IsStaged old mid → HasKept (Write journal_file 0 (1 ∷ [])) mid new → LeavesOnly mid new (IsPartOf (Write journal_file 0 (1 ∷ [])) (now mid)) → IsOpened old new
+  pub opened : (old mid new : Log) → IsStaged old mid → HasKept (Write journal_file 0 (1 ∷ [])) mid new → LeavesParts (Write journal_file 0 (1 ∷ [])) mid new → IsOpened old new
   opened old mid new stage kept all = record {
     at_start = stage.at_start;
     any = gate_leaves old mid new stage all;
@@ -232,18 +235,21 @@ module _ (bs : List PlainDeed) (batch : IsBatch bs) (repeatable : IsRepeatable b
         held_reopens c bs repeatable held (λ is. open_gate.at_start.no_folder (sym (amid.rest new_file un ∙ open_gate.alike new_file files_apart) ∙ is)),
       )
 
-  pub deeds_leave : (old mid new : Log) → IsOpened old mid → StaysAmid ds mid new → AnyMoment bs old new
-  deeds_leave old mid new open_gate stays = λ after run.
+  pub deeds_leave : (old mid new : Log) → IsOpened old mid → LogGoesOn mid new → StaysAmid ds mid new → AnyMoment bs old new
+  deeds_leave old mid new open_gate grown stays =
       let all = stays ds (now mid) apart (λ x one. one) (amid_start ds (now mid)) (λ image is. subst (IsAmid ds (now mid)) (sym (open_gate.steady.durable image is)) (amid_start ds (now mid))) in
-      joined old mid new (IsBeforeOrAfter (now old) after) (open_gate.any after run)
-      (weaker mid new (IsAmid ds (now mid)) (IsBeforeOrAfter (now old) after) (λ c amid. amid_recovers old mid after c open_gate run amid) all.1)
+      record {
+        recovers = λ after run. joined old mid new (IsBeforeOrAfter (now old) after) (open_gate.any.recovers after run)
+            (weaker mid new (IsAmid ds (now mid)) (IsBeforeOrAfter (now old) after) (λ c amid. amid_recovers old mid after c open_gate run amid) all.1);
+        tidy = tidy_joined old mid new open_gate.any.tidy (deeds_tidy bs mid new repeatable (batch, open_gate.rest, open_gate.here) open_gate.steady grown all.1);
+      }
 
-  pub deeds_done : (old mid new : Log) → IsOpened old mid → StaysAmid ds mid new → IsSteady new × DoesAll ds (now mid) (now new) → AreDone old new
-  deeds_done old mid new open_gate stays done =
+  pub deeds_done : (old mid new : Log) → IsOpened old mid → LogGoesOn mid new → StaysAmid ds mid new → IsSteady new × DoesAll ds (now mid) (now new) → AreDone old new
+  deeds_done old mid new open_gate grown stays done =
       let all = stays ds (now mid) apart (λ x one. one) (amid_start ds (now mid)) (λ image is. subst (IsAmid ds (now mid)) (sym (open_gate.steady.durable image is)) (amid_start ds (now mid))) in
       record {
         at_start = open_gate.at_start;
-        any = deeds_leave old mid new open_gate stays;
+        any = deeds_leave old mid new open_gate grown stays;
         steady = done.0;
         rest = open_gate.rest;
         here = all.0.rest journal_file uj ∙ open_gate.here;
@@ -270,9 +276,12 @@ module _ (bs : List PlainDeed) (batch : IsBatch bs) (repeatable : IsRepeatable b
       (λ (shut : torn.0 ≡ 1 → ⊥). let closed : IsClosed c = inr (w.bytes, w.here, λ h. shut (sym (ap (λ (l : List ℕ). get_or l 0 0) torn.1) ∙ h)) in (c, inl (closed, refl), inr (λ q ne nm. w.rest q ne ∙ alike q ne nm), shut_reopens c closed clear))
       (cases_eq torn.0 1)
 
-  pub close_leaves : (old mid new : Log) → AreDone old mid → LeavesOnly mid new (IsPartOf (Write journal_file 0 (0 ∷ [])) (now mid)) → AnyMoment bs old new
-  close_leaves old mid new all leaves = λ after run. joined old mid new (IsBeforeOrAfter (now old) after) (all.any after run)
-      (weaker mid new _ (IsBeforeOrAfter (now old) after) (λ c part. part_closed old mid after c all run part) leaves)
+  pub close_leaves : (old mid new : Log) → AreDone old mid → LeavesParts (Write journal_file 0 (0 ∷ [])) mid new → AnyMoment bs old new
+  close_leaves old mid new all leaves = record {
+    recovers = λ after run. joined old mid new (IsBeforeOrAfter (now old) after) (all.any.recovers after run)
+        (weaker mid new _ (IsBeforeOrAfter (now old) after) (λ c part. part_closed old mid after c all run part) leaves.images);
+    tidy = tidy_joined old mid new all.any.tidy (write_tidy 0 (0 ∷ []) mid new all.steady leaves);
+  }
 
   pub closed : (old mid new : Log) → AreDone old mid → HasKept (Write journal_file 0 (0 ∷ [])) mid new → HasCommitted bs old new
   closed old mid new all kept = record {
@@ -300,8 +309,8 @@ module _ (bs : List PlainDeed) (batch : IsBatch bs) (repeatable : IsRepeatable b
     kept_here : (at : ℕ) (bytes : List ℕ) (a b : Option Log) → Changes a b (HasKept (Write path at bytes)) → Changes a b (HasKept (Write journal_file at bytes))
     kept_here at bytes a b is = subst (λ (p : Path). Changes a b (HasKept (Write p at bytes))) is_path is
 
-    parts_here : (at : ℕ) (bytes : List ℕ) (a b : Option Log) → Changes a b (LeavesParts path at bytes) → Changes a b (LeavesParts journal_file at bytes)
-    parts_here at bytes a b is = subst (λ (p : Path). Changes a b (LeavesParts p at bytes)) is_path is
+    parts_here : (at : ℕ) (bytes : List ℕ) (a b : Option Log) → Changes a b (LeavesParts (Write path at bytes)) → Changes a b (LeavesParts (Write journal_file at bytes))
+    parts_here at bytes a b is = subst (λ (p : Path). Changes a b (LeavesParts (Write p at bytes))) is_path is
 
     pub told_staged_leaves : (a b : Option Log) → Told a IsReady → Changes a b KeepsShut → Changes a b (AnyMoment bs)
     told_staged_leaves a b ready keeps = changed_from a b IsReady KeepsShut (AnyMoment bs) staged_leaves ready keeps
@@ -309,22 +318,24 @@ module _ (bs : List PlainDeed) (batch : IsBatch bs) (repeatable : IsRepeatable b
     pub told_staged : (a b : Option Log) → Told a IsReady → Changes a b KeepsShut → Changes a b (HasStaged bs) → Changes a b IsStaged
     told_staged a b ready keeps has = changed_from a b IsReady (λ x y. KeepsShut x y × HasStaged bs x y) IsStaged (λ x y r p. staged x y r p.0 p.1) ready (both_changed a b KeepsShut (HasStaged bs) keeps has)
 
-    pub told_gate_leaves : (a b c : Option Log) → Changes a b IsStaged → Changes b c (LeavesParts path 0 (1 ∷ [])) → Changes a c (AnyMoment bs)
-    told_gate_leaves a b c stage parts = through a b c IsStaged (LeavesParts journal_file 0 (1 ∷ [])) (AnyMoment bs) gate_leaves stage (parts_here 0 (1 ∷ []) b c parts)
+    pub told_gate_leaves : (a b c : Option Log) → Changes a b IsStaged → Changes b c (LeavesParts (Write path 0 (1 ∷ []))) → Changes a c (AnyMoment bs)
+    told_gate_leaves a b c stage parts = through a b c IsStaged (LeavesParts (Write journal_file 0 (1 ∷ []))) (AnyMoment bs) gate_leaves stage (parts_here 0 (1 ∷ []) b c parts)
 
-    pub told_opened : (a b c : Option Log) → Changes a b IsStaged → Changes b c (HasKept (Write path 0 (1 ∷ []))) → Changes b c (LeavesParts path 0 (1 ∷ [])) → Changes a c IsOpened
-    told_opened a b c stage kept parts = through a b c IsStaged (λ x y. HasKept (Write journal_file 0 (1 ∷ [])) x y × LeavesParts journal_file 0 (1 ∷ []) x y) IsOpened (λ x y z s p. opened x y z s p.0 p.1) stage
-        (both_changed b c (HasKept (Write journal_file 0 (1 ∷ []))) (LeavesParts journal_file 0 (1 ∷ [])) (kept_here 0 (1 ∷ []) b c kept) (parts_here 0 (1 ∷ []) b c parts))
+    pub told_opened : (a b c : Option Log) → Changes a b IsStaged → Changes b c (HasKept (Write path 0 (1 ∷ []))) → Changes b c (LeavesParts (Write path 0 (1 ∷ []))) → Changes a c IsOpened
+    told_opened a b c stage kept parts = through a b c IsStaged (λ x y. HasKept (Write journal_file 0 (1 ∷ [])) x y × LeavesParts (Write journal_file 0 (1 ∷ [])) x y) IsOpened (λ x y z s p. opened x y z s p.0 p.1) stage
+        (both_changed b c (HasKept (Write journal_file 0 (1 ∷ []))) (LeavesParts (Write journal_file 0 (1 ∷ []))) (kept_here 0 (1 ∷ []) b c kept) (parts_here 0 (1 ∷ []) b c parts))
 
-    pub told_deeds_leave : (a b c : Option Log) → Changes a b IsOpened → Changes b c (StaysAmid ds) → Changes a c (AnyMoment bs)
-    told_deeds_leave a b c open_gate stays = through a b c IsOpened (StaysAmid ds) (AnyMoment bs) deeds_leave open_gate stays
+    pub told_deeds_leave : (a b c : Option Log) → Changes a b IsOpened → Changes b c LogGoesOn → Changes b c (StaysAmid ds) → Changes a c (AnyMoment bs)
+    told_deeds_leave a b c open_gate grown stays = through a b c IsOpened (λ x y. LogGoesOn x y × StaysAmid ds x y) (AnyMoment bs) (λ x y z o p. deeds_leave x y z o p.0 p.1) open_gate
+        (both_changed b c LogGoesOn (StaysAmid ds) grown stays)
 
-    pub told_done : (a b c : Option Log) → Changes a b IsOpened → Changes b c (StaysAmid ds) → Changes b c (λ x y. IsSteady y × DoesAll ds (now x) (now y)) → Changes a c AreDone
-    told_done a b c open_gate stays done = through a b c IsOpened (λ x y. StaysAmid ds x y × (IsSteady y × DoesAll ds (now x) (now y))) AreDone (λ x y z o p. deeds_done x y z o p.0 p.1) open_gate
-        (both_changed b c (StaysAmid ds) (λ x y. IsSteady y × DoesAll ds (now x) (now y)) stays done)
+    pub told_done : (a b c : Option Log) → Changes a b IsOpened → Changes b c LogGoesOn → Changes b c (StaysAmid ds) → Changes b c (λ x y. IsSteady y × DoesAll ds (now x) (now y)) → Changes a c AreDone
+    told_done a b c open_gate grown stays done =
+        through a b c IsOpened (λ x y. (LogGoesOn x y × StaysAmid ds x y) × (IsSteady y × DoesAll ds (now x) (now y))) AreDone (λ x y z o p. deeds_done x y z o p.0.0 p.0.1 p.1) open_gate
+        (both_changed b c (λ x y. LogGoesOn x y × StaysAmid ds x y) (λ x y. IsSteady y × DoesAll ds (now x) (now y)) (both_changed b c LogGoesOn (StaysAmid ds) grown stays) done)
 
-    pub told_close_leaves : (a b c : Option Log) → Changes a b AreDone → Changes b c (LeavesParts path 0 (0 ∷ [])) → Changes a c (AnyMoment bs)
-    told_close_leaves a b c all parts = through a b c AreDone (LeavesParts journal_file 0 (0 ∷ [])) (AnyMoment bs) close_leaves all (parts_here 0 (0 ∷ []) b c parts)
+    pub told_close_leaves : (a b c : Option Log) → Changes a b AreDone → Changes b c (LeavesParts (Write path 0 (0 ∷ []))) → Changes a c (AnyMoment bs)
+    told_close_leaves a b c all parts = through a b c AreDone (LeavesParts (Write journal_file 0 (0 ∷ []))) (AnyMoment bs) close_leaves all (parts_here 0 (0 ∷ []) b c parts)
 
     pub told_closed : (a b c : Option Log) → Changes a b AreDone → Changes b c (HasKept (Write path 0 (0 ∷ []))) → Changes a c (HasCommitted bs)
     told_closed a b c all kept = through a b c AreDone (HasKept (Write journal_file 0 (0 ∷ []))) (HasCommitted bs) closed all (kept_here 0 (0 ∷ []) b c kept)
@@ -358,10 +369,11 @@ module _ (bs : List PlainDeed) (batch : IsBatch bs) (repeatable : IsRepeatable b
   amid_all : (old new : Log) → IsFound bs old → StaysAmid ds old new → IsAmid ds (now old) (now new) × LeavesOnly old new (IsAmid ds (now old))
   amid_all old new found stays = stays ds (now old) apart (λ x one. one) (amid_start ds (now old)) (λ image is. subst (IsAmid ds (now old)) (sym (found.steady.durable image is)) (amid_start ds (now old)))
 
-  pub found_leaves : (old new : Log) → IsFound bs old → StaysAmid ds old new → StaysApplied ds old new → StaysRecovered bs old new
-  found_leaves old new found stays applied = record {
+  pub found_leaves : (old new : Log) → IsFound bs old → LogGoesOn old new → StaysAmid ds old new → StaysApplied ds old new → StaysRecovered bs old new
+  found_leaves old new found grown stays applied = record {
     whole = λ after run. weaker old new (IsAmid ds (now old)) (RecoversLike after) (λ c amid. found_amid old after c found run amid) (amid_all old new found stays).1;
     applied = applied_all old new found applied;
+    tidy = deeds_tidy bs old new repeatable found.open_gate found.steady grown (amid_all old new found stays).1;
   }
 
   -- done again, with the gate still open
@@ -375,11 +387,11 @@ module _ (bs : List PlainDeed) (batch : IsBatch bs) (repeatable : IsRepeatable b
     pub after : (after : Disk) → DoesAll ds (now old) after → now new ≡ after
     pub again : (more : Disk) × DoesAll ds (now new) more × IsSameDisk more (now new)
 
-  pub redone : (old new : Log) → IsFound bs old → StaysAmid ds old new → IsSteady new × DoesAll ds (now old) (now new) → AreRedone old new
-  redone old new found stays done =
+  pub redone : (old new : Log) → IsFound bs old → LogGoesOn old new → StaysAmid ds old new → IsSteady new × DoesAll ds (now old) (now new) → AreRedone old new
+  redone old new found grown stays done =
       let all = amid_all old new found stays in
       record {
-        stays = found_leaves old new found stays (whole_stays ds old new done.1 stays);
+        stays = found_leaves old new found grown stays (whole_stays ds old new done.1 stays);
         steady = done.0;
         did = done.1;
         rest = found.open_gate.1;
@@ -403,17 +415,18 @@ module _ (bs : List PlainDeed) (batch : IsBatch bs) (repeatable : IsRepeatable b
       (λ (shut : torn.0 ≡ 1 → ⊥). let closed : IsClosed c = inr (w.bytes, w.here, λ h. shut (sym (ap (λ (l : List ℕ). get_or l 0 0) torn.1) ∙ h)) in (c, inl (closed, refl), (λ q ne nm. w.rest q ne ∙ at_disk q (all.after after run)), shut_reopens c closed clear))
       (cases_eq torn.0 1)
 
-  pub shut_leaves : (old mid new : Log) → AreRedone old mid → LeavesOnly mid new (IsPartOf (Write journal_file 0 (0 ∷ [])) (now mid)) → StaysRecovered bs old new
+  pub shut_leaves : (old mid new : Log) → AreRedone old mid → LeavesParts (Write journal_file 0 (0 ∷ [])) mid new → StaysRecovered bs old new
   shut_leaves old mid new all leaves = record {
     whole = whole;
     applied = λ after applies.
         let same : after ≡ now mid = applies_one ds (now old) after (now mid) applies (applies_whole ds (now old) (now mid) all.did) in
         weaker old new (RecoversLike after) (RecoveredLike after) (λ c like. (like.0, recovers_applied c like.0 like.1, like.2, like.3)) (whole after (subst (λ (d : Disk). DoesAll ds (now old) d) (sym same) all.did));
+    tidy = tidy_joined old mid new all.stays.tidy (write_tidy 0 (0 ∷ []) mid new all.steady leaves);
   }
     where
       whole : (after : Disk) → DoesAll ds (now old) after → LeavesOnly old new (RecoversLike after)
       whole after run = joined old mid new (RecoversLike after) (all.stays.whole after run)
-          (weaker mid new _ (RecoversLike after) (λ c part. part_shut old mid after c all run part) leaves)
+          (weaker mid new _ (RecoversLike after) (λ c part. part_shut old mid after c all run part) leaves.images)
 
   pub recovered : (old mid new : Log) → AreRedone old mid → HasKept (Write journal_file 0 (0 ∷ [])) mid new → HasRecovered bs old new
   recovered old mid new all kept = record {

@@ -1,3 +1,4 @@
+pub mod Tidy
 pub mod Gate
 pub mod FirstJournal
 pub mod Faults
@@ -5,6 +6,8 @@ pub mod Pieces
 pub mod Commits
 pub mod Damage
 pub mod Openings
+pub mod LoosePaths
+pub mod Flushed
 pub mod Found
 pub mod Undamaged
 pub mod Whole

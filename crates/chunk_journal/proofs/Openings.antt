@@ -2,19 +2,22 @@
 use Rattle.std.proofs.Common.{◌≡◌, ◌≢◌, ◌⊎◌, ℕ, List, [], ◌∷◌, drop, true, false, is_some, Option, Some, None, refl, sym, ap, subst, ◌∙◌, inl, inr}
 use Rattle.outside.specs.Disk.{Disk, Path, node_at}
 use Rattle.outside.specs.Calls.{Told, Changes}
-use Rattle.outside.specs.Changes.{Write}
+use Rattle.outside.specs.Changes.{Change, Write}
 use Rattle.outside.specs.Images.{Log, Synced, adds, now, IsImage, IsSteady, HasKept, LeavesOnly}
 use Rattle.outside.proofs.Moments.{started}
+use Rattle.outside.proofs.Steady.{begun}
 use Rattle.deeds.specs.Deeds.{PlainDeed, DoesAll, LogGoesOn, in_order}
 use Rattle.deeds.specs.Applying.{Applies}
 use Rattle.deeds.proofs.Again.{at_disk}
-use Rattle.deeds.proofs.Growing.{goes_nowhere, goes_on_on, leaves_go_on}
+use Rattle.deeds.proofs.Growing.{goes_nowhere, goes_on_on, synced_goes_on}
 use Rattle.chunk_journal.specs.declared.fault.JournalErr.{JournalErr}
 use Rattle.chunk_journal.specs.declared.fault.JournalErr.TheVariants.{Device, JournalDamaged, Memory}
-use Rattle.chunk_journal.specs.Journal.{journal_file, new_file, HoldsBatch, IsClosed, RecoversLike, RecoveredLike, IsAlike, IsQuiet, IsFound, IsReopenable, IsRepeatable, StaysRecovered, IsUnheld}
+use Rattle.chunk_journal.specs.Journal.{journal_file, new_file, HoldsBatch, IsClosed, RecoversLike, RecoveredLike, IsAlike, IsQuiet, IsFound, IsReopenable, IsRepeatable, StaysRecovered, StaysTidy, IsUnheld}
+use Rattle.chunk_journal.specs.Stages.{LeavesParts}
 use Rattle.chunk_journal.specs.Opening.{HasFolder, HasLen, IsUnfitAt, IsDamagedAt, LeavesFolder, IsBadBehindGate, IfDamaged, IsLeftApplied, IsOpening, HasOpened}
 use Rattle.chunk_journal.proofs.Gate.{files_apart, held_reopens, written_here, written_there, one_held}
 use Rattle.chunk_journal.proofs.Damage.{recovers_undamaged, held_bytes}
+use Rattle.chunk_journal.proofs.Tidy.{steady_tidy}
 
 -- ---- what is told before a change, of what is told after it
 
@@ -30,6 +33,10 @@ damaged_by (JournalDamaged at) P Q f p = f at p
 damaged_by Memory P Q f p = tt
 
 -- ---- closing
+
+-- no change was begun
+pub parts_begun : (change : Change) (log : Log) → IsSteady log → LeavesParts change log log
+parts_begun change log steady = record { images = begun log change steady; grown = goes_nowhere log }
 
 -- what closing leaves beside the journal
 abbrev pub ClosesBeside : Log → Log → Type 0
@@ -71,29 +78,38 @@ found_stays bs repeatable log found = record {
       subst (RecoversLike after) (sym (found.steady.durable c image)) (after, inr (bs, found.open_gate, run), (λ q ne nm. refl), again));
   applied = λ after applies. started log (RecoveredLike after) (λ c image.
       subst (RecoveredLike after) (sym (found.steady.durable c image)) (after, inr (bs, found.open_gate, applies), (λ q ne nm. refl), again));
+  tidy = steady_tidy log found.steady;
 }
   where
     again : IsReopenable (now log)
     again = held_reopens (now log) bs repeatable found.open_gate found.no_folder
 
-opening : (old mid new : Log) → HasSettled old mid → LogGoesOn mid new → (((deeds : List PlainDeed) → IsFound deeds mid → ⊥) → new ≡ mid) → ((deeds : List PlainDeed) → IsRepeatable deeds → IsFound deeds mid → StaysRecovered deeds mid new) → IsOpening old new
-opening old mid new settled grown untouched stays =
+-- the batch of a disk, if it holds one, can be repeated
+abbrev HoldsRepeatable : Disk → Type 0
+HoldsRepeatable disk = (deeds : List PlainDeed) → HoldsBatch disk deeds → IsRepeatable deeds
+
+opening : (old mid new : Log) → HasSettled old mid → LogGoesOn mid new → (((deeds : List PlainDeed) → IsFound deeds mid → ⊥) → new ≡ mid) → ((deeds : List PlainDeed) → IsRepeatable deeds → IsFound deeds mid → StaysRecovered deeds mid new)
+    → (HoldsRepeatable (now mid) → StaysTidy mid new) → IsOpening old new
+opening old mid new settled grown untouched stays tidy =
     let e = settled.is in
     record {
-      grown = goes_on_on old mid new (leaves_go_on old mid (IsImage old) settled.begun) grown;
+      grown = goes_on_on old mid new (synced_goes_on old mid settled.is) grown;
       begun = subst (λ (l : Log). LeavesOnly old l (IsImage old)) e settled.begun;
       steady = subst IsSteady e settled.steady;
       untouched = subst (λ (l : Log). ((deeds : List PlainDeed) → IsFound deeds l → ⊥) → new ≡ l) e untouched;
       stays = subst (λ (l : Log). (deeds : List PlainDeed) → IsRepeatable deeds → IsFound deeds l → StaysRecovered deeds l new) e stays;
+      tidy = subst (λ (l : Log). HoldsRepeatable (now l) → StaysTidy l new) e tidy;
     }
 
 pub unopened : (old mid new : Log) → HasSettled old mid → new ≡ mid → IsOpening old new
 unopened old mid new settled same = opening old mid new settled (subst (LogGoesOn mid) (sym same) (goes_nowhere mid)) (λ none. same) (λ deeds repeatable found. subst (StaysRecovered deeds mid) (sym same) (found_stays deeds repeatable mid found))
+    (λ repeatable. subst (StaysTidy mid) (sym same) (steady_tidy mid settled.steady))
 
 pub reopened : (bs : List PlainDeed) (old mid new : Log) → HasSettled old mid → IsFound bs mid → LogGoesOn mid new → (IsRepeatable bs → StaysRecovered bs mid new) → IsOpening old new
 reopened bs old mid new settled found grown stays = opening old mid new settled grown (λ none. absurd (none bs found)) (λ deeds repeatable other.
     let same : bs ≡ deeds = one_held (now mid) bs deeds found.open_gate other.open_gate in
     subst (λ (ds : List PlainDeed). StaysRecovered ds mid new) same (stays (subst IsRepeatable (sym same) repeatable)))
+    (λ repeatable. (stays (repeatable bs found.open_gate)).tidy)
 
 now_settled : (old mid : Log) → HasSettled old mid → now mid ≡ now old
 now_settled old mid settled = ap now settled.is

@@ -8,6 +8,7 @@ use Rattle.outside.specs.Images.{Did, Broke, Synced, Log, now, IsImage, adds, Le
 use Rattle.outside.proofs.Moments.{started, goes_to, ends}
 use Rattle.outside.proofs.Steady.{sound_tree}
 use Rattle.deeds.proofs.Again.{at_disk}
+use Rattle.deeds.proofs.Growing.{broke_goes_on, did_goes_on, goes_nowhere, goes_on_on, synced_goes_on}
 use Rattle.chunk_journal.specs.Journal.{journal_file, IsReady}
 use Rattle.chunk_journal.specs.Stages.{IsShutBeside, KeepsShut, HasFront}
 use Rattle.chunk_journal.proofs.Gate.{rewritten, written_here, written_there}
@@ -30,21 +31,30 @@ ready_beside : (log : Log) → IsReady log → IsShutBeside (now log) (now log)
 ready_beside log ready = record { bytes = ready.gate ∷ ready.rest; here = ready.here; shut = ready.shut; alike = λ q ne. refl }
 
 pub pieces_begun : (log : Log) → IsReady log → KeepsShut log log
-pieces_begun log ready = started log (IsShutBeside (now log)) (λ c image. subst (IsShutBeside (now log)) (sym (ready.steady.durable c image)) (ready_beside log ready))
+pieces_begun log ready = record {
+  images = started log (IsShutBeside (now log)) (λ c image. subst (IsShutBeside (now log)) (sym (ready.steady.durable c image)) (ready_beside log ready));
+  grown = goes_nowhere log;
+}
 
 pub front_begun : (log : Log) → IsReady log → HasFront [] (now log) (now log)
 front_begun log ready = record { gate = ready.gate; shut = ready.shut; rest = ready.rest; here = ready.here; alike = λ q ne. refl }
 
 pub piece_did : (at : ℕ) (bytes : List ℕ) (old mid new : Log) → KeepsShut old mid → HasDone (Write journal_file (1 + at) bytes) mid new → KeepsShut old new
-piece_did at bytes old mid new keeps did = goes_to old mid new (Did (Write journal_file (1 + at) bytes)) (IsShutBeside (now old)) keeps did.1 (λ c image.
-    let i = subst (λ (l : Log). IsImage l c) did.1 image in
-    shut_part at bytes (now old) i.0 c (ends old mid (IsShutBeside (now old)) keeps i.0 i.1) i.2)
+piece_did at bytes old mid new keeps did = record {
+  images = goes_to old mid new (Did (Write journal_file (1 + at) bytes)) (IsShutBeside (now old)) keeps.images did.1 (λ c image.
+      let i = subst (λ (l : Log). IsImage l c) did.1 image in
+      shut_part at bytes (now old) i.0 c (ends old mid (IsShutBeside (now old)) keeps.images i.0 i.1) i.2);
+  grown = goes_on_on old mid new keeps.grown (did_goes_on (Write journal_file (1 + at) bytes) mid new did);
+}
 
 pub piece_broke : (at : ℕ) (bytes : List ℕ) (old mid new : Log) → KeepsShut old mid → HasBroken (Write journal_file (1 + at) bytes) mid new → KeepsShut old new
-piece_broke at bytes old mid new keeps (inl same) = subst (λ (l : Log). LeavesOnly old l (IsShutBeside (now old))) (sym same) keeps
-piece_broke at bytes old mid new keeps (inr broke) = goes_to old mid new (Broke (Write journal_file (1 + at) bytes) broke.0) (IsShutBeside (now old)) keeps broke.2 (λ c image.
-    let i = subst (λ (l : Log). IsImage l c) broke.2 image in
-    shut_part at bytes (now old) i.0 c (ends old mid (IsShutBeside (now old)) keeps i.0 i.1) i.2)
+piece_broke at bytes old mid new keeps (inl same) = subst (λ (l : Log). KeepsShut old l) (sym same) keeps
+piece_broke at bytes old mid new keeps (inr broke) = record {
+  images = goes_to old mid new (Broke (Write journal_file (1 + at) bytes) broke.0) (IsShutBeside (now old)) keeps.images broke.2 (λ c image.
+      let i = subst (λ (l : Log). IsImage l c) broke.2 image in
+      shut_part at bytes (now old) i.0 c (ends old mid (IsShutBeside (now old)) keeps.images i.0 i.1) i.2);
+  grown = goes_on_on old mid new keeps.grown (broke_goes_on (Write journal_file (1 + at) bytes) mid new (inr broke));
+}
 
 -- bytes written at the end of the front are more of it
 more_front : (gate at : ℕ) (front rest bytes : List ℕ) → length front ≡ at → overwritten (gate ∷ (front ++ rest)) (1 + at) bytes ≡ gate ∷ ((front ++ bytes) ++ drop (1 + at + length bytes) (gate ∷ (front ++ rest)))
@@ -77,9 +87,12 @@ staged_synced bytes old mid new sound has is = (
 )
 
 pub keeps_synced : (old mid new : Log) → KeepsShut old mid → IsShutBeside (now old) (now mid) → new ≡ adds mid Synced → KeepsShut old new
-keeps_synced old mid new keeps here is = goes_to old mid new Synced (IsShutBeside (now old)) keeps is (λ c image.
-    let i = subst (λ (l : Log). IsImage l c) is image in
-    subst (IsShutBeside (now old)) (sym i) here)
+keeps_synced old mid new keeps here is = record {
+  images = goes_to old mid new Synced (IsShutBeside (now old)) keeps.images is (λ c image.
+      let i = subst (λ (l : Log). IsImage l c) is image in
+      subst (IsShutBeside (now old)) (sym i) here);
+  grown = goes_on_on old mid new keeps.grown (synced_goes_on mid new is);
+}
 
 pub front_shut : (bytes : List ℕ) (d c : Disk) → HasFront bytes d c → IsShutBeside d c
 front_shut bytes d c has = record { bytes = has.gate ∷ (bytes ++ has.rest); here = has.here; shut = has.shut; alike = has.alike }

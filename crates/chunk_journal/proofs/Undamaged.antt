@@ -183,4 +183,4 @@ leaves_openable old new (inr opening) first =
 
 pub commits_openable : (deeds : List PlainDeed) (old new : Log) (after : Disk) → AnyMoment deeds old new → DoesAll (in_order deeds) (now old) after → LeavesOnly old new IsOpenable
 commits_openable deeds old new after any run =
-    weaker old new (IsBeforeOrAfter (now old) after) IsOpenable (λ image is. recovering_opens image is.0 is.1 is.3) (any after run)
+    weaker old new (IsBeforeOrAfter (now old) after) IsOpenable (λ image is. recovering_opens image is.0 is.1 is.3) (any.recovers after run)

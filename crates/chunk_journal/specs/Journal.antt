@@ -1,8 +1,8 @@
 -- The journal of a folder, and what an image of it recovers to.
-use Rattle.std.specs.Prelude.{◌≡◌, ◌≢◌, ◌⊎◌, ℕ, List, ◌∷◌, ◌++◌, get_or, Some, None}
-use Rattle.outside.specs.Disk.{Disk, file, node_at, IsFolder}
-use Rattle.outside.specs.Images.{Log, now, LeavesOnly, IsSteady}
-use Rattle.deeds.specs.Deeds.{PlainDeed, DoesAll, IsAlikeBut, in_order}
+use Rattle.std.specs.Prelude.{◌≡◌, ◌≢◌, ◌⊎◌, ℕ, ◌≤◌, List, ◌∷◌, ◌++◌, Contains, flat_map, get_or, Some, None}
+use Rattle.outside.specs.Disk.{Disk, Path, file, node_at, IsFolder}
+use Rattle.outside.specs.Images.{Log, now, moment, log_at, IsImage, LeavesOnly, IsSteady}
+use Rattle.deeds.specs.Deeds.{PlainDeed, DoesAll, IsAlikeBut, LogGoesOn, in_order, names}
 use Rattle.deeds.specs.Applying.{Applies}
 use Rattle.deeds.specs.Grammar.{IsBatch, behind_gate}
 pub use Rattle.deeds.specs.Repeatable.{journal_name, new_name, names_apart, journal_file, new_file, IsRepeatable}
@@ -56,9 +56,35 @@ pub record IsReady (log : Log) : Type 0 where
   pub shut : gate ≢ 1
   pub no_folder : IsFolder (now log) new_file → ⊥
 
--- at each moment since, whatever the deeds leave in the end, an image recovers to what was before or to that
-abbrev pub AnyMoment : List PlainDeed → Log → Log → Type 0
-AnyMoment deeds old new = (after : Disk) → DoesAll (in_order deeds) (now old) after → LeavesOnly old new (IsBeforeOrAfter (now old) after)
+-- ---- what isn't on the disk
+
+-- the paths that deeds name
+abbrev pub named : List PlainDeed → List Path
+named deeds = flat_map names deeds
+
+-- one of the journal's two files is there, or the batch that the disk holds names the path
+abbrev pub IsLoose : Disk → Path → Type 0
+IsLoose disk path = (path ≡ journal_file) ⊎ ((path ≡ new_file) ⊎ ((deeds : List PlainDeed) × HoldsBatch disk deeds × Contains (named deeds) path))
+
+-- a stop leaves what reads give, but at paths that are loose on the disk that reads give
+abbrev pub IsTidy : Log → Type 0
+IsTidy log = (image : Disk) → IsImage log image → (path : Path) → (IsLoose (now log) path → ⊥) → node_at image path ≡ node_at (now log) path
+
+-- so it is at each moment from this one on
+abbrev pub TidySince : ℕ → Log → Type 0
+TidySince first log = (m : ℕ) → first ≤ m → m ≤ moment log → IsTidy (log_at log m)
+
+-- the calls go on from the old ones, and so it is at each moment since
+pub record StaysTidy (old new : Log) : Type 0 where
+  pub grown : LogGoesOn old new
+  pub each : TidySince (moment old) new
+
+-- ---- commits
+
+-- At each moment since, whatever the deeds leave in the end, an image recovers to what was before or to that; and what isn't on the disk is loose.
+pub record AnyMoment (deeds : List PlainDeed) (old new : Log) : Type 0 where
+  pub recovers : (after : Disk) → DoesAll (in_order deeds) (now old) after → LeavesOnly old new (IsBeforeOrAfter (now old) after)
+  pub tidy : StaysTidy old new
 
 -- the deeds are done and on the disk, and the journal is quiet
 pub record HasCommitted (deeds : List PlainDeed) (old new : Log) : Type 0 where
@@ -81,10 +107,12 @@ pub record IsFound (deeds : List PlainDeed) (log : Log) : Type 0 where
 abbrev pub RecoveredLike : Disk → Disk → Type 0
 RecoveredLike after image = (disk : Disk) × Recovered image disk × IsAlike after disk × IsReopenable image
 
--- at each moment since an image recovers to what the disk that was found does, whether all deeds can be done on it or not
+-- At each moment since an image recovers to what the disk that was found does, whether all deeds can be done on it or not; and what isn't on the disk
+-- is loose.
 pub record StaysRecovered (deeds : List PlainDeed) (old new : Log) : Type 0 where
   pub whole : (after : Disk) → DoesAll (in_order deeds) (now old) after → LeavesOnly old new (RecoversLike after)
   pub applied : (after : Disk) → Applies (in_order deeds) (now old) after → LeavesOnly old new (RecoveredLike after)
+  pub tidy : StaysTidy old new
 
 -- the deeds are done and on the disk, and the gate is closed
 pub record HasRecovered (deeds : List PlainDeed) (old new : Log) : Type 0 where
@@ -93,6 +121,7 @@ pub record HasRecovered (deeds : List PlainDeed) (old new : Log) : Type 0 where
 
 -- ---- the first journal
 
--- at each moment since an image recovers to what reads gave
-abbrev pub StaysShut : Log → Log → Type 0
-StaysShut old new = LeavesOnly old new (RecoversLike (now old))
+-- at each moment since an image recovers to what reads gave, and what isn't on the disk is loose
+pub record StaysShut (old new : Log) : Type 0 where
+  pub recovers : LeavesOnly old new (RecoversLike (now old))
+  pub tidy : StaysTidy old new

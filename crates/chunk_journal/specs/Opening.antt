@@ -7,7 +7,7 @@ use Rattle.deeds.specs.Deeds.{PlainDeed, DoesAll, IsRefusedAt, LogGoesOn, in_ord
 use Rattle.deeds.specs.Grammar.{IsBadAt, spelled_deeds}
 use Rattle.chunk_journal.specs.declared.fault.JournalErr.{JournalErr}
 use Rattle.chunk_journal.specs.declared.fault.JournalErr.TheVariants.{Device, JournalDamaged, Memory}
-use Rattle.chunk_journal.specs.Journal.{journal_file, new_file, HoldsBatch, RecoversTo, Recovered, IsAlike, IsQuiet, IsFound, IsRepeatable, IsReopenable, StaysRecovered}
+use Rattle.chunk_journal.specs.Journal.{journal_file, new_file, HoldsBatch, RecoversTo, Recovered, IsAlike, IsQuiet, IsFound, IsRepeatable, IsReopenable, StaysRecovered, StaysTidy}
 
 -- ---- the bytes of a journal whose gate is open
 
@@ -89,13 +89,14 @@ IfDamaged Memory P = ⊤
 
 -- The sync that it begins with leaves nothing that a stop couldn't have left before. Nothing else is done if there is no
 -- batch to be done; and if its deeds can be repeated, each image at each moment since recovers to what the disk that was
--- found recovers to. The folder's calls go on from those before.
+-- found recovers to, and what isn't on the disk is loose. The folder's calls go on from those before.
 pub record IsOpening (old new : Log) : Type 0 where
   pub grown : LogGoesOn old new
   pub begun : LeavesOnly old (adds old Synced) (IsImage old)
   pub steady : IsSteady (adds old Synced)
   pub untouched : ((deeds : List PlainDeed) → IsFound deeds (adds old Synced) → ⊥) → new ≡ adds old Synced
   pub stays : (deeds : List PlainDeed) → IsRepeatable deeds → IsFound deeds (adds old Synced) → StaysRecovered deeds (adds old Synced) new
+  pub tidy : ((deeds : List PlainDeed) → HoldsBatch (now old) deeds → IsRepeatable deeds) → StaysTidy (adds old Synced) new
 
 -- nothing was done, or it is as an opening owes
 abbrev pub StaysOpening : Log → Log → Type 0

@@ -1,10 +1,16 @@
 -- The stages of a commit, up to the batch that follows the closed gate.
 use Rattle.std.specs.Prelude.{◌≡◌, ◌≢◌, ℕ, List, ◌∷◌, ◌++◌, get_or, Some}
 use Rattle.outside.specs.Disk.{Disk, Path, file, node_at}
+use Rattle.outside.specs.Changes.{Change, IsPartOf}
 use Rattle.outside.specs.Images.{Log, now, LeavesOnly, IsSteady}
-use Rattle.deeds.specs.Deeds.{PlainDeed}
+use Rattle.deeds.specs.Deeds.{PlainDeed, LogGoesOn}
 use Rattle.deeds.specs.Grammar.{behind_gate}
 use Rattle.chunk_journal.specs.Journal.{journal_file}
+
+-- the calls go on from the old ones, and at each moment since an image has some part of the change alone
+pub record LeavesParts (change : Change) (old new : Log) : Type 0 where
+  pub images : LeavesOnly old new (IsPartOf change (now old))
+  pub grown : LogGoesOn old new
 
 -- the journal is there and closed, and all else is as it was
 pub record IsShutBeside (disk image : Disk) : Type 0 where
@@ -13,9 +19,10 @@ pub record IsShutBeside (disk image : Disk) : Type 0 where
   pub shut : get_or bytes 0 0 ≢ 1
   pub alike : (q : Path) → q ≢ journal_file → node_at image q ≡ node_at disk q
 
--- each image at each moment since
-abbrev pub KeepsShut : Log → Log → Type 0
-KeepsShut old new = LeavesOnly old new (IsShutBeside (now old))
+-- the calls go on from the old ones, and so is each image at each moment since
+pub record KeepsShut (old new : Log) : Type 0 where
+  pub images : LeavesOnly old new (IsShutBeside (now old))
+  pub grown : LogGoesOn old new
 
 -- these bytes follow the closed gate, and all else is as it was
 pub record HasFront (front : List ℕ) (disk new : Disk) : Type 0 where

@@ -13,29 +13,34 @@
 //! gate, with a sync after each. The first journal is made at `served.journal.new` and moved to its place. Opening does what is
 //! left of an open gate's batch, or says at which byte the journal is damaged.
 //!
-//! Laws: `recovering_is_undamaged`, `undamaged_recovers`, `recovering_is_unique`, `opening_stays_found` and
-//! `journals_stay_undamaged`, which do nothing.
+//! A run that is killed leaves no change off the disk but at the paths that `loose_paths` gives.
+//!
+//! Laws: `recovering_is_undamaged`, `undamaged_recovers`, `recovering_is_unique`, `opening_stays_found`, `journals_stay_undamaged`
+//! and `tidy_logs_are_flushed`, which do nothing.
 #![tactic(auto)]
 
 mod fault;
 mod first;
 mod journal;
+mod loose;
 mod reading;
 mod recovery;
 mod running;
 mod stage;
 mod steps;
 
-ghost use Rattle.std.specs.Prelude.{◌≡◌, ◌⊎◌, ℕ, List};
+ghost use Rattle.std.specs.Prelude.{◌≡◌, ◌⊎◌, ℕ, suc, List};
 ghost use Rattle.outside.specs.Disk.{Disk, IsFolder};
-ghost use Rattle.outside.specs.Images.{Log, Synced, adds, now, IsImage, LeavesOnly};
+ghost use Rattle.outside.specs.Images.{Log, Synced, adds, now, moment, IsImage, LeavesOnly};
 ghost use Rattle.deeds.specs.Deeds.{PlainDeed, DoesAll, in_order};
-ghost use Rattle.chunk_journal.specs.Journal.{new_file, HoldsBatch, RecoversTo, RecoversLike, Recovered, IsAlike, IsReopenable, AnyMoment};
+ghost use Rattle.chunk_journal.specs.Journal.{new_file, HoldsBatch, RecoversTo, RecoversLike, Recovered, IsAlike, IsReopenable, AnyMoment, IsTidy, TidySince};
 ghost use Rattle.chunk_journal.specs.Opening.{IsDamagedAt, LeavesFolder, HasFileBytes, IsOpenable, IsOpening, StaysOpening, HasOpened};
 ghost use Rattle.chunk_journal.specs.Commits.{StaysFound, StaysAsFound, StaysOpenable};
+ghost use Rattle.chunk_journal.specs.Flushed.{IsFlushedWhole};
 
 pub use fault::{Device, JournalErr};
 pub use journal::Journal;
+pub use loose::loose_paths;
 
 /// What recovers to a disk, with no folder where the first journal is made, isn't damaged: so no stop of a commit or of an
 /// opening leaves a damaged journal. It does nothing.
@@ -59,10 +64,11 @@ pub fn recovering_is_unique()
 {}
 
 /// If the disk that an opening finds is reopenable, each image since its first sync recovers to what that disk recovers to,
-/// and the calls go on from there; if it ended well, what reads give is that. It does nothing.
+/// what isn't on the disk is loose, and the calls go on from there; if it ended well, what reads give is that. It does nothing.
 pub fn opening_stays_found()
     ensures stays { (old new : Log) → StaysOpening old new → IsReopenable (now old) → StaysFound old new }
     ensures applied { (old new : Log) → StaysOpening old new → IsReopenable (now old) → StaysAsFound old new }
+    ensures tidy { (old new : Log) → StaysOpening old new → IsReopenable (now old) → TidySince (suc (moment old)) new }
     ensures later { (old new : Log) (found : Disk) → IsOpening old new → IsReopenable (now old) → RecoversTo (now old) found
         → LeavesOnly (adds old Synced) new (RecoversLike found) }
     ensures opened { (old new : Log) (found : Disk) → HasOpened old new → RecoversTo (now old) found → IsAlike found (now new) }
@@ -80,4 +86,9 @@ pub fn journals_stay_undamaged()
         → DoesAll (in_order deeds) (now old) after → LeavesOnly old new IsOpenable }
     ensures answer { (disk : Disk) (at : ℕ) → IsOpenable disk → IsDamagedAt disk at ⊎ LeavesFolder disk at → ⊥ }
     ensures recovers { (image disk : Disk) → RecoversTo image disk → IsReopenable image → IsOpenable image }
+{}
+
+/// If what isn't on the disk is at loose paths, all is on it once these are flushed as they are read. It does nothing.
+pub fn tidy_logs_are_flushed()
+    ensures { (log : Log) → IsTidy log → IsFlushedWhole log }
 {}

@@ -1,13 +1,14 @@
 ghost use Rattle.std.specs.Prelude.{◌≡◌, ◌≢◌, ◌⊎◌, ◌+◌, ◌∷◌, [], ℕ, OnOk, OnErr, IfErr, IsErr, IsErrOf, length, take};
 ghost use Rattle.outside.specs.Calls.{HasCause, Told, Changes};
 ghost use Rattle.outside.specs.Disk.{Disk, Path, node_at};
-ghost use Rattle.outside.specs.Changes.{Write, IsPartOf};
+ghost use Rattle.outside.specs.Changes.{Write};
 ghost use Rattle.outside.specs.Images.{now, adds, Synced, IsImage, IsSteady, LeavesOnly};
 ghost use Rattle.deeds.specs.Deeds.{DoesAll, StaysAmid, LogGoesOn, IsRefusedAt, in_order};
 ghost use Rattle.deeds.specs.Applying.{Applies, StaysApplied};
 ghost use Rattle.deeds.specs.Grammar.{IsBatch, spelled_deeds};
 ghost use Rattle.deeds.specs.Plain.{plains};
 ghost use Rattle.chunk_journal.specs.Journal.{journal_file, new_file, IsAlike, IsQuiet, IsRepeatable, IsFound, StaysRecovered};
+ghost use Rattle.chunk_journal.specs.Stages.{LeavesParts};
 ghost use Rattle.chunk_journal.specs.Opening.{HasFolder, IsUnfitAt, IsDamagedAt, LeavesFolder, IfDamaged, IsLeftApplied, IsOpening, StaysOpening, HasOpened};
 
 use crate::fault::{Device, JournalErr};
@@ -66,8 +67,7 @@ fn close<D: Folder>(
     requires steady { Told (D.log folder.old) IsSteady }
     ensures closed { OnOk result (Changes (D.log folder.old) (D.log folder.new)
         (λ old new. IsQuiet new × ((q : Path) → q ≢ journal_file → node_at (now new) q ≡ node_at (now old) q))) }
-    ensures any_moment { Changes (D.log folder.old) (D.log folder.new)
-        (λ old new. LeavesOnly old new (IsPartOf (Write journal_file 0 (0 ∷ [])) (now old))) }
+    ensures any_moment { Changes (D.log folder.old) (D.log folder.new) (LeavesParts (Write journal_file 0 (0 ∷ []))) }
     ensures damaged { IfErr result (λ error. IfDamaged error (λ at. Told (D.log folder.old) (λ log. HasFolder (now log) × (at ≡ 0)))) }
     ensures still { IfErr result (λ error. IfDamaged error (λ at. D.log folder.new ≡ D.log folder.old)) }
     ensures cause { HasCause (D.faults folder.old) (D.faults folder.new) (IsErrOf result JournalErr.Device) }

@@ -2,7 +2,7 @@ ghost use Rattle.std.specs.Prelude.{◌≡◌, Some, OnOk, IfOk, IsErr, IsTrue};
 ghost use Rattle.outside.specs.Calls.{HasCause, Told, Changes};
 ghost use Rattle.outside.specs.Disk.{Disk};
 ghost use Rattle.outside.specs.Images.{now, IsSteady};
-ghost use Rattle.deeds.specs.Deeds.{DoesAll, StaysAmid, in_order};
+ghost use Rattle.deeds.specs.Deeds.{DoesAll, StaysAmid, LogGoesOn, in_order};
 ghost use Rattle.deeds.specs.Grammar.{IsBatch};
 ghost use Rattle.deeds.specs.Plain.{plains};
 ghost use Rattle.chunk_journal.specs.Stages.{HasGate};
@@ -24,6 +24,7 @@ pub fn do_deeds<D: Folder>(folder: &mut D, deeds: &[Deed]) -> Result<(), Device>
     ensures done { OnOk result (Changes (D.log folder.old) (D.log folder.new)
         (λ old new. IsSteady new × DoesAll (in_order (plains deeds.now)) (now old) (now new))) }
     ensures amid { Changes (D.log folder.old) (D.log folder.new) (StaysAmid (in_order (plains deeds.now))) }
+    ensures grown { Changes (D.log folder.old) (D.log folder.new) LogGoesOn }
     ensures cause { HasCause (D.faults folder.old) (D.faults folder.new) (IsErr result) }
 {
     do_batch(folder, deeds).map_err(|_| Device)

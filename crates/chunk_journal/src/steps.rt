@@ -1,7 +1,8 @@
 ghost use Rattle.std.specs.Prelude.{OnOk, IsErr};
 ghost use Rattle.outside.specs.Calls.{HasCause, Told, Changes};
-ghost use Rattle.outside.specs.Changes.{Put, Write, Move, CanDo, IsPartOf};
-ghost use Rattle.outside.specs.Images.{now, IsSteady, HasKept, LeavesOnly};
+ghost use Rattle.outside.specs.Changes.{Put, Write, Move, CanDo};
+ghost use Rattle.outside.specs.Images.{now, IsSteady, HasKept};
+ghost use Rattle.chunk_journal.specs.Stages.{LeavesParts};
 
 use crate::fault::Device;
 use outside::Folder;
@@ -29,8 +30,7 @@ pub fn write_synced<D: Folder>(
     requires steady { Told (D.log folder.old) IsSteady }
     requires can { Told (D.log folder.old) (λ log. CanDo (Write path.now at bytes.now) (now log)) }
     ensures written { OnOk result (Changes (D.log folder.old) (D.log folder.new) (HasKept (Write path.now at bytes.now))) }
-    ensures any_moment { Changes (D.log folder.old) (D.log folder.new)
-        (λ old new. LeavesOnly old new (IsPartOf (Write path.now at bytes.now) (now old))) }
+    ensures any_moment { Changes (D.log folder.old) (D.log folder.new) (LeavesParts (Write path.now at bytes.now)) }
     ensures cause { HasCause (D.faults folder.old) (D.faults folder.new) (IsErr result) }
 {
     folder.write(path, at, bytes)?;
@@ -43,8 +43,7 @@ pub fn put_synced<D: Folder>(folder: &mut D, path: &VaultPath, bytes: &[u8]) -> 
     requires steady { Told (D.log folder.old) IsSteady }
     requires can { Told (D.log folder.old) (λ log. CanDo (Put path.now bytes.now) (now log)) }
     ensures put { OnOk result (Changes (D.log folder.old) (D.log folder.new) (HasKept (Put path.now bytes.now))) }
-    ensures any_moment { Changes (D.log folder.old) (D.log folder.new)
-        (λ old new. LeavesOnly old new (IsPartOf (Put path.now bytes.now) (now old))) }
+    ensures any_moment { Changes (D.log folder.old) (D.log folder.new) (LeavesParts (Put path.now bytes.now)) }
     ensures cause { HasCause (D.faults folder.old) (D.faults folder.new) (IsErr result) }
 {
     folder.put(path, bytes)?;
@@ -61,8 +60,7 @@ pub fn move_synced<D: Folder>(
     requires steady { Told (D.log folder.old) IsSteady }
     requires can { Told (D.log folder.old) (λ log. CanDo (Move from.now to.now) (now log)) }
     ensures moved { OnOk result (Changes (D.log folder.old) (D.log folder.new) (HasKept (Move from.now to.now))) }
-    ensures any_moment { Changes (D.log folder.old) (D.log folder.new)
-        (λ old new. LeavesOnly old new (IsPartOf (Move from.now to.now) (now old))) }
+    ensures any_moment { Changes (D.log folder.old) (D.log folder.new) (LeavesParts (Move from.now to.now)) }
     ensures cause { HasCause (D.faults folder.old) (D.faults folder.new) (IsErr result) }
 {
     folder.rename(from, to)?;

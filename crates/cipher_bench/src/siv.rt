@@ -2,8 +2,9 @@
 
 use crate::words::{BenchErr, length, number, word};
 use aes_block::BlockKey;
-use siv_mode::{TAG_LEN, VaultKeys, s2v, seal};
+use siv_mode::{TAG_LEN, s2v, seal};
 use std::alloc::Global;
+use vault_keys::VaultKeys;
 
 /// How many words it has: how (`lanes`; `blocks`, by AES a block at a time; or `tag`, which is S2V alone in lanes), the name's bytes, and
 /// how many times.

@@ -7,8 +7,8 @@ use file_chunks::{
 };
 use model_contents::{Cell, Content, content_of};
 use outside::{Entropy, Failed};
-use siv_mode::VaultKeys;
 use std::alloc::Global;
+use vault_keys::VaultKeys;
 
 // Whether the plain content of a file is this: whether its header opens, and what its only chunk is.
 fn is_content(content: &Content, opens: bool, cell: &Option<Cell>) -> bool {

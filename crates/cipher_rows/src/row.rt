@@ -3,9 +3,9 @@
 use file_chunks::Damaged;
 use hex::{FromHex, FromHexError};
 use outside::Failed;
-use siv_mode::VaultKeys;
 use std::alloc::{AllocError, Global};
 use thiserror::Error;
+use vault_keys::VaultKeys;
 use vault_names::BadName;
 
 /// What was compared with a row.

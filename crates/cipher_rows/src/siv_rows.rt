@@ -4,8 +4,9 @@ ghost use Rattle.std.specs.Prelude.{◌≡◌, ◌⊎◌, length};
 
 use crate::row::{Call, RowErr, block, bytes, end, key, same, word};
 use aes_block::{BlockKey, Key128, Key256};
-use siv_mode::{BadTag, TAG_LEN, VaultKeys, open, seal};
+use siv_mode::{BadTag, TAG_LEN, open, seal};
 use std::alloc::Global;
+use vault_keys::VaultKeys;
 
 /// S2V-key CTR-key associated text sealed; `none` for no associated string
 pub(crate) fn siv(alloc: Global, row: &str) -> Result<(), RowErr> {

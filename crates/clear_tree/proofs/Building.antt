@@ -1,19 +1,15 @@
 -- What holds of a tree that is built a node at a time.
-use Rattle.std.proofs.Common.{◌≡◌, ◌≢◌, ℕ, zero, suc, ◌+◌, ◌-◌, ◌<◌, ◌≤◌, List, [], ◌∷◌, ◌++◌, length, get_or, slice_get, slice_set, Bool, true, false, Option, Some, None, IsSome, IsTrue, inl, inr, refl, sym, ap, ap₂, ◌∙◌, subst, arith, add-one}
-use Rattle.std.specs.declared.cmp.Ordering.{Ordering}
-use Rattle.std.specs.declared.cmp.Ordering.TheVariants.{Less, Equal, Greater}
-use Rattle.std.specs.Cmp.Lexicographic.{slice_cmp}
-use Rattle.std.specs.Ordering.{nat_cmp, is_gt}
+use Rattle.std.proofs.Common.{◌≡◌, ◌≢◌, ℕ, zero, suc, ◌+◌, ◌-◌, ◌<◌, ◌≤◌, List, [], ◌∷◌, ◌++◌, length, get_or, slice_get, slice_set, Bool, Option, Some, IsSome, IsTrue, inl, inr, refl, sym, ap, ap₂, ◌∙◌, subst, arith}
+use Rattle.std.specs.declared.cmp.Ordering.TheVariants.{Less, Equal}
 use Rattle.std.specs.Option.{option_and_then}
 use Rattle.std.proofs.lemmas.Bool.{cases_lt}
 use Rattle.std.proofs.lemmas.Cmp.{tied_itself}
-use Rattle.std.proofs.lemmas.Grind.{common_steps}
 use Rattle.std.proofs.lemmas.Option.{slice_get-get_or, slice_get_within, slice_get_read, same_Some}
 use Rattle.vault_path.specs.Parts.{is_part}
 use Rattle.tree_model.specs.Rows.{root}
-use Rattle.clear_tree.specs.Kept.{KeptNode, KeptTree, folder_in, node_of, parent_folder, IsChild, IsNamed, IsBehind, IsNext, IsNoNext, IsTree}
-use Rattle.clear_tree.specs.Built.{Place, place_of, place_cmp, is_past, AreInOrder, HasParent, AreKept, FitsBehind, marked_node, marked_at, with_foreign}
-use Rattle.clear_tree.proofs.Order.{place_total, before, beside, behind, by_place}
+use Rattle.clear_tree.specs.Kept.{KeptNode, KeptTree, folder_in, node_of, parent_folder, IsNamed, IsTree}
+use Rattle.clear_tree.specs.Built.{Place, place_of, place_cmp, AreInOrder, HasParent, AreKept, FitsBehind, marked_node, marked_at, with_foreign}
+use Rattle.clear_tree.proofs.Order.{place_total}
 
 abbrev pub tree_of : KeptNode → List KeptNode → Bool → KeptTree
 tree_of first others twice = record { nodes = first ∷ others; twice = twice }
@@ -62,103 +58,6 @@ module _ (first : KeptNode) (others : List KeptNode) (twice : Bool) (kept : AreK
     folders = all_folders;
     names = one_name;
   }
-
-  -- ---- a name that was looked for
-
-  pub named_none : (parent : ℕ) (name : List ℕ) → ((index : ℕ) (node : KeptNode) → slice_get others index ≡ Some node → place_of node ≢ (parent, name))
-      → (number : ℕ) → IsNamed (tree_of first others twice) parent name number → ⊥
-  named_none parent name apart zero x = x.child.below refl
-  named_none parent name apart (suc index) x =
-      apart index x.node x.child.there (ap₂ (λ (n : ℕ) (l : List ℕ). (n, l)) x.child.inside x.named)
-
-  -- ---- the next name
-
-  past_from_behind : (parent : ℕ) (last : Option (List ℕ)) (place : Place) → place.0 ≡ parent → IsBehind last place.1 → is_past parent last place ≡ true
-  past_from_behind parent None place inside is = grind (arith, common_steps, inside)
-  past_from_behind parent (Some last) place inside is = elim (by_place place (parent, last)) [
-    | before h e ↦ absurd (omega arith)
-    | beside h e ↦ ap is_gt (e ∙ is)
-    | behind h e ↦ ap is_gt e
-  ]
-
-  behind_from_past : (parent : ℕ) (last : Option (List ℕ)) (place : Place) → place.0 ≡ parent → is_past parent last place ≡ true → IsBehind last place.1
-  behind_from_past parent None place inside past = tt
-  behind_from_past parent (Some last) place inside past = elim (by_place place (parent, last)) [
-    | before h e ↦ absurd (omega arith)
-    | beside h e ↦ sym e ∙ greater_from (place_cmp place (parent, last)) past
-    | behind h e ↦ absurd (omega arith)
-  ]
-    where
-      greater_from : (o : Ordering) → is_gt o ≡ true → o ≡ Greater
-      greater_from Less h = absurd cc
-      greater_from Equal h = absurd cc
-      greater_from Greater h = refl
-
-  -- a place of a lower directory is past no name of this one
-  not_past_below : (parent : ℕ) (last : Option (List ℕ)) (place : Place) → place.0 < parent → is_past parent last place ≡ true → ⊥
-  not_past_below parent None place low past = grind (arith, common_steps, low, past)
-  not_past_below parent (Some last) place low past = elim (by_place place (parent, last)) [
-    | before h e ↦ let no : is_gt (place_cmp place (parent, last)) ≡ false = ap is_gt e in absurd (cc (no, past))
-    | beside h e ↦ omega arith
-    | behind h e ↦ omega arith
-  ]
-
-  module _ (parent : ℕ) (last : Option (List ℕ)) (at : ℕ)
-      (before_at : (index : ℕ) (node : KeptNode) → index < at → slice_get others index ≡ Some node → is_past parent last (place_of node) ≡ false)
-      (behind_at : (index : ℕ) (node : KeptNode) → at ≤ index → slice_get others index ≡ Some node → is_past parent last (place_of node) ≡ true) where
-    child_behind : (index : ℕ) (node : KeptNode) → slice_get others index ≡ Some node → node.parent ≡ parent → IsBehind last node.name → at ≤ index
-    child_behind index node is inside behind_last = elim (cases_lt index at) [
-      | inl low ↦ absurd (cc (before_at index node low is, past_from_behind parent last (place_of node) inside behind_last))
-      | inr up ↦ up
-    ]
-
-    pub no_next_past_end : slice_get others at ≡ None → IsNoNext (tree_of first others twice) parent last
-    no_next_past_end none zero node child behind_last = child.below refl
-    no_next_past_end none (suc index) node child behind_last =
-        let up : at ≤ index = child_behind index node child.there child.inside behind_last in
-        let inside : index < length others = slice_get_within others index node child.there in
-        absurd (cc (none, slice_get-get_or others at node (omega arith)))
-
-    module _ (node : KeptNode) (is : slice_get others at ≡ Some node) where
-      pub no_next_elsewhere : node.parent ≢ parent → IsNoNext (tree_of first others twice) parent last
-      no_next_elsewhere other_parent zero node' child behind_last = child.below refl
-      no_next_elsewhere other_parent (suc index) node' child behind_last =
-          let up : at ≤ index = child_behind index node' child.there child.inside behind_last in
-          let inside : node'.parent ≡ parent = child.inside in
-          elim (cases_lt at index) [
-            | inl low ↦ elim (by_place (place_of node) (place_of node')) [
-              | before h e ↦ not_past_below parent last (place_of node) (subst (λ (n : ℕ). node.parent < n) inside h) (behind_at at node (omega arith) is)
-              | beside h e ↦ other_parent (h ∙ inside)
-              | behind h e ↦ absurd (cc (e, kept.ordered at index node node' low is child.there))
-            ]
-            | inr high ↦
-                let same : index ≡ at = omega arith in
-                let one : node' ≡ node = same_Some node' node (sym child.there ∙ ap (slice_get others) same ∙ is) in
-                other_parent (ap (λ (n : KeptNode). n.parent) (sym one) ∙ inside)
-          ]
-
-      next_first : node.parent ≡ parent → (other : ℕ) (node' : KeptNode) → IsChild (tree_of first others twice) parent other node' → IsBehind last node'.name
-          → other ≢ at + 1 → slice_cmp nat_cmp node.name node'.name ≡ Less
-      next_first inside zero node' child behind_last apart = absurd (child.below refl)
-      next_first inside (suc index) node' child behind_last apart =
-          let up : at ≤ index = child_behind index node' child.there child.inside behind_last in
-          let inside' : node'.parent ≡ parent = child.inside in
-          let other_index : index ≢ at = λ e. apart (omega arith) in
-          let low : at < index = omega arith in
-          let less : place_cmp (place_of node) (place_of node') ≡ Less = kept.ordered at index node node' low is child.there in
-          elim (by_place (place_of node) (place_of node')) [
-            | before h e ↦ absurd (omega arith)
-            | beside h e ↦ sym e ∙ less
-            | behind h e ↦ absurd (omega arith)
-          ]
-
-      pub next_is : node.parent ≡ parent → IsNext (tree_of first others twice) parent last (at + 1)
-      next_is inside = record {
-        node = node;
-        child = record { there = rw add-one is; below = λ e. absurd (omega arith); inside = inside };
-        behind = behind_from_past parent last (place_of node) inside (behind_at at node (omega arith) is);
-        first = next_first inside;
-      }
 
 -- ---- one node more
 

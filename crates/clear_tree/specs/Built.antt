@@ -1,10 +1,10 @@
 -- How a tree in memory is built: its root alone, then one node after another in the walk's order.
-use Rattle.std.specs.Prelude.{◌≡◌, ◌≢◌, ◌-◌, ◌<◌, ◌≤◌, ℕ, zero, suc, List, [], ◌∷◌, ◌++◌, length, Bool, false, Option, Some, None, IsSome, IfSome, IsTrue, slice_get, nat_le, ⊤}
+use Rattle.std.specs.Prelude.{◌≡◌, ◌≢◌, ◌-◌, ◌<◌, ◌≤◌, ℕ, zero, suc, List, [], ◌∷◌, ◌++◌, length, Bool, false, Some, IsSome, IfSome, IsTrue, slice_get, ⊤}
 use Rattle.std.specs.Option.{option_and_then}
 use Rattle.std.specs.Str.{IsUtf8}
 use Rattle.std.specs.declared.cmp.Ordering.{Ordering}
 use Rattle.std.specs.declared.cmp.Ordering.TheVariants.{Less}
-use Rattle.std.specs.Ordering.{nat_cmp, ordering_then, is_gt}
+use Rattle.std.specs.Ordering.{nat_cmp, ordering_then}
 use Rattle.std.specs.Cmp.Lexicographic.{slice_cmp}
 use Rattle.vault_path.specs.Parts.{is_part, is_path}
 use Rattle.tree_model.specs.Names.{name_limit}
@@ -44,11 +44,6 @@ place_of node = (node.parent, node.name)
 -- by the parents' numbers, then by the names' bytes
 abbrev pub place_cmp : Place → Place → Ordering
 place_cmp a b = ordering_then (nat_cmp a.0 b.0) (slice_cmp nat_cmp a.1 b.1)
-
--- the place is in this directory after the name, or in a directory of a higher number; without a name, all of the directory are
-abbrev pub is_past : ℕ → Option (List ℕ) → Place → Bool
-is_past parent None place = nat_le parent place.0
-is_past parent (Some last) place = is_gt (place_cmp place (parent, last))
 
 abbrev pub AreInOrder : List KeptNode → Type 0
 AreInOrder nodes = (i j : ℕ) (a b : KeptNode) → i < j → slice_get nodes i ≡ Some a → slice_get nodes j ≡ Some b → place_cmp (place_of a) (place_of b) ≡ Less

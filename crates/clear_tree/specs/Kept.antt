@@ -1,10 +1,11 @@
 -- What is kept of a disk's clear tree in memory: a node for each number, in the walk's order, without the files' bytes.
 use Rattle.std.specs.Prelude.{◌≡◌, ◌≢◌, ◌<◌, ℕ, suc, List, [], ◌∷◌, length, take, Bool, true, false, Option, Some, None, IsSome, slice_get}
-use Rattle.std.specs.declared.cmp.Ordering.TheVariants.{Less, Greater}
+use Rattle.std.specs.declared.cmp.Ordering.TheVariants.{Greater}
 use Rattle.std.specs.Ordering.{nat_cmp}
 use Rattle.std.specs.Cmp.Lexicographic.{slice_cmp}
 use Rattle.std.specs.Option.{option_and_then}
 use Rattle.std.specs.FinMap as finmap
+use Rattle.vault_layout.specs.Limits.{identifier_limit}
 use Rattle.outside.specs.Disk.{Disk, node_at as thing_at, file as host_file, IsFolder}
 use Rattle.tree_model.specs.Rows.{Kind, dir, file, link, bad, Content, chunks, Row, Rows, root}
 use Rattle.clear_tree.specs.Walk.{Path, Sealing, Node, File, Link, Dir, Bad, node_at, IsOwner}
@@ -13,7 +14,7 @@ use Rattle.clear_tree.specs.Marks.{Marks, AreMarks}
 use Rattle.clear_tree.specs.Rows.{Nodes, parent_of, name_of, IsClear}
 
 -- what a node is: a file or a link with the size of its host file in bytes, a directory with its identifier and the 32 characters of its
--- folder, a Bad node with the text of its `dir.c9r`, of which the first 1,001 bytes are kept
+-- folder, a Bad node with the text of its `dir.c9r`, of which no more is kept than the limit
 pub data What : Type 0 where
   KeptFile : ℕ → What
   KeptLink : ℕ → What
@@ -37,9 +38,9 @@ pub record KeptTree : Type 0 where
 
 -- ---- what is kept of a disk
 
--- of a `dir.c9r` no more is kept than shows whether it is an identifier, which has at most 1,000 bytes
+-- of a `dir.c9r` no more is kept than shows whether it is an identifier, which is no longer than the limit
 abbrev pub text_limit : ℕ
-text_limit = 1001
+text_limit = suc identifier_limit
 
 abbrev pub kept_text : List ℕ → List ℕ
 kept_text text = take text_limit text
@@ -215,18 +216,6 @@ pub record IsNamed (tree : KeptTree) (parent : ℕ) (name : List ℕ) (number : 
 abbrev pub IsBehind : Option (List ℕ) → List ℕ → Type 0
 IsBehind None name = Unit {0}
 IsBehind (Some last) name = slice_cmp nat_cmp name last ≡ Greater
-
--- the first of a directory's nodes whose name follows this one
-pub record IsNext (tree : KeptTree) (parent : ℕ) (last : Option (List ℕ)) (number : ℕ) : Type 0 where
-  pub node : KeptNode
-  pub child : IsChild tree parent number node
-  pub behind : IsBehind last node.name
-  pub first : (other : ℕ) (node' : KeptNode) → IsChild tree parent other node' → IsBehind last node'.name → other ≢ number
-      → slice_cmp nat_cmp node.name node'.name ≡ Less
-
--- no node of the directory follows this name
-abbrev pub IsNoNext : KeptTree → ℕ → Option (List ℕ) → Type 0
-IsNoNext tree parent last = (other : ℕ) (node : KeptNode) → IsChild tree parent other node → IsBehind last node.name → ⊥
 
 -- ---- what holds of each kept tree
 

@@ -1,27 +1,28 @@
 -- What the walk sees of a disk: at each text of a directory's folder, at its short place or its long one (Cryptomator's vault
 -- format 8).
-use Rattle.std.specs.Prelude.{ℕ, Bool, true, false, cond, List, [], ◌∷◌, Option, Some, None, bytes_eq, take, drop, codes}
+use Rattle.std.specs.Prelude.{ℕ, Bool, true, false, cond, List, [], ◌∷◌, Option, Some, None, bytes_eq, take, drop}
 use Rattle.std.specs.FinMap.{get}
+use Rattle.vault_layout.specs.Names.{contents_file, directory_file, folders, identifier_copy, link_file, name_file}
 use Rattle.outside.specs.Disk.{Disk, Node as Thing, folder as Folder, file as Bytes}
 use Rattle.clear_tree.specs.Walk.{Kind, Plain, Named, Linked, Bare, Folders, Sealing}
 
 abbrev pub text_d : List ℕ
-text_d = codes "d"
+text_d = folders
 
 abbrev pub text_dirid : List ℕ
-text_dirid = codes "dirid.c9r"
+text_dirid = identifier_copy
 
 abbrev pub text_dir : List ℕ
-text_dir = codes "dir.c9r"
+text_dir = directory_file
 
 abbrev pub text_symlink : List ℕ
-text_symlink = codes "symlink.c9r"
+text_symlink = link_file
 
 abbrev pub text_contents : List ℕ
-text_contents = codes "contents.c9r"
+text_contents = contents_file
 
 abbrev pub text_name : List ℕ
-text_name = codes "name.c9s"
+text_name = name_file
 
 -- a folder of a directory is named by its 32 characters
 abbrev pub host_two : List ℕ → List (List ℕ)

@@ -4,6 +4,7 @@ ghost use Rattle.std.specs.Prelude.{◌≡◌, IsTrue};
 ghost use Rattle.vault_path.specs.Parts.{is_part, is_path};
 ghost use Rattle.clear_tree.specs.Places.{host_two, host_folder, host_entry, host_inner};
 
+use vault_layout::FOLDERS;
 use vault_path::VaultPath;
 
 /// The path of what holds a directory's folder: `d`, and the first two of its characters.
@@ -12,7 +13,7 @@ pub fn host_two(folder: &[u8; 32]) -> VaultPath
     ensures { result ≡ host_two folder.now }
 {
     let (two, _) = folder.split_at(2);
-    VaultPath::root().joined(b"d").joined(two)
+    VaultPath::root().joined(FOLDERS).joined(two)
 }
 
 /// The path of a directory's folder.

@@ -4,8 +4,7 @@
 //! ```
 //! let mut tree = Tree::with_root(alloc, folder)?;
 //! tree.push(Node::new(0, name, What::File { size: 68 }, entry, false, false))?;
-//! let number = tree.look(0, b"notes")?;
-//! let host = tree.path(number)?;
+//! let host = tree.path(1)?;
 //! ```
 //!
 //! Its free functions are laws: they do nothing, and their clauses hold.

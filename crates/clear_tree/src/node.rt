@@ -6,10 +6,9 @@ ghost use Rattle.tree_model.specs.Names.{IsClearName, name_limit};
 ghost use Rattle.tree_model.specs.Rows.{root};
 ghost use Rattle.clear_tree.specs.Places.{host_folder};
 ghost use Rattle.clear_tree.specs.Kept.{folder_in};
-ghost use Rattle.clear_tree.specs.Built.{kept_what, HasHostFolder, IsFile, place_cmp, place_of, is_past, marked_node, renamed_node, sized_node, root_node};
+ghost use Rattle.clear_tree.specs.Built.{kept_what, HasHostFolder, IsFile, marked_node, renamed_node, sized_node, root_node};
 
 use std::alloc::{AllocError, Global};
-use std::cmp::Ordering;
 use std::marker::Model;
 use vault_path::Text;
 
@@ -20,7 +19,7 @@ pub enum What {
     Link { size: u64 },
     /// A directory: its identifier, and the 32 characters of its folder.
     Dir { identifier: Text, folder: [u8; 32] },
-    /// A node whose `dir.c9r` names no folder of its own: the first 1,001 bytes of that text.
+    /// A node whose `dir.c9r` names no folder of its own: what is kept of that text, one byte more than the longest identifier.
     Bad { text: Text },
 }
 
@@ -189,25 +188,6 @@ impl Node {
         ensures { self.new ≡ sized_node size self.old }
     {
         self.what = What::File { size };
-    }
-
-    /// How its place compares to that of a name in a directory.
-    pub(crate) fn place_cmp(&self, parent: u64, name: &[u8]) -> Ordering
-        ensures { result ≡ place_cmp (place_of self.now) (parent, name.now) }
-    {
-        self.parent
-            .cmp(&parent)
-            .then(self.name.as_bytes().cmp(&name))
-    }
-
-    /// Whether it follows a name in a directory, or in a directory of a higher number.
-    pub(crate) fn is_past(&self, parent: u64, last: Option<&[u8]>) -> bool
-        ensures { result ≡ is_past parent (option_copied last.entry) (place_of self.now) }
-    {
-        match last {
-            None => self.parent >= parent,
-            Some(name) => self.place_cmp(parent, name).is_gt(),
-        }
     }
 
     pub(crate) fn mark_foreign(&mut self, foreign: bool)

@@ -1,20 +1,16 @@
-ghost use Rattle.std.specs.Prelude.{◌≡◌, ◌≢◌, ◌<◌, ◌≤◌, ℕ, ◌∷◌, length, true, false, IsTrue, Some, None, IfSome, IfNone, IsSomeAnd, IfOk, OnOk, OnErr, slice_get};
+ghost use Rattle.std.specs.Prelude.{◌≡◌, ◌<◌, ℕ, ◌∷◌, length, false, IsTrue, Some, None, IfSome, IfOk, OnOk, OnErr, slice_get};
 ghost use Rattle.std.specs.Option.{option_copied};
 ghost use Rattle.vault_path.specs.Parts.{is_part, is_path};
 ghost use Rattle.clear_tree.specs.Places.{host_folder, host_entry, host_inner};
-ghost use Rattle.clear_tree.specs.Kept.{KeptNode, IsNamed, IsNext, IsNoNext, IsTree, folder_in, node_of, path_of, size_of};
-ghost use Rattle.clear_tree.specs.Built.{AreInOrder, place_of, is_past, FitsBehind, root_alone, with_node, with_foreign, with_twice};
+ghost use Rattle.clear_tree.specs.Kept.{KeptNode, IsTree, folder_in, node_of, path_of, size_of};
+ghost use Rattle.clear_tree.specs.Built.{FitsBehind, root_alone, with_node, with_foreign, with_twice};
 
 use crate::host_paths::{host_entry, host_inner};
 use crate::node::{Node, What};
 use std::alloc::{AllocError, Global};
 use std::marker::Model;
+use vault_layout::{CONTENTS_FILE, LINK_FILE};
 use vault_path::VaultPath;
-
-// The file of a node folder at its long place, and that of a link.
-const CONTENTS: &[u8] = b"contents.c9r";
-
-const SYMLINK: &[u8] = b"symlink.c9r";
 
 /// The nodes of a tree that was taken apart: the root, and the others in the order of their numbers.
 #[derive(Drop)]
@@ -24,7 +20,7 @@ pub struct TreeNodes {
 }
 
 /// The tree of a vault in memory: its nodes by number in the walk's order, breadth first and in each directory by the names'
-/// bytes, so that a name is found by one binary search. Clauses see what is kept of the vault's disk.
+/// bytes. Clauses see what is kept of the vault's disk.
 #[derive(Drop)]
 pub struct Tree {
     root: Node,
@@ -126,29 +122,6 @@ impl Tree {
         }
     }
 
-    /// The number of the node of this name in a directory. O(log n).
-    pub fn look(&self, parent: u64, name: &[u8]) -> Option<u64>
-        ensures found { IfSome result (λ number. IsNamed self.now parent name.now number) }
-        ensures none { IfNone result ((number : ℕ) → IsNamed self.now parent name.now number → ⊥) }
-    {
-        let index = index_of(&self.others, parent, name)?;
-        Some(index as u64 + 1)
-    }
-
-    /// The number of the first node of a directory after a name, or of its first node. O(log n).
-    pub fn next_after(&self, parent: u64, last: Option<&[u8]>) -> Option<u64>
-        ensures next { IfSome result (λ number. IsNext self.now parent (option_copied last.entry) number) }
-        ensures none { IfNone result (IsNoNext self.now parent (option_copied last.entry)) }
-    {
-        let index = first_past(&self.others, parent, last);
-        let node = self.others.get(index)?;
-        if node.parent() == parent {
-            Some(index as u64 + 1)
-        } else {
-            None
-        }
-    }
-
     /// Where the host file of a file or a link is. It takes no memory.
     pub fn path(&self, number: u64) -> Option<VaultPath>
         ensures { result ≡ path_of self.now number }
@@ -156,9 +129,13 @@ impl Tree {
         let node = self.node(number)?;
         let folder = self.node(node.parent())?.folder()?;
         match node.what() {
-            What::File { .. } if node.is_long() => Some(host_inner(folder, node.entry(), CONTENTS)),
+            What::File { .. } if node.is_long() => Some(host_inner(
+                folder,
+                node.entry(),
+                CONTENTS_FILE,
+            )),
             What::File { .. } => Some(host_entry(folder, node.entry())),
-            What::Link { .. } => Some(host_inner(folder, node.entry(), SYMLINK)),
+            What::Link { .. } => Some(host_inner(folder, node.entry(), LINK_FILE)),
             _ => None,
         }
     }
@@ -172,27 +149,4 @@ impl Tree {
             _ => None,
         }
     }
-}
-
-// The place of the node of this name in a directory.
-fn index_of(nodes: &[Node], parent: u64, name: &[u8]) -> Option<usize>
-    requires { AreInOrder nodes.now }
-    ensures small { IfSome result (λ index. index < length nodes.now) }
-    ensures found { IfSome result (λ index. IsSomeAnd (slice_get nodes.now index) (λ node. place_of node ≡ (parent, name.now))) }
-    ensures none { IfNone result ((index : ℕ) (node : KeptNode) → slice_get nodes.now index ≡ Some node → place_of node ≢ (parent, name.now)) }
-{
-    nodes
-        .binary_search_by(|node| node.place_cmp(parent, name))
-        .ok()
-}
-
-// The place of the first node after a name of a directory, or in a directory of a higher number.
-fn first_past(nodes: &[Node], parent: u64, last: Option<&[u8]>) -> usize
-    requires { AreInOrder nodes.now }
-    ensures before { (index : ℕ) (node : KeptNode) → index < result → slice_get nodes.now index ≡ Some node
-        → is_past parent (option_copied last.entry) (place_of node) ≡ false }
-    ensures behind { (index : ℕ) (node : KeptNode) → result ≤ index → slice_get nodes.now index ≡ Some node
-        → is_past parent (option_copied last.entry) (place_of node) ≡ true }
-{
-    nodes.partition_point(|node| !node.is_past(parent, last))
 }

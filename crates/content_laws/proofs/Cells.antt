@@ -4,7 +4,7 @@ use Rattle.std.specs.Option.{is_some, option_map, option_map_or, option_and_then
 use Rattle.std.specs.List.{range_with_len}
 use Rattle.std.proofs.lemmas.Bool.{cases_lt}
 use Rattle.std.proofs.lemmas.Bool.Decides.{nat_tests}
-use Rattle.siv_mode.specs.Keys.{KeyPair}
+use Rattle.vault_keys.specs.Keys.{KeyPair}
 use Rattle.tree_model.specs.Rows.{Cell, good, damaged, bad_size, chunks, all_there}
 use Rattle.tree_model.specs.Contents.{with_chunks}
 use Rattle.file_chunks.specs.Header.{Head, header_opens}

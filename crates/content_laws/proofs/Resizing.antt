@@ -5,7 +5,7 @@ use Rattle.std.specs.List.{range_with_len}
 use Rattle.std.proofs.lemmas.Bool.Decides.{nat_tests}
 use Rattle.std.proofs.lemmas.List.{take-take}
 use Rattle.std.proofs.lemmas.List.FromFn.{take-map-range_with_len, map-range_with_len_more}
-use Rattle.siv_mode.specs.Keys.{KeyPair}
+use Rattle.vault_keys.specs.Keys.{KeyPair}
 use Rattle.tree_model.specs.Rows.{Cell, good, Content, chunks, joined, joined_cells}
 use Rattle.tree_model.specs.Contents.{sealed_chunk, cut_cells, written_cells, resized_cells, resized, written, with_chunks}
 use Rattle.file_chunks.specs.Header.{Head, header_opens}

@@ -6,7 +6,7 @@ use Rattle.std.proofs.lemmas.Bool.{cases_lt}
 use Rattle.std.proofs.lemmas.Bool.Decides.{nat_tests}
 use Rattle.std.proofs.lemmas.List.{take_all}
 use Rattle.std.proofs.lemmas.List.FromFn.{length-map-range_with_len}
-use Rattle.siv_mode.specs.Keys.{KeyPair}
+use Rattle.vault_keys.specs.Keys.{KeyPair}
 use Rattle.tree_model.specs.Rows.{Cell, good, Content, chunks, joined, joined_cells, content_length}
 use Rattle.tree_model.specs.Contents.{spliced, is_met, sealed_chunk, written_cells, written, with_chunks}
 use Rattle.file_chunks.specs.Header.{Head, header_opens}

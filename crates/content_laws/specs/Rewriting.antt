@@ -4,7 +4,7 @@ use Rattle.std.specs.Int.{div_ceil}
 use Rattle.outside.specs.Changes.{overwritten}
 use Rattle.file_chunks.specs.Header.{Head}
 use Rattle.file_chunks.specs.Chunk.{chunk_opens}
-use Rattle.file_chunks.specs.declared.size.TheConstants.{CHUNK_LENGTH, HEADER_LENGTH, SEALED_LENGTH, SEALING_LENGTH}
+use Rattle.file_chunks.specs.Sizes.{chunk_length, header_length, sealed_length, sealing_length}
 
 -- the index of the first chunk that is sealed anew, those chunks as they are sealed, one index after the other, and how many
 -- bytes the host file has afterwards
@@ -15,7 +15,7 @@ pub record Rewriting : Type 0 where
 
 -- where the chunk of an index is in its host file
 abbrev pub place_of_chunk : ℕ → ℕ
-place_of_chunk index = HEADER_LENGTH + SEALED_LENGTH * index
+place_of_chunk index = header_length + sealed_length * index
 
 -- the host file with the chunks from an index on put at their places, one after the other
 abbrev pub put_chunks : List ℕ → ℕ → List (List ℕ) → List ℕ
@@ -28,12 +28,12 @@ rewritten bytes r = take r.size (put_chunks bytes r.first r.sealed)
 
 -- how many bytes the host file of a content of this length has, whose last chunk isn't empty
 abbrev pub sealed_size : ℕ → ℕ
-sealed_size n = HEADER_LENGTH + n + SEALING_LENGTH * div_ceil n CHUNK_LENGTH
+sealed_size n = header_length + n + sealing_length * div_ceil n chunk_length
 
 -- the chunk of this index, sealed
 pub record IsSealed (head : Head) (index : ℕ) (sealed plaintext : List ℕ) : Type 0 where
   pub opens : chunk_opens head index sealed ≡ Some plaintext
-  pub long : length sealed ≡ length plaintext + SEALING_LENGTH
+  pub long : length sealed ≡ length plaintext + sealing_length
 
 -- these chunks from an index on, sealed
 abbrev pub AreSealed : Head → ℕ → List (List ℕ) → List (List ℕ) → Type 0
@@ -45,8 +45,8 @@ AreSealed head first (sealed ∷ more) (plaintext ∷ plaintexts) = IsSealed hea
 -- a sealed chunk can be put into a file of `len` bytes that has `size` afterwards: it is full or the last of the file, begins no
 -- further than the file's end, and ends within the size
 pub record CanPutChunk (size len index : ℕ) (sealed : List ℕ) : Type 0 where
-  pub short : length sealed ≤ SEALED_LENGTH
-  pub whole : (length sealed ≡ SEALED_LENGTH) ⊎ (place_of_chunk index + length sealed ≡ size)
+  pub short : length sealed ≤ sealed_length
+  pub whole : (length sealed ≡ sealed_length) ⊎ (place_of_chunk index + length sealed ≡ size)
   pub begins : place_of_chunk index ≤ len
   pub ends : place_of_chunk index + length sealed ≤ size
 

@@ -1,5 +1,5 @@
 ghost use Rattle.std.specs.Prelude.{◌≡◌, ◌⊎◌, ◌<◌, ◌≤◌, ◌+◌, ◌-◌, ◌/◌, ◌%◌, ℕ, List, [], ◌∷◌, length, take, replicate, Some, None};
-ghost use Rattle.siv_mode.specs.Keys.{KeyPair};
+ghost use Rattle.vault_keys.specs.Keys.{KeyPair};
 ghost use Rattle.tree_model.specs.Rows.{good, joined};
 ghost use Rattle.tree_model.specs.Contents.{written, resized, sealed_chunk};
 ghost use Rattle.file_chunks.specs.Header.{Head};

@@ -2,7 +2,7 @@
 use Rattle.std.proofs.Common.{◌≡◌, ◌⊎◌, ℕ, ◌+◌, ◌-◌, ◌*◌, ◌/◌, ◌%◌, ◌<◌, ◌≤◌, min, List, ◌++◌, length, take, drop, Option, Some, None, sym, ap, subst, ◌∙◌, arith, inl, length-take, length-drop, length-append}
 use Rattle.std.specs.Option.{option_map, option_and_then}
 use Rattle.std.proofs.lemmas.List.{take_at}
-use Rattle.siv_mode.specs.Keys.{KeyPair}
+use Rattle.vault_keys.specs.Keys.{KeyPair}
 use Rattle.tree_model.specs.Rows.{Content, slice_of}
 use Rattle.file_chunks.specs.Header.{Head, header_opens}
 use Rattle.file_chunks.specs.Chunk.{chunk_opens}
@@ -28,8 +28,25 @@ pub record IsNextPiece (at count done index : ℕ) (sealed chunk : List ℕ) : T
   pub place : index ≡ (at + done) / 32768
   pub bytes : chunk ≡ take 32796 (drop (32796 * (index - at / 32768)) sealed)
 
-module _ (laws : SliceLaws) (keys : KeyPair) (head : Head) (at count done index : ℕ) (sealed chunk bytes out : List ℕ) (span : IsSpan keys head at count sealed bytes)
-    (next : IsNextPiece at count done index sealed chunk) (so_far : slice_of (content_of keys bytes) at done ≡ Some (take done out)) where
+-- a piece of a slice, after those that were gathered
+pub record NextPiece : Type 0 where
+  pub keys : KeyPair
+  pub head : Head
+  pub at : ℕ
+  pub count : ℕ
+  pub done : ℕ
+  pub index : ℕ
+  pub sealed : List ℕ
+  pub chunk : List ℕ
+  pub bytes : List ℕ
+  pub out : List ℕ
+  pub span : IsSpan keys head at count sealed bytes
+  pub next : IsNextPiece at count done index sealed chunk
+  pub so_far : slice_of (content_of keys bytes) at done ≡ Some (take done out)
+
+module _ (laws : SliceLaws) (piece : NextPiece) where
+  open piece use {keys, head, at, count, done, index, chunk, bytes, out, span, next, so_far}
+
   is_chunk : chunk ≡ sealed_at bytes index
   is_chunk =
       let more : done < count = next.more in

@@ -6,7 +6,7 @@ use Rattle.content_reader.specs.declared.error.ReadErr.{ReadErr}
 use Rattle.content_reader.specs.declared.error.ReadErr.TheVariants.{Device, Damaged}
 use Rattle.content_reader.proofs.Spans.{chunks_read, header_within}
 use Rattle.std.proofs.lemmas.List.{take_all}
-use Rattle.siv_mode.specs.Keys.{KeyPair}
+use Rattle.vault_keys.specs.Keys.{KeyPair}
 use Rattle.outside.specs.Disk.{Disk, Path, node_at, file}
 use Rattle.outside.specs.Calls.{HasCause, IsUnfit, Told}
 use Rattle.outside.specs.declared.folder.FolderErr.{FolderErr}
@@ -52,11 +52,11 @@ header_ends header slice before now Device closed ends = ends
 header_ends header slice before now Damaged closed ends = closed ends
 
 -- what was read of a slice that is within a content
-pub span_is : (keys : KeyPair) (head : Head) (d : Disk) (path : Path) (at count first many n room : ℕ) (new bytes : List ℕ) → IsKey keys.enc → 0 < count
+pub span_is : (keys : KeyPair) (head : Head) (d : Disk) (path : Path) (at count : ℕ) {first : ℕ} (many n : ℕ) {room : ℕ} (new : List ℕ) {bytes : List ℕ} → IsKey keys.enc → 0 < count
     → ((bytes : List ℕ) → HasHeader d path bytes → header_opens keys (take 68 bytes) ≡ Some head) → first ≡ at / 32768 → Meets at count first many → room ≡ 32796 * many
     → (bytes : List ℕ) × (node_at d path ≡ Some (file bytes)) × (n ≡ min room (length bytes - (68 + 32796 * first))) × (take n new ≡ take n (drop (68 + 32796 * first) bytes))
     → IsWithin d path at count bytes → IsSpan keys head at count (take n new) bytes
-span_is keys head d path at count first many n room new bytes key some opens is_first meets is_room read is =
+span_is keys head d path at count {first} many n {room} new {bytes} key some opens is_first meets is_room read is =
     let there : node_at d path ≡ Some (file bytes) = is.there in
     let same : read.0 ≡ bytes = cc (read.1, there) in
     let counted : n ≡ min (32796 * many) (length bytes - (68 + 32796 * first)) =

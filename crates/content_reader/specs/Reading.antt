@@ -2,10 +2,10 @@
 use Rattle.std.specs.Prelude.{◌≡◌, ◌↔◌, ℕ, ◌+◌, ◌-◌, ◌*◌, ◌/◌, ◌<◌, ◌≤◌, List, length, take, drop, Option, Some, None, Result, Ok, Err, ⊤}
 use Rattle.outside.specs.Disk.{Disk, Path, node_at, file}
 use Rattle.outside.specs.Calls.{Rose}
-use Rattle.siv_mode.specs.Keys.{KeyPair}
+use Rattle.vault_keys.specs.Keys.{KeyPair}
 use Rattle.tree_model.specs.Rows.{Content, bad_size, chunks, slice_of}
 use Rattle.file_chunks.specs.Header.{Head, header_opens}
-use Rattle.file_chunks.specs.declared.size.TheConstants.{CHUNK_LENGTH, HEADER_LENGTH, SEALED_LENGTH}
+use Rattle.file_chunks.specs.Sizes.{chunk_length, header_length, sealed_length}
 use Rattle.file_chunks.specs.File.{IsKey, clear_length, sealed_at}
 use Rattle.content_reader.specs.declared.error.ReadErr.{ReadErr}
 use Rattle.content_reader.specs.declared.error.ReadErr.TheVariants.{Device, Damaged}
@@ -34,12 +34,12 @@ RoseUntold (Some disk) before now = ⊤
 -- a host file that has room for a header
 pub record HasHeader (disk : Disk) (path : Path) (bytes : List ℕ) : Type 0 where
   pub there : node_at disk path ≡ Some (file bytes)
-  pub long : HEADER_LENGTH ≤ length bytes
+  pub long : header_length ≤ length bytes
 
 -- sealed bytes are those of the chunks that a slice meets
 abbrev pub AreChunksOf : ℕ → ℕ → List ℕ → List ℕ → Type 0
-AreChunksOf at count bytes sealed = (index : ℕ) → at / CHUNK_LENGTH ≤ index → CHUNK_LENGTH * index < at + count
-    → take SEALED_LENGTH (drop (SEALED_LENGTH * (index - at / CHUNK_LENGTH)) sealed) ≡ sealed_at bytes index
+AreChunksOf at count bytes sealed = (index : ℕ) → at / chunk_length ≤ index → chunk_length * index < at + count
+    → take sealed_length (drop (sealed_length * (index - at / chunk_length)) sealed) ≡ sealed_at bytes index
 
 -- a slice within the content of a host file whose header opens, and the sealed bytes of its chunks
 pub record IsSpan (keys : KeyPair) (head : Head) (at count : ℕ) (sealed bytes : List ℕ) : Type 0 where
@@ -47,12 +47,12 @@ pub record IsSpan (keys : KeyPair) (head : Head) (at count : ℕ) (sealed bytes 
   pub size : ℕ
   pub sized : clear_length (length bytes) ≡ Some size
   pub inside : at + count ≤ size
-  pub header : header_opens keys (take HEADER_LENGTH bytes) ≡ Some head
+  pub header : header_opens keys (take header_length bytes) ≡ Some head
   pub chunks : AreChunksOf at count bytes sealed
 
 -- a slice of so many bytes from a place on meets these chunks
 abbrev pub Meets : ℕ → ℕ → ℕ → ℕ → Type 0
-Meets at count first many = (k : ℕ) → ((first ≤ k) × (k < first + many)) ↔ ((p : ℕ) × (at ≤ p) × (p < at + count) × (p / CHUNK_LENGTH ≡ k))
+Meets at count first many = (k : ℕ) → ((first ≤ k) × (k < first + many)) ↔ ((p : ℕ) × (at ≤ p) × (p < at + count) × (p / chunk_length ≡ k))
 
 -- a slice within the content of a host file
 pub record IsWithin (disk : Disk) (path : Path) (at count : ℕ) (bytes : List ℕ) : Type 0 where

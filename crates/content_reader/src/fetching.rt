@@ -15,7 +15,7 @@ use crate::gathering::gather;
 use crate::reader::Slice;
 use file_chunks::{HEADER_LENGTH, Header, SEALED_LENGTH, open_header, reads_are_slices, span};
 use outside::Reads;
-use siv_mode::VaultKeys;
+use vault_keys::VaultKeys;
 use vault_path::VaultPath;
 
 /// The header of a host file.

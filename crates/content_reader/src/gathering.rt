@@ -1,5 +1,5 @@
 ghost use Rattle.std.specs.Prelude.{◌≡◌, ◌≤◌, ◌<◌, ◌+◌, ◌*◌, ◌^◌, ◌++◌, ℕ, List, length, take, drop, Some, None, OnOk, OnErr, IfErr};
-ghost use Rattle.siv_mode.specs.Keys.{KeyPair};
+ghost use Rattle.vault_keys.specs.Keys.{KeyPair};
 ghost use Rattle.tree_model.specs.Asked.{count_limit};
 ghost use Rattle.tree_model.specs.Rows.{slice_of};
 ghost use Rattle.file_chunks.specs.File.{content_of};

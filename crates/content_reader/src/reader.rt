@@ -10,9 +10,9 @@ use crate::error::ReadErr;
 use crate::fetching::fill;
 use file_chunks::{CHUNK_LENGTH, SEALED_LENGTH, clear_len, reads_are_slices};
 use outside::Reads;
-use siv_mode::VaultKeys;
 use std::alloc::{AllocError, Global};
 use std::marker::Model;
+use vault_keys::VaultKeys;
 use vault_path::VaultPath;
 
 // The most bytes of a read, and the most chunks that it meets.

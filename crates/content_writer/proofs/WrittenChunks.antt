@@ -3,7 +3,7 @@ use Rattle.std.proofs.Common.{◌≡◌, inl, inr, ℕ, ◌+◌, ◌-◌, ◌*�
 use Rattle.std.proofs.lemmas.Bool.{cases_lt}
 use Rattle.std.proofs.lemmas.List.{take_all, take_rest}
 use Rattle.outside.proofs.Told.{told_then, told_always}
-use Rattle.siv_mode.specs.Keys.{KeyPair}
+use Rattle.vault_keys.specs.Keys.{KeyPair}
 use Rattle.tree_model.specs.Rows.{good}
 use Rattle.tree_model.specs.Contents.{sealed_chunk}
 use Rattle.file_chunks.specs.Chunk.{chunk_opens}

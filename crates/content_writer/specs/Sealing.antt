@@ -2,13 +2,13 @@
 use Rattle.std.specs.Prelude.{◌≡◌, ℕ, ◌+◌, ◌-◌, ◌*◌, ◌/◌, ◌<◌, min, max, List, [], ◌∷◌, ◌++◌, length, take, Option, Some, None, ⊤}
 use Rattle.outside.specs.Disk.{Disk, Path, node_at, file, IsFile}
 use Rattle.outside.specs.Calls.{Rose, Told, Extends}
-use Rattle.siv_mode.specs.Keys.{KeyPair}
+use Rattle.vault_keys.specs.Keys.{KeyPair}
 use Rattle.tree_model.specs.Rows.{good}
 use Rattle.tree_model.specs.Contents.{sealed_chunk}
 use Rattle.file_chunks.specs.Header.{Head}
 use Rattle.file_chunks.specs.Chunk.{chunk_opens}
 use Rattle.file_chunks.specs.File.{content_of, sealed_at}
-use Rattle.file_chunks.specs.declared.size.TheConstants.{CHUNK_LENGTH, NONCE_LENGTH, SEALING_LENGTH}
+use Rattle.file_chunks.specs.Sizes.{chunk_length, nonce_length, sealing_length}
 use Rattle.content_laws.specs.Rewriting.{IsSealed, AreSealed}
 use Rattle.content_laws.specs.Laws.{IsOpened, IsMet, AreChunksOf, after_write}
 use Rattle.content_writer.specs.declared.opening.OpenFile.{OpenFile}
@@ -37,16 +37,16 @@ OfOpen contents path head n P = Told contents (λ disk. (keys : KeyPair) (bytes 
 -- the chunk of an index of a host file opens to this plaintext
 pub record IsOpenedChunk (head : Head) (index : ℕ) (bytes plaintext : List ℕ) : Type 0 where
   pub opens : chunk_opens head index (sealed_at bytes index) ≡ Some plaintext
-  pub long : length plaintext + SEALING_LENGTH ≡ length (sealed_at bytes index)
+  pub long : length plaintext + sealing_length ≡ length (sealed_at bytes index)
 
 -- the plaintext of the chunk of an index of an open file; past the end of the content it is empty
 pub record IsOldPlaintext (contents : Option Disk) (path : Path) (head : Head) (n index : ℕ) (plaintext : List ℕ) : Type 0 where
-  pub long : length plaintext ≡ min CHUNK_LENGTH (n - CHUNK_LENGTH * index)
-  pub opens : CHUNK_LENGTH * index < n → OfOpen contents path head n (λ _ bytes. chunk_opens head index (sealed_at bytes index) ≡ Some plaintext)
+  pub long : length plaintext ≡ min chunk_length (n - chunk_length * index)
+  pub opens : chunk_length * index < n → OfOpen contents path head n (λ _ bytes. chunk_opens head index (sealed_at bytes index) ≡ Some plaintext)
 
 -- the chunk of an index is one of an open file, and doesn't open
 pub record IsDamagedChunk (contents : Option Disk) (path : Path) (head : Head) (n index : ℕ) : Type 0 where
-  pub inside : CHUNK_LENGTH * index < n
+  pub inside : chunk_length * index < n
   pub closed : OfOpen contents path head n (λ _ bytes. chunk_opens head index (sealed_at bytes index) ≡ None)
 
 -- a plaintext was sealed as the chunk of an index after the others, under a nonce that was drawn
@@ -54,7 +54,7 @@ pub record IsPushed (head : Head) (index : ℕ) (plaintext : List ℕ) (old new 
   pub sealed : List ℕ
   pub pushed : new ≡ old ++ sealed ∷ []
   pub is : IsSealed head index sealed plaintext
-  pub nonce : Extends drawn drawn' (take NONCE_LENGTH sealed)
+  pub nonce : Extends drawn drawn' (take nonce_length sealed)
 
 -- ---- a write into an open file
 
@@ -93,22 +93,22 @@ IsLostChunk w index = OfOpen w.contents w.path w.head w.length (λ keys bytes. s
 -- the chunk of an index was sealed, as it is afterwards, after the others
 pub record HasSealed (w : Writing) (index : ℕ) (old new : List (List ℕ)) (drawn drawn' : Option (List ℕ)) : Type 0 where
   pub plaintext : List ℕ
-  pub long : length plaintext ≡ min CHUNK_LENGTH (length_after w - CHUNK_LENGTH * index)
+  pub long : length plaintext ≡ min chunk_length (length_after w - chunk_length * index)
   pub clear : IsWrittenChunk w index plaintext
   pub pushed : IsPushed w.head index plaintext old new drawn drawn'
 
 -- so long are the chunks of m bytes from an index on
 abbrev pub AreLong : ℕ → ℕ → List (List ℕ) → Type 0
 AreLong m first [] = ⊤
-AreLong m first (plaintext ∷ more) = (length plaintext ≡ min CHUNK_LENGTH (m - CHUNK_LENGTH * first)) × AreLong m (first + 1) more
+AreLong m first (plaintext ∷ more) = (length plaintext ≡ min chunk_length (m - chunk_length * first)) × AreLong m (first + 1) more
 
 -- the chunks from the first that the write meets up to an index are sealed, as they are afterwards
 pub record AreSealedTo (w : Writing) (index : ℕ) (sealed : List (List ℕ)) : Type 0 where
   pub plaintexts : List (List ℕ)
-  pub count : min w.at w.length / CHUNK_LENGTH + length plaintexts ≡ index
-  pub long : AreLong (length_after w) (min w.at w.length / CHUNK_LENGTH) plaintexts
-  pub clear : OfOpen w.contents w.path w.head w.length (λ keys bytes. AreChunksOf (after_write (content_of keys bytes) w.at w.input) (min w.at w.length / CHUNK_LENGTH) plaintexts)
-  pub are : AreSealed w.head (min w.at w.length / CHUNK_LENGTH) sealed plaintexts
+  pub count : min w.at w.length / chunk_length + length plaintexts ≡ index
+  pub long : AreLong (length_after w) (min w.at w.length / chunk_length) plaintexts
+  pub clear : OfOpen w.contents w.path w.head w.length (λ keys bytes. AreChunksOf (after_write (content_of keys bytes) w.at w.input) (min w.at w.length / chunk_length) plaintexts)
+  pub are : AreSealed w.head (min w.at w.length / chunk_length) sealed plaintexts
 
 -- of some chunk that the write meets
 pub record IsLost (w : Writing) : Type 0 where

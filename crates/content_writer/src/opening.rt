@@ -11,7 +11,7 @@ use crate::plaintext::Plaintext;
 use content_reader::SealedFile;
 use file_chunks::{CHUNK_LENGTH, HEADER_LENGTH, Header, clear_len, open_header, reads_are_slices};
 use outside::Reads;
-use siv_mode::VaultKeys;
+use vault_keys::VaultKeys;
 use vault_path::VaultPath;
 
 /// A content file that is open: its header, and the length of its content in bytes.

@@ -21,9 +21,9 @@ use content_laws::{resized_content, unopened_content, written_content};
 use content_reader::SealedFile;
 use file_chunks::{CHUNK_LENGTH, HEADER_LENGTH, SEALED_LENGTH, SEALING_LENGTH, reads_are_slices};
 use outside::{Entropy, Reads};
-use siv_mode::VaultKeys;
 use std::alloc::{AllocError, Global};
 use std::marker::Model;
+use vault_keys::VaultKeys;
 
 /// The sealed chunks of one change of a content file, in room for 36 of them, which is taken once. Clauses see a `Rewriting`: which
 /// chunks are put into the host file, and how many bytes it has then.

@@ -7,6 +7,7 @@ use Rattle.outside.proofs.Moments.{moment_later}
 use Rattle.deeds.specs.Deeds.{PlainDeed, DoesAll, in_order}
 use Rattle.deeds.specs.Repeatable.{IsRepeatable}
 use Rattle.chunk_journal.specs.Journal.{IsBeforeOrAfter, IsReopenable, AnyMoment, HasCommitted, RecoversTo}
+use Rattle.chunk_journal.proofs.Tidy.{tidy_goes}
 use Rattle.tree_model.specs.Rows.{Rows}
 use Rattle.tree_model.specs.History.{Entry, Origin, entry_at, rows_at, rows_then, tally_at, tally_of}
 use Rattle.crash_laws.specs.Crash.{DiskShows, IsBlind, HoldsEnded, HaveEnded, IsCrash, rows_stepped}
@@ -76,6 +77,7 @@ module _ (Shows : DiskShows) (opened : ℕ) (rows : Rows) where
       → IsRunning Shows opened rows (history ++ e ∷ []) pending' log
   idles history pending pending' log e is at stable after' does shows = record {
     since = is.since;
+    tidy = is.tidy;
     past = safe_more Shows rows opened history log e (moment log) (omega (arith, at)) is.past;
     ended = ended_more history e (moment log) (omega (arith, at)) is.ended;
     at_rest = is.at_rest;
@@ -100,6 +102,7 @@ module _ (Shows : DiskShows) (opened : ℕ) (rows : Rows) where
       let shows : Shows (now log) (rows_at rows (history ++ e ∷ []) (length (history ++ e ∷ []))) = subst (λ (r : Rows). Shows (now log) r) (sym (rows_end rows history e)) after in
       record {
         since = is.since;
+        tidy = is.tidy;
         past = safe_more Shows rows opened history log e (moment log) (omega (arith, at)) is.past;
         ended = ended_more history e (moment log) (omega (arith, at)) is.ended;
         at_rest = is.at_rest;
@@ -120,6 +123,7 @@ module _ (Shows : DiskShows) (opened : ℕ) (rows : Rows) where
       → IsBroken Shows opened rows (history ++ e ∷ []) log
   stays_broken origin history log e is at stable = record {
     since = is.since;
+    tidy = is.tidy;
     past = safe_more_now Shows rows opened history log e at
         (λ k holds. omega (arith, stable, tally_stable (tally_at origin) history k (omega arith) (λ i x there. holds i x there (is.ended i x there (at_within history i x there))))) is.past;
     ended = ended_more history e (moment log) (omega (arith, at)) is.ended;
@@ -142,10 +146,11 @@ module _ (Shows : DiskShows) (opened : ℕ) (rows : Rows) where
 
     pub settles_broken : (history : List Entry) (pending : List PlainDeed) (old new : Log) → IsRepeatable pending → IsRunning Shows opened rows history pending old → AnyMoment pending old new → IsBroken Shows opened rows history new
     settles_broken history pending old new repeatable is any =
-        let all = any is.after is.does in
+        let all = any.recovers is.after is.does in
         let later = moment_later old new (IsBeforeOrAfter (now old) is.after) all in
         record {
           since = omega (arith, is.since, later);
+          tidy = tidy_goes opened old new is.tidy any.tidy;
           past = safe_goes Shows rows opened history old new (suc (moment new)) (IsBeforeOrAfter (now old) is.after) all (omega arith) is.past (λ m late before. settle_each history pending old repeatable is m late);
           ended = ended_later history (moment old) (moment new) later is.ended;
         }
@@ -158,6 +163,7 @@ module _ (Shows : DiskShows) (opened : ℕ) (rows : Rows) where
         blind is.after (now new) (rows_at rows history (length history)) is.shows_after committed.at_rest.steady.tree (committed.after is.after is.does) in
         record {
           since = broken.since;
+          tidy = broken.tidy;
           past = safe_shorter Shows rows opened history new (moment new) broken.past;
           ended = broken.ended;
           at_rest = committed.at_rest;
@@ -201,13 +207,14 @@ module _ (Shows : DiskShows) (opened : ℕ) (rows : Rows) where
         → Shows end (rows_then (rows_at rows history (length history)) e.made) → e.made.moment ≡ moment new → e.made.stable ≤ suc (length history) → AnyMoment deeds old new → HasCommitted deeds old new
         → IsRunning Shows opened rows (history ++ e ∷ []) [] new
     commits history deeds old new e end repeatable is does shows at stable any committed =
-        let all = any end does in
+        let all = any.recovers end does in
         let later = moment_later old new (IsBeforeOrAfter (now old) end) all in
         let clear_end : IsClearTree end = clear_after deeds (now old) end repeatable (quiet_clear old is.at_rest) does in
         let on_disk : Shows (now new) (rows_at rows (history ++ e ∷ []) (length (history ++ e ∷ []))) =
         blind end (now new) (rows_at rows (history ++ e ∷ []) (length (history ++ e ∷ []))) (subst (λ (r : Rows). Shows end r) (sym (rows_end rows history e)) shows) committed.at_rest.steady.tree (committed.after end does) in
         record {
           since = omega (arith, is.since, later);
+          tidy = tidy_goes opened old new is.tidy any.tidy;
           past = safe_goes Shows rows opened (history ++ e ∷ []) old new (moment new) (IsBeforeOrAfter (now old) end) all (omega arith)
               (safe_more Shows rows opened history old e (moment old) (omega (arith, at, later)) is.past)
               (λ m late before. commit_each history old e end is clear_end shows m late (omega (arith, at, before)));
@@ -259,11 +266,12 @@ module _ (Shows : DiskShows) (opened : ℕ) (rows : Rows) where
         → Shows end (rows_stepped (rows_at rows history (length history)) e.made) → e.made.moment ≡ moment new → e.made.commit_failed ≡ true → e.made.stable ≤ length history → AnyMoment deeds old new
         → IsBroken Shows opened rows (history ++ e ∷ []) new
     breaks history deeds old new e end repeatable is does shows at failed stable any =
-        let all = any end does in
+        let all = any.recovers end does in
         let later = moment_later old new (IsBeforeOrAfter (now old) end) all in
         let clear_end : IsClearTree end = clear_after deeds (now old) end repeatable (quiet_clear old is.at_rest) does in
         record {
           since = omega (arith, is.since, later);
+          tidy = tidy_goes opened old new is.tidy any.tidy;
           past = safe_goes Shows rows opened (history ++ e ∷ []) old new (suc (moment new)) (IsBeforeOrAfter (now old) end) all (omega arith)
               (safe_more Shows rows opened history old e (moment old) (omega (arith, at, later)) is.past)
               (λ m late before. flag_each history old e end is clear_end failed stable shows m late);

@@ -32,6 +32,7 @@ module _ (Shows : DiskShows) (blind : IsBlind Shows) where
   begins_now rows found old new stays opened recovers shows = record {
     since = opened.since;
     past = found_safe rows found (now new) old new stays recovers (λ q not_journal not_new. sym (opened.found found recovers q not_journal not_new)) (quiet_clear new opened.at_rest) shows (moment new) (omega arith);
+    tidy = opened.tidy;
     ended = λ i x at. absurd (cc);
     at_rest = opened.at_rest;
     base = 0;

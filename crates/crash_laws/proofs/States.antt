@@ -2,6 +2,7 @@
 use Rattle.std.proofs.Common.{◌≡◌, ◌⊎◌, ℕ, List, [], ◌∷◌, ◌++◌, Bool, true, false, cond, Option, Some, None, IsNone, IsSome, refl, sym, ap, subst, inl, inr}
 use Rattle.outside.specs.Images.{Log}
 use Rattle.deeds.specs.Deeds.{PlainDeed}
+use Rattle.chunk_journal.specs.Journal.{TidySince}
 use Rattle.tree_model.specs.Rows.{Rows}
 use Rattle.tree_model.specs.History.{Entry, Tally, Origin, tally_at, tally_of}
 use Rattle.tree_model.proofs.Histories.{after_more}
@@ -40,6 +41,10 @@ module _ (Shows : DiskShows) (opened : ℕ) (rows : Rows) where
   broke_state : (history : List Entry) (pending : List PlainDeed) (log : Log) (stopped : Option ℕ) → IsSome stopped → IsBroken Shows opened rows history log → IsInState Shows opened rows history pending log stopped
   broke_state history pending log None some is = let no : false ≡ true = some in absurd cc
   broke_state history pending log (Some f) some is = is
+
+  pub state_tidy : (history : List Entry) (pending : List PlainDeed) (log : Log) (stopped : Option ℕ) → IsInState Shows opened rows history pending log stopped → TidySince opened log
+  state_tidy history pending log None is = is.tidy
+  state_tidy history pending log (Some f) is = is.tidy
 
   -- with one entry more
 

@@ -4,7 +4,7 @@ use Rattle.outside.specs.Disk.{Disk, IsTree}
 use Rattle.outside.specs.Images.{Log, now, moment}
 use Rattle.deeds.specs.Deeds.{PlainDeed, DoesAll, in_order}
 use Rattle.deeds.specs.Repeatable.{IsRepeatable}
-use Rattle.chunk_journal.specs.Journal.{AnyMoment, HasCommitted, RecoversTo}
+use Rattle.chunk_journal.specs.Journal.{AnyMoment, HasCommitted, RecoversTo, TidySince}
 use Rattle.tree_model.specs.Asked.{PlainRequest, PlainReply}
 use Rattle.tree_model.specs.Rows.{Rows}
 use Rattle.tree_model.specs.History.{Entry, Origin, rows_at, rows_then, tally_of, IsCaused, IsAnswered, IsLegal}
@@ -117,6 +117,11 @@ LivesOn Shows = (opened : ℕ) (rows : Rows) (history : List Entry) (pending : L
 abbrev pub StateRecovers : DiskShows → Type 0
 StateRecovers Shows = (opened : ℕ) (rows : Rows) (history : List Entry) (pending : List PlainDeed) (log : Log) (stopped : Option ℕ)
     → IsInState Shows opened rows history pending log stopped → StopsRecover Shows opened rows history log
+
+-- at each moment since, what isn't on the disk is loose
+abbrev pub StateIsTidy : DiskShows → Type 0
+StateIsTidy Shows = (opened : ℕ) (rows : Rows) (history : List Entry) (pending : List PlainDeed) (log : Log) (stopped : Option ℕ)
+    → IsInState Shows opened rows history pending log stopped → TidySince opened log
 
 -- ---- opening
 

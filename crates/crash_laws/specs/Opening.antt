@@ -4,7 +4,7 @@ use Rattle.outside.specs.Disk.{Disk, IsTree}
 use Rattle.outside.specs.Images.{Log, now, moment, log_at, IsImage}
 use Rattle.deeds.specs.Deeds.{PlainDeed}
 use Rattle.deeds.specs.Repeatable.{IsRepeatable}
-use Rattle.chunk_journal.specs.Journal.{HoldsBatch, IsQuiet, IsAlike, RecoversTo, RecoversLike, Recovered, RecoveredLike}
+use Rattle.chunk_journal.specs.Journal.{HoldsBatch, IsQuiet, IsAlike, RecoversTo, RecoversLike, Recovered, RecoveredLike, TidySince}
 use Rattle.chunk_journal.specs.Opening.{HasFolder}
 use Rattle.tree_model.specs.Rows.{Rows}
 use Rattle.crash_laws.specs.Crash.{DiskShows}
@@ -20,11 +20,12 @@ abbrev pub StaysAsFound : Log → Log → Type 0
 StaysAsFound old new = (found : Disk) → Recovered (now old) found →
     (m : ℕ) → suc (moment old) ≤ m → m ≤ moment new → (image : Disk) → IsImage (log_at new m) image → RecoveredLike found image
 
--- the journal is quiet, and what the found disk recovers to is on the disk
+-- the journal is quiet, what the found disk recovers to is on the disk, and at each moment since the first sync what isn't on the disk is loose
 pub record HasFound (old new : Log) : Type 0 where
   pub at_rest : IsQuiet new
   pub since : suc (moment old) ≤ moment new
   pub found : (found : Disk) → RecoversTo (now old) found → IsAlike found (now new)
+  pub tidy : TidySince (suc (moment old)) new
 
 -- a tree with no folder in the place of either of the journal's files
 pub record IsClearTree (disk : Disk) : Type 0 where

@@ -3,7 +3,7 @@ use Rattle.std.specs.Prelude.{ℕ, suc, ◌≤◌, ◌<◌, List, length, Option
 use Rattle.outside.specs.Disk.{Disk}
 use Rattle.outside.specs.Images.{Log, now, moment, log_at, IsImage}
 use Rattle.deeds.specs.Deeds.{PlainDeed, DoesAll, in_order}
-use Rattle.chunk_journal.specs.Journal.{IsQuiet}
+use Rattle.chunk_journal.specs.Journal.{IsQuiet, TidySince}
 use Rattle.tree_model.specs.Rows.{Rows}
 use Rattle.tree_model.specs.History.{Entry, rows_at}
 use Rattle.crash_laws.specs.Crash.{DiskShows, IsCrash, HoldsEnded, HaveEnded}
@@ -14,10 +14,11 @@ WasSafe Shows opened rows history log end =
     (m : ℕ) → opened ≤ m → m < end → (image : Disk) → IsImage (log_at log m) image → IsCrash Shows rows history m image
 
 -- The journal is at rest, the first `base` entries are on the disk, what is pending makes the rest of them, and nothing that is stable
--- is pending. Of the present moment nothing is said beside: its one image is what reads give.
+-- is pending. Of the present moment nothing is said beside: its one image is what reads give. At each moment what isn't on the disk is loose.
 pub record IsRunning (Shows : DiskShows) (opened : ℕ) (rows : Rows) (history : List Entry) (pending : List PlainDeed) (log : Log) : Type 0 where
   pub since : opened ≤ moment log
   pub past : WasSafe Shows opened rows history log (moment log)
+  pub tidy : TidySince opened log
   pub ended : HaveEnded history (moment log) (length history)
   pub at_rest : IsQuiet log
   pub base : ℕ
@@ -32,6 +33,7 @@ pub record IsRunning (Shows : DiskShows) (opened : ℕ) (rows : Rows) (history :
 pub record IsBroken (Shows : DiskShows) (opened : ℕ) (rows : Rows) (history : List Entry) (log : Log) : Type 0 where
   pub since : opened ≤ moment log
   pub past : WasSafe Shows opened rows history log (suc (moment log))
+  pub tidy : TidySince opened log
   pub ended : HaveEnded history (moment log) (length history)
 
 -- running, or broken from the entry on whose commit failed

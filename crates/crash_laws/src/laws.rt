@@ -1,7 +1,7 @@
 //! How what a history stands for goes on, and what follows of each stop.
 
 ghost use Rattle.crash_laws.specs.Crash.{IsBlind};
-ghost use Rattle.crash_laws.specs.Laws.{BaseHolds, Begins, BeginsNow, Breaks, ClosesSafely, ClosesWhole, Commits, Continues, CrashMore, Idles, IdlesKept, LivesOn, MomentHolds, OpeningFails, RecoversToTrees, RunningSafe, RunsOn, Settles, SettlesBroken, StablesFollow, StateIsBroken, StateRecovers, StateRuns, StaysBroken, StaysStopped, StopsAreSound, WholesAreSound};
+ghost use Rattle.crash_laws.specs.Laws.{BaseHolds, Begins, BeginsNow, Breaks, ClosesSafely, ClosesWhole, Commits, Continues, CrashMore, Idles, IdlesKept, LivesOn, MomentHolds, OpeningFails, RecoversToTrees, RunningSafe, RunsOn, Settles, SettlesBroken, StablesFollow, StateIsBroken, StateIsTidy, StateRecovers, StateRuns, StaysBroken, StaysStopped, StopsAreSound, WholesAreSound};
 
 use crate::shape::ShowsRows;
 
@@ -70,9 +70,11 @@ pub fn begins<S: ShowsRows>(shape: &S)
     ensures failed { IsBlind (S.shows shape.now) → OpeningFails (S.shows shape.now) }
 {}
 
-/// A stop at any moment recovers to a prefix of the history that holds all that was synced. It does nothing.
+/// A stop at any moment recovers to a prefix of the history that holds all that was synced; and what isn't on the disk is loose. It does
+/// nothing.
 pub fn stops_recover<S: ShowsRows>(shape: &S)
-    ensures { StateRecovers (S.shows shape.now) }
+    ensures prefix { StateRecovers (S.shows shape.now) }
+    ensures tidy { StateIsTidy (S.shows shape.now) }
 {}
 
 /// What is pending is committed at the end: then all entries are on the disk. Whether it failed or not, a stop recovers to a

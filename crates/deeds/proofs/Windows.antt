@@ -69,7 +69,7 @@ get_drop xs i x e =
     let lt : i < length xs = slice_get_within xs i x e in
     drop-cons xs i x lt ∙ (λ k. get_or_from_slice_get xs i x x e k ∷ drop (sym (add-one i) k) xs)
 
-take_next : {A : Type 0} (i : ℕ) (xs : List A) (x : A) (rest : List A) → drop i xs ≡ x ∷ rest → take (suc i) xs ≡ take i xs ++ x ∷ []
+pub take_next : {A : Type 0} (i : ℕ) (xs : List A) (x : A) (rest : List A) → drop i xs ≡ x ∷ rest → take (suc i) xs ≡ take i xs ++ x ∷ []
 take_next zero xs x rest e = ap (take 1) e
 take_next (suc i) [] x rest e = absurd cc
 take_next (suc i) (y ∷ xs) x rest e = ap (λ (l : List _). y ∷ l) (take_next i xs x rest e)

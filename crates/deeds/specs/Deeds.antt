@@ -2,7 +2,7 @@
 use Rattle.std.specs.Prelude.{◌≡◌, ◌⊎◌, ◌≢◌, ⊤, ℕ, suc, ◌≤◌, List, [], ◌∷◌, ◌++◌, length, take, drop, Bool, true, false, IsTrue, filter, Option, Some, None}
 use Rattle.outside.specs.Disk.{Disk, Path, Node, folder, file, node_at, IsFile}
 use Rattle.outside.specs.Calls.{Rose}
-use Rattle.outside.specs.Images.{Call, Log, now, IsImage, LeavesOnly}
+use Rattle.outside.specs.Images.{Call, Did, Broke, Synced, Log, now, disk_after, IsImage, BreaksInto, LeavesOnly}
 use Rattle.deeds.specs.declared.phase.Phase.{Phase}
 use Rattle.deeds.specs.declared.phase.Phase.TheVariants as phases
 use Rattle.deeds.specs.declared.phase.DeedErr.{DeedErr}
@@ -145,10 +145,18 @@ StaysAmid some old new =
 
 -- ---- a folder's log
 
--- its calls go on from the old ones, and change none of them
+-- each of the calls since, after the older ones, was as it can be
+abbrev pub AreSound : Disk → List Call → List Call → Type 0
+AreSound start older [] = ⊤
+AreSound start older (Did change ∷ since) = AreSound start older since × CanDo change (disk_after start (since ++ older))
+AreSound start older (Broke change left ∷ since) = AreSound start older since × BreaksInto change (disk_after start (since ++ older)) left
+AreSound start older (Synced ∷ since) = AreSound start older since
+
+-- its calls go on from the old ones, change none of them, and were as they can be
 pub record LogGoesOn (old new : Log) : Type 0 where
   pub start : new.start ≡ old.start
   pub later : (since : List Call) × (new.calls ≡ since ++ old.calls)
+  pub sound : AreSound old.start old.calls later.0
 
 -- the calls that are left of a reshaping can be made, and leave this
 abbrev pub IsLeft : Path → ℕ → Ranges → Disk → Disk → Type 0

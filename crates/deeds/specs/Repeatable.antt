@@ -1,15 +1,16 @@
 -- Batches that can be done again on whatever a stop left of them, beside the journal's two files.
 use Rattle.std.specs.Prelude.{◌≡◌, ◌≢◌, ℕ, List, [], ◌∷◌, refl}
 use Rattle.outside.specs.Disk.{Path}
+use Rattle.vault_layout.specs.Names.{journal_file as journal_text, new_journal_file as new_journal_text}
 use Rattle.deeds.specs.Deeds.{PlainDeed, AreApart, Unnamed}
 
--- `served.journal`
+-- the journal's file
 pub journal_name : List ℕ
-journal_name = 115 ∷ 101 ∷ 114 ∷ 118 ∷ 101 ∷ 100 ∷ 46 ∷ 106 ∷ 111 ∷ 117 ∷ 114 ∷ 110 ∷ 97 ∷ 108 ∷ []
+journal_name = journal_text
 
--- `served.journal.new`
+-- where the first one is made
 pub new_name : List ℕ
-new_name = 115 ∷ 101 ∷ 114 ∷ 118 ∷ 101 ∷ 100 ∷ 46 ∷ 106 ∷ 111 ∷ 117 ∷ 114 ∷ 110 ∷ 97 ∷ 108 ∷ 46 ∷ 110 ∷ 101 ∷ 119 ∷ []
+new_name = new_journal_text
 
 pub names_apart : new_name ≢ journal_name
 unfolding journal_name new_name
@@ -21,12 +22,12 @@ journal_file = journal_name ∷ []
 abbrev pub new_file : Path
 new_file = new_name ∷ []
 
--- the bytes of the names are these, and both are paths
-pub journal_spelled : journal_name ≡ 115 ∷ 101 ∷ 114 ∷ 118 ∷ 101 ∷ 100 ∷ 46 ∷ 106 ∷ 111 ∷ 117 ∷ 114 ∷ 110 ∷ 97 ∷ 108 ∷ []
+-- the names are the format's, and both are paths
+pub journal_spelled : journal_name ≡ journal_text
 unfolding journal_name
 journal_spelled = refl
 
-pub new_spelled : new_name ≡ 115 ∷ 101 ∷ 114 ∷ 118 ∷ 101 ∷ 100 ∷ 46 ∷ 106 ∷ 111 ∷ 117 ∷ 114 ∷ 110 ∷ 97 ∷ 108 ∷ 46 ∷ 110 ∷ 101 ∷ 119 ∷ []
+pub new_spelled : new_name ≡ new_journal_text
 unfolding new_name
 new_spelled = refl
 

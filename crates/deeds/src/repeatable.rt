@@ -4,23 +4,24 @@ ghost use Rattle.deeds.specs.Plain.{plain, plains};
 ghost use Rattle.deeds.specs.Repeatable.{journal_file, new_file, IsRepeatable};
 
 use crate::deed::Deed;
+use vault_layout::{JOURNAL_FILE, NEW_JOURNAL_FILE};
 use vault_path::VaultPath;
 
-/// `served.journal`, the journal's file.
+/// The journal's file.
 pub fn journal_path() -> VaultPath
     ensures { result ≡ journal_file }
 {
-    match VaultPath::root().join(b"served.journal") {
+    match VaultPath::root().join(JOURNAL_FILE) {
         Ok(path) => path,
         Err(_) => unreachable!(),
     }
 }
 
-/// `served.journal.new`, where the first journal is made.
+/// Where the first journal is made.
 pub fn new_path() -> VaultPath
     ensures { result ≡ new_file }
 {
-    match VaultPath::root().join(b"served.journal.new") {
+    match VaultPath::root().join(NEW_JOURNAL_FILE) {
         Ok(path) => path,
         Err(_) => unreachable!(),
     }

@@ -11,7 +11,7 @@ use Rattle.outside_mem.specs.Links.{Ends, Links}
 use Rattle.outside_mem.specs.Plan.{no_faults}
 use Rattle.outside_mem.specs.Streams.{Left, Taken}
 use Rattle.outside_mem.specs.Words.{Drawing, drawn_bytes, words_from}
-use Rattle.siv_mode.specs.Keys.{KeyPair}
+use Rattle.vault_keys.specs.Keys.{KeyPair}
 use Rattle.vault_names.specs.Folder.{folder_of}
 use Rattle.demonstration.specs.Words.{stream_seed}
 use Rattle.demonstration.specs.Script.{script_of, spelled_messages}

@@ -12,8 +12,8 @@ ghost use Rattle.demonstration.specs.declared.contents.TheConstants.{PIECE};
 use crate::error::LeftErr;
 use content_reader::{ContentReader, SealedFile, Slice};
 use outside::Reads;
-use siv_mode::VaultKeys;
 use std::alloc::{AllocError, Global};
+use vault_keys::VaultKeys;
 
 // How many bytes are read at once.
 const PIECE: usize = 65_536;

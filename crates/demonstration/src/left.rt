@@ -17,9 +17,9 @@ use crate::nodes::rows_of;
 use crate::rows::DemoRow;
 use clear_tree::Tree;
 use outside::Reads;
-use siv_mode::VaultKeys;
 use std::alloc::Global;
 use std::cmp::Ordering;
+use vault_keys::VaultKeys;
 
 /// The rows of all nodes but the root of a tree that was loaded from a vault's folder under these keys, in the order of their paths' bytes. The folder is only
 /// read.

@@ -14,7 +14,7 @@
 //! The nodes that are left of a vault's tree, as the lines that sum a demonstration up.
 //!
 //! ```
-//! let tree = load(alloc, &mut folder, &keys, 220)?;
+//! let tree = load(alloc, &mut folder, &keys, DEFAULT_THRESHOLD)?;
 //! let rows = rows_left(alloc, &mut folder, &keys, &tree)?;
 //! let line = summary(alloc, clients, requests, entries, &rows)?;
 //! ```

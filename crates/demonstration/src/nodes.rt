@@ -15,8 +15,8 @@ use clear_tree::{Tree, What};
 use content_reader::{ContentReader, SealedFile};
 use outside::Reads;
 use sha2::{Digest, Sha256};
-use siv_mode::VaultKeys;
 use std::alloc::{AllocError, Global};
+use vault_keys::VaultKeys;
 
 // The number of the root (its row is in no list).
 const ROOT: u64 = 0;

@@ -10,8 +10,8 @@ ghost use Rattle.demonstration.specs.declared.vault.TheConstants.{KEYS_LEN};
 use crate::words::stream_seed;
 use outside::{Entropy, Folder};
 use outside_mem::{MemFolder, SeedEntropy};
-use siv_mode::VaultKeys;
 use std::alloc::{AllocError, Global};
+use vault_keys::VaultKeys;
 use vault_names::folder_of;
 use vault_path::VaultPath;
 

@@ -16,7 +16,7 @@ use Rattle.pending_files.specs.Pending.{IsInside, HasRoom}
 use Rattle.pending_files.specs.Laid.{CanWait, laid, laid_log}
 use Rattle.pending_files.proofs.Laying.{none_waits, same_told}
 use Rattle.chunk_journal.specs.Journal.{AnyMoment, HasCommitted, IsAlike, IsQuiet}
-use Rattle.siv_mode.specs.Keys.{KeyPair}
+use Rattle.vault_keys.specs.Keys.{KeyPair}
 use Rattle.tree_model.specs.Rows.{Content}
 use Rattle.tree_model.specs.Asked.{PlainRequest}
 use Rattle.tree_model.specs.Step.{Answer}
@@ -31,14 +31,13 @@ use Rattle.write_back.specs.Shown.{HasFile}
 use Rattle.node_changes.specs.Changed.{StandsOn, IsStepAnswer, IsLate}
 use Rattle.node_changes.specs.Within.{AreWithin}
 use Rattle.node_changes.proofs.Beside.{stands_beside}
-use Rattle.request_checks.specs.Files.{IsFileOf}
-use Rattle.file_changes.specs.Held.{rewritten_tree, RowsAreRewritten}
+use Rattle.file_changes.specs.Held.{RowsAreRewritten}
 use Rattle.file_changes.specs.Steps.{ChangesContent}
 use Rattle.file_changes.specs.Files.{IsSealedFor, IsSealedIn}
 use Rattle.file_changes.specs.Waiting.{HasPut, HasWritten, IsAtRestOver, IsFlush, IsNotFlushed, MayBeFlushed}
 use Rattle.file_changes.proofs.Within.{path_within, rewriting_within}
-use Rattle.file_changes.proofs.Standing.{there, old, old_long, answered, shows, spares, still_stands}
-use Rattle.file_changes.proofs.Telling.{Stands}
+use Rattle.file_changes.proofs.Standing.{HeldFile, TreeAfter, there, old, old_long, answered, shows, spares, still_stands}
+use Rattle.file_changes.proofs.Telling.{ToldFile, Stands}
 
 -- ---- a change that waits
 
@@ -213,8 +212,31 @@ put_behind path len r r' waiting middle waiting' old new new' same_r same_log fl
     go (Some x) None f w i = absurd f
     go (Some x) (Some y) f w i = record { middle = middle; flushed = f; are = are; waits = w; is = i }
 
-module _ (keys : KeyPair) (live : HeldTree) (claims : List (List ℕ × ℕ)) (number size clear : ℕ) (is : IsFileOf live number size clear) (path : HostPath) (path_is : path_of live number ≡ Some path) (inside : IsInside path)
-    (waiting : List PlainDeed) (log : Option Log) (rest : Told log (IsAtRestOver (sealing_of keys) live claims waiting)) where
+-- what is read of a file in it
+abbrev pub behind_read : (file : HeldFile) (path : HostPath) → path_of file.live file.number ≡ Some path → (read : KeyPair) → read ≡ file.keys → (waiting : List PlainDeed) (log : Option Log) → Told log (IsAtRestOver (sealing_of file.keys) file.live file.claims waiting) → ToldFile
+behind_read file path path_is read same waiting log rest = record {
+  file = file;
+  path = path;
+  path_is = path_is;
+  read = read;
+  same = same;
+  log = option_map (laid_log waiting) log;
+  rest = stands_laid (sealing_of file.keys) file.live file.claims waiting log rest;
+}
+
+-- a file of a tree that stands on the folder with what waits laid over it
+pub record FileBehind : Type 0 where
+  pub file : HeldFile
+  pub path : HostPath
+  pub path_is : path_of file.live file.number ≡ Some path
+  pub inside : IsInside path
+  pub waiting : List PlainDeed
+  pub log : Option Log
+  pub rest : Told log (IsAtRestOver (sealing_of file.keys) file.live file.claims waiting)
+
+module _ (at : FileBehind) where
+  open at use {file, path, path_is, inside, waiting, log, rest, file.{keys, live, claims, number, size}}
+
   abbrev s : Sealing
   s = sealing_of keys
 
@@ -226,9 +248,9 @@ module _ (keys : KeyPair) (live : HeldTree) (claims : List (List ℕ × ℕ)) (n
     waits = r.waits;
     there = record {
       tree = r.quiet.steady.tree;
-      bytes = old keys (laid waiting (now l)) live claims number size clear is r.contents r.stands;
-      here = there keys (laid waiting (now l)) live claims number size clear is r.contents r.stands path path_is;
-      long = old_long keys (laid waiting (now l)) live claims number size clear is r.contents r.stands;
+      bytes = old file (laid waiting (now l)) r.contents r.stands;
+      here = there file (laid waiting (now l)) r.contents r.stands path path_is;
+      long = old_long file (laid waiting (now l)) r.contents r.stands;
     };
   }
 
@@ -236,8 +258,10 @@ module _ (keys : KeyPair) (live : HeldTree) (claims : List (List ℕ × ℕ)) (n
   ready = told_then log (IsAtRestOver s live claims waiting) (IsReadyOver waiting path size) rest ready_here
 
   -- ---- it waits
-  module _ (r : Rewriting) (change : Content → Option Content) (sealed : IsSealedIn keys path size r change (option_map (laid_log waiting) log)) (second : ℕ) (live' : HeldTree) (claims' : List (List ℕ × ℕ))
-      (live_is : live' ≡ rewritten_tree live number r.size None second) (claims_are : claims' ≡ claims) (waiting' : List PlainDeed) where
+  module _ (r : Rewriting) (change : Content → Option Content) (sealed : IsSealedIn keys path size r change (option_map (laid_log waiting) log)) (second : ℕ) (tree_after : TreeAfter file r None second)
+      (waiting' : List PlainDeed) where
+    open tree_after use {live as live', claims as claims'}
+
     module _ (x y : Log) (at_rest : IsAtRestOver (sealing_of keys) live claims waiting x) (can : IsSealedFor keys path size r change (laid waiting (now x))) (put : IsPutBehind path size r waiting waiting' x y) where
       abbrev over : Disk
       over = laid put.middle (now y)
@@ -249,18 +273,18 @@ module _ (keys : KeyPair) (live : HeldTree) (claims : List (List ℕ × ℕ)) (n
       can_here bytes file = can bytes (record { there = sym same_here ∙ file.there; long = file.long })
 
       is_here : (contents : ℕ → Content) (stands : StandsOn (sealing_of keys) (laid put.middle (now y)) live claims contents)
-          → IsRewritten (laid put.middle (now y)) (laid waiting' (now y)) path (rewritten (old keys (laid put.middle (now y)) live claims number size clear is contents stands) r)
-      is_here contents stands = put.is (old keys over live claims number size clear is contents stands) (there keys over live claims number size clear is contents stands path path_is)
+          → IsRewritten (laid put.middle (now y)) (laid waiting' (now y)) path (rewritten (old file (laid put.middle (now y)) contents stands) r)
+      is_here contents stands = put.is (old file over contents stands) (there file over contents stands path path_is)
 
       rests : IsAtRestOver (sealing_of keys) live' claims' waiting' y
       rests =
           let stands = stands_after waiting put.middle x y put.flushed at_rest.waits s live claims at_rest.contents at_rest.stands in
-          let still = still_stands keys over live claims number size clear is at_rest.contents stands path path_is r change can_here (laid waiting' (now y)) (is_here at_rest.contents stands) second None live' claims' live_is claims_are in
+          let still = still_stands file over at_rest.contents stands path path_is r change can_here (laid waiting' (now y)) (is_here at_rest.contents stands) second None tree_after in
           record { quiet = quiet_after waiting put.middle x y put.flushed at_rest.quiet; waits = put.waits; contents = still.0; stands = still.1 }
 
       module _ (request : PlainRequest) (answer : Answer) (its : ChangesContent (sealing_of keys) live claims number change None second request answer) (rows : RowsAreRewritten live live' number None second) where
         step_answers : IsStepAnswer (sealing_of keys) request second answer (laid put.middle (now y)) live claims
-        step_answers contents stands = answered keys over live claims number size clear is contents stands path path_is r change can_here second None request answer (its over contents stands)
+        step_answers contents stands = answered file over contents stands path path_is r change can_here second None request answer (its over contents stands)
 
         has_put : HasPut (sealing_of keys) request second answer live live' claims claims' waiting waiting' x y
         has_put = record {
@@ -271,11 +295,11 @@ module _ (keys : KeyPair) (live : HeldTree) (claims : List (List ℕ × ℕ)) (n
           rewriting = r;
           are = put.are;
           within = λ all. subst AreWithin (sym put.are) (rewriting_within path (path_within live number path path_is) size r put.middle all);
-          strays = λ contents stands. spares keys over live claims number size clear is contents stands path path_is r change can_here (laid waiting' (now y)) (is_here contents stands);
+          strays = λ contents stands. spares file over contents stands path path_is r change can_here (laid waiting' (now y)) (is_here contents stands);
           waits = put.waits;
           answer_is = step_answers;
           stepped = λ contents stands.
-              shows keys over live claims number size clear is contents stands path path_is r change can_here (laid waiting' (now y)) (is_here contents stands) second None live' claims' live_is claims_are request answer
+              shows file over contents stands path path_is r change can_here (laid waiting' (now y)) (is_here contents stands) second None tree_after request answer
               (its over contents stands) rows;
         }
 

@@ -3,7 +3,7 @@ use Rattle.std.proofs.Common.{◌≡◌, ◌==◌, ℕ, Bool, cond, List, ◌∷
 use Rattle.std.specs.FinMap.{get}
 use Rattle.std.proofs.lemmas.Option.{same_Some}
 use Rattle.outside.specs.Disk.{Disk, Path as HostPath, node_at as thing_at, file as host_file}
-use Rattle.siv_mode.specs.Keys.{KeyPair}
+use Rattle.vault_keys.specs.Keys.{KeyPair}
 use Rattle.tree_model.specs.Rows.{Content, Row, row_of}
 use Rattle.tree_model.specs.Asked.{PlainRequest}
 use Rattle.tree_model.specs.Step.{Answer, Stepped, set_row, step, stepped, with_content}
@@ -41,6 +41,7 @@ use Rattle.file_changes.specs.Files.{HasFileFor, IsSealedFor}
 use Rattle.file_changes.specs.Held.{rewritten_tree, RowsAreRewritten}
 use Rattle.file_changes.specs.Steps.{dated, IsContentStep}
 use Rattle.file_changes.proofs.Places.{below_root, is_held_file}
+use Rattle.node_changes.specs.declared.tree.VaultTree.{VaultTree}
 
 -- what is kept of files is kept of no other node
 pub is_file : (s : Sealing) (x : Node) (size : ℕ) → what_of s x ≡ KeptFile size → (bytes : List ℕ) × (x ≡ File bytes) × (length bytes ≡ size)
@@ -49,8 +50,38 @@ is_file s (Link b) size e = absurd cc
 is_file s (Dir i) size e = absurd cc
 is_file s (Bad t) size e = absurd cc
 
-module _ (keys : KeyPair) (d : Disk) (live : HeldTree) (claims : List (List ℕ × ℕ)) (number size clear : ℕ) (is : IsFileOf live number size clear) (contents : ℕ → Content)
-    (stands : StandsOn (sealing_of keys) d live claims contents) where
+-- a file of the tree in memory
+pub record HeldFile : Type 0 where
+  pub keys : KeyPair
+  pub live : HeldTree
+  pub claims : List (List ℕ × ℕ)
+  pub number : ℕ
+  pub size : ℕ
+  pub clear : ℕ
+  pub is : IsFileOf live number size clear
+
+-- the tree in memory once its size and its dates are set
+pub record TreeAfter (file : HeldFile) (r : Rewriting) (modified : Option ℕ) (second : ℕ) : Type 0 where
+  pub live : HeldTree
+  pub claims : List (List ℕ × ℕ)
+  pub live_is : live ≡ rewritten_tree file.live file.number r.size modified second
+  pub claims_are : claims ≡ file.claims
+
+-- the file of a number in a vault's tree
+abbrev pub file_of : (tree : VaultTree) (number size clear : ℕ) → IsFileOf tree.live number size clear → HeldFile
+file_of tree number size clear is = record {
+  keys = tree.keys;
+  live = tree.live;
+  claims = tree.claims;
+  number = number;
+  size = size;
+  clear = clear;
+  is = is;
+}
+
+module _ (file : HeldFile) (d : Disk) (contents : ℕ → Content) (stands : StandsOn (sealing_of file.keys) d file.live file.claims contents) where
+  open file use {keys, live, claims, number, size, clear, is}
+
   abbrev s : Sealing
   s = sealing_of keys
 
@@ -177,23 +208,25 @@ module _ (keys : KeyPair) (d : Disk) (live : HeldTree) (claims : List (List ℕ 
                 are = dating_keeps_contents s t.tree (touched live number r.size second) number m after_contents t.holds t.are;
               }
 
-          module _ (modified : Option ℕ) (live' : HeldTree) (claims' : List (List ℕ × ℕ)) (live_is : live' ≡ rewritten_tree live number r.size modified second) (claims_are : claims' ≡ claims) where
-            stands_there : StandsOn s after live' claims' after_contents
-            stands_there =
-                subst (λ (l : HeldTree). StandsOn s after l claims' after_contents) (sym live_is)
-                (subst (λ (c : List (List ℕ × ℕ)). StandsOn s after (rewritten_tree live number r.size modified second) c after_contents) (sym claims_are) (rewritten_stands modified))
+        module _ (second : ℕ) (modified : Option ℕ) (tree_after : TreeAfter file r modified second) where
+          open tree_after use {live as live', claims as claims', live_is, claims_are}
 
-            -- the tree in memory is that of the disk again
-            pub still_stands : (theirs : ℕ → Content) × StandsOn (sealing_of keys) after live' claims' theirs
-            still_stands = (after_contents, stands_there)
+          stands_there : StandsOn s after live' claims' after_contents
+          stands_there =
+              subst (λ (l : HeldTree). StandsOn s after l claims' after_contents) (sym live_is)
+              (subst (λ (c : List (List ℕ × ℕ)). StandsOn s after (rewritten_tree live number r.size modified second) c after_contents) (sym claims_are) (rewritten_stands second modified))
 
-            pub shows : (request : PlainRequest) (answer : Answer) → IsContentStep live number change modified second request answer contents → RowsAreRewritten live live' number modified second
-                → ShowsRows s (step (live_rows contents live) request second).rows after live' claims'
-            shows request answer its rows = record {
-              contents = after_contents;
-              stands = stands_there;
-              shows =
-                  rows contents after_contents its.row its.there agree
-                  ∙ ap (λ (c : Content). wrapped (set_row (live_rows contents live) (dated modified (with_content its.row c second)))) here
-                  ∙ ap wrapped (sym (ap (λ (w : Stepped). w.rows) (step_is second modified request answer its)));
-            }
+          -- the tree in memory is that of the disk again
+          pub still_stands : (theirs : ℕ → Content) × StandsOn (sealing_of keys) after live' claims' theirs
+          still_stands = (after_contents, stands_there)
+
+          pub shows : (request : PlainRequest) (answer : Answer) → IsContentStep live number change modified second request answer contents → RowsAreRewritten live live' number modified second
+              → ShowsRows s (step (live_rows contents live) request second).rows after live' claims'
+          shows request answer its rows = record {
+            contents = after_contents;
+            stands = stands_there;
+            shows =
+                rows contents after_contents its.row its.there agree
+                ∙ ap (λ (c : Content). wrapped (set_row (live_rows contents live) (dated modified (with_content its.row c second)))) here
+                ∙ ap wrapped (sym (ap (λ (w : Stepped). w.rows) (step_is second modified request answer its)));
+          }

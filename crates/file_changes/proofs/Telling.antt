@@ -7,7 +7,7 @@ use Rattle.outside.proofs.Told.{told_then, told_both, told_always, changed_by, b
 use Rattle.deeds.specs.Deeds.{PlainDeed, in_order}
 use Rattle.deeds.proofs.Doing.{same_run}
 use Rattle.chunk_journal.specs.Journal.{AnyMoment, HasCommitted}
-use Rattle.siv_mode.specs.Keys.{KeyPair}
+use Rattle.vault_keys.specs.Keys.{KeyPair}
 use Rattle.tree_model.specs.declared.refusal.Refusal.{Refusal}
 use Rattle.tree_model.specs.declared.refusal.Refusal.TheVariants as refusals
 use Rattle.tree_model.specs.Rows.{Content}
@@ -28,13 +28,13 @@ use Rattle.pending_files.specs.Pending.{IsInside}
 use Rattle.node_changes.specs.Changed.{StandsOn, IsAtRest, MakesStep, ShowsRows, IsStepAnswer, IsLate, HasChanged, MayHaveChanged, MayRefuse}
 use Rattle.node_changes.specs.Causes.{RefusalCause}
 use Rattle.file_changes.specs.Causes.{ContentCause, write_refusal}
-use Rattle.request_checks.specs.Files.{IsFileOf}
 use Rattle.file_changes.specs.Files.{HasFileFor, IsSealedFor, IsSealedIn}
-use Rattle.file_changes.specs.Held.{rewritten_tree, RowsAreRewritten}
+use Rattle.file_changes.specs.Held.{RowsAreRewritten}
 use Rattle.file_changes.specs.Rewritten.{DrawsNonces, HasRewritten, MayHaveRewritten}
-use Rattle.file_changes.specs.Steps.{ChangesContent}
+use Rattle.file_changes.specs.Steps.{ChangesContent, IsResizing}
 use Rattle.file_changes.proofs.Within.{path_within}
-use Rattle.file_changes.proofs.Standing.{there, host, old, content_of_row, has_file, made, answered, shows, spares}
+use Rattle.file_changes.proofs.Standing.{HeldFile, TreeAfter, there, host, old, content_of_row, has_file, made, answered, shows, spares}
+use Rattle.tree_model.specs.Contents.{resized}
 
 -- what is told of the disk is told of the log
 of_disk : (log : Option Log) (P : Disk → Type 0) → Told (disk_in log) P → Told log (λ (l : Log). P (now l))
@@ -62,8 +62,59 @@ pub never_early : (s : Sealing) (live : HeldTree) (claims : List (List ℕ × �
 never_early s live claims number change modified second request answer its d contents stands = ap (λ (o : Option Refusal). is_some o) (its d contents stands).late
 
 -- The file of a number is at this path in a tree that stands for what is told; its keys were read.
-module _ (keys read : KeyPair) (same : read ≡ keys) (live : HeldTree) (claims : List (List ℕ × ℕ)) (number size clear : ℕ) (is : IsFileOf live number size clear) (path : HostPath) (path_is : path_of live number ≡ Some path) (log : Option Log)
-    (rest : Told log (Stands (sealing_of keys) live claims)) where
+pub record ToldFile : Type 0 where
+  pub file : HeldFile
+  pub path : HostPath
+  pub path_is : path_of file.live file.number ≡ Some path
+  pub read : KeyPair
+  pub same : read ≡ file.keys
+  pub log : Option Log
+  pub rest : Told log (Stands (sealing_of file.keys) file.live file.claims)
+
+-- a request that changes its content so
+pub record ContentAsked (file : HeldFile) : Type 0 where
+  pub change : Content → Option Content
+  pub modified : Option ℕ
+  pub second : ℕ
+  pub request : PlainRequest
+  pub answer : Answer
+  pub its : ChangesContent (sealing_of file.keys) file.live file.claims file.number change modified second request answer
+
+-- its content is sealed anew, and the deeds of that rewrite its host file
+pub record SealedAnew (at : ToldFile) (change : Content → Option Content) : Type 0 where
+  pub r : Rewriting
+  pub sealed : IsSealedIn at.read at.path at.file.size r change at.log
+  pub law : DeedsRewrite
+  pub inside : IsInside at.path
+  pub puttable : IsPuttable at.file.size r
+
+-- in a tree at rest
+abbrev pub told_at_rest : (file : HeldFile) (path : HostPath) → path_of file.live file.number ≡ Some path → (read : KeyPair) → read ≡ file.keys → (log : Option Log) → Told log (IsAtRest (sealing_of file.keys) file.live file.claims) → ToldFile
+told_at_rest file path path_is read same log rest = record {
+  file = file;
+  path = path;
+  path_is = path_is;
+  read = read;
+  same = same;
+  log = log;
+  rest = at_rest (sealing_of file.keys) file.live file.claims log rest;
+}
+
+-- a request that gives it another length
+abbrev pub resizing_of : (file : HeldFile) (len : ℕ) (modified : Option ℕ) (second : ℕ) (request : PlainRequest) (answer : Answer)
+    → IsResizing (sealing_of file.keys) file.live file.claims file.number len modified second request answer → ContentAsked file
+resizing_of file len modified second request answer its = record {
+  change = λ content. resized content len;
+  modified = modified;
+  second = second;
+  request = request;
+  answer = answer;
+  its = its;
+}
+
+module _ (at : ToldFile) where
+  open at use {file, path, path_is, read, same, log, rest, file.{keys, live, claims, number, size}}
+
   abbrev s : Sealing
   s = sealing_of keys
 
@@ -73,7 +124,7 @@ module _ (keys read : KeyPair) (same : read ≡ keys) (live : HeldTree) (claims 
     where
       go : (o : Option Log) → Told o (Stands s live claims) → HasFaulted (disk_in o) path before after → Rose before after
       go None p f = f
-      go (Some l) p f = f (old keys (now l) live claims number size clear is p.0 p.1, there keys (now l) live claims number size clear is p.0 p.1 path path_is)
+      go (Some l) p f = f (old file (now l) p.0 p.1, there file (now l) p.0 p.1 path path_is)
 
   -- the log is as it was
   module _ (between : Option Log) (same_log : between ≡ log) where
@@ -83,23 +134,27 @@ module _ (keys read : KeyPair) (same : read ≡ keys) (live : HeldTree) (claims 
         subst (λ (o : Option Log). Told o (λ (l : Log). HasFileFor (now l) path r)) (sym same_log)
         (told_both log (Stands s live claims) (λ (l : Log). IsSealedFor keys path size r change (now l)) (λ (l : Log). HasFileFor (now l) path r) rest
         (of_disk log (IsSealedFor keys path size r change) (subst (λ (k : KeyPair). IsSealedIn k path size r change log) same sealed))
-        (λ l p q. has_file keys (now l) live claims number size clear is p.0 p.1 path path_is r change q))
+        (λ l p q. has_file file (now l) p.0 p.1 path path_is r change q))
 
-  module _ (change : Content → Option Content) (modified : Option ℕ) (second : ℕ) (request : PlainRequest) (answer : Answer) (its : ChangesContent (sealing_of keys) live claims number change modified second request answer) where
+  module _ (asked : ContentAsked file) where
+    open asked use {change, modified, second, request, answer, its}
+
     late : (d : Disk) → IsLate (sealing_of keys) request d live claims
     late = never_early (sealing_of keys) live claims number change modified second request answer its
 
     -- ---- the change was made
-    module _ (r : Rewriting) (sealed : IsSealedIn read path size r change log) (law : DeedsRewrite) (inside : IsInside path) (puttable : IsPuttable size r) (live' : HeldTree) (claims' : List (List ℕ × ℕ))
-        (live_is : live' ≡ rewritten_tree live number r.size modified second) (claims_are : claims' ≡ claims) (rows : RowsAreRewritten live live' number modified second) where
+    module _ (anew : SealedAnew at change) (tree_after : TreeAfter file anew.r modified second) (rows : RowsAreRewritten live tree_after.live number modified second) where
+      open anew use {r, sealed, law, inside, puttable}
+      open tree_after use {live as live', claims as claims'}
+
       abbrev deeds : List PlainDeed
       deeds = deeds_of path r
 
       module _ (d : Disk) (can : IsSealedFor keys path size r change d) where
         abbrev done : (contents : ℕ → Content) → StandsOn s d live claims contents → (bytes : List ℕ) × Rewrites d path bytes r
         done contents stands = (
-          old keys d live claims number size clear is contents stands,
-          made keys d live claims number size clear is contents stands path path_is r change can law inside puttable,
+          old file d contents stands,
+          made file d contents stands path path_is r change can law inside puttable,
         )
 
         makes : (contents : ℕ → Content) → StandsOn s d live claims contents → MakesStep s request second deeds d live live' claims claims'
@@ -110,16 +165,16 @@ module _ (keys read : KeyPair) (same : read ≡ keys) (live : HeldTree) (claims 
               does = here.does;
               repeatable = here.repeatable;
               within = ((path_within live number path path_is, tt), tt);
-              strays = spares keys d live claims number size clear is contents stands path path_is r change can here.after here.is;
+              strays = spares file d contents stands path path_is r change can here.after here.is;
               stepped = λ others more.
                   let more_here = (done others more).1 in
                   let same_disk : more_here.after ≡ here.after = same_run (in_order deeds) d more_here.after here.after more_here.does here.does in
                   subst (λ (x : Disk). ShowsRows s (step (live_rows others live) request second).rows x live' claims') same_disk
-                  (shows keys d live claims number size clear is others more path path_is r change can more_here.after more_here.is second modified live' claims' live_is claims_are request answer (its d others more) rows);
+                  (shows file d others more path path_is r change can more_here.after more_here.is second modified tree_after request answer (its d others more) rows);
             }
 
         answer_is : IsStepAnswer s request second answer d live claims
-        answer_is contents stands = answered keys d live claims number size clear is contents stands path path_is r change can second modified request answer (its d contents stands)
+        answer_is contents stands = answered file d contents stands path path_is r change can second modified request answer (its d contents stands)
 
       -- what is known before the commit
       abbrev Made : Log → Type 0
@@ -167,8 +222,8 @@ module _ (keys read : KeyPair) (same : read ≡ keys) (live : HeldTree) (claims 
     damaged_answer d none contents stands =
         let step_of = its d contents stands in
         step_of.damaged
-        (ap change (content_of_row keys d live claims number size clear is contents stands step_of.row step_of.there)
-        ∙ none (old keys d live claims number size clear is contents stands) (host keys d live claims number size clear is contents stands path path_is))
+        (ap change (content_of_row file d contents stands step_of.row step_of.there)
+        ∙ none (old file d contents stands) (host file d contents stands path path_is))
 
     by_cause : (cause : WriteErr) → (IsCause cause write_errs.Damaged → IsDamagedIn read path size change log) → Told (disk_in log) (λ (d : Disk). MayRefuse s request second None (write_refusal cause) d live claims)
     by_cause write_errs.Damaged none =

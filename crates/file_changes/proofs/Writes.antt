@@ -2,7 +2,7 @@
 use Rattle.std.proofs.Common.{◌≡◌, ◌==◌, ◌≤◌, ◌<◌, ◌+◌, ◌-◌, ℕ, Bool, false, cond, List, length, Option, Some, None, nat_lt, ap, ◌∙◌, arith, ne_eqb}
 use Rattle.std.specs.Option.{option_map_or}
 use Rattle.outside.specs.Disk.{Disk}
-use Rattle.siv_mode.specs.Keys.{KeyPair}
+use Rattle.vault_keys.specs.Keys.{KeyPair}
 use Rattle.tree_model.specs.declared.refusal.Refusal.TheVariants as refusals
 use Rattle.tree_model.specs.Rows.{Content, Row, Rows, row_of, content_length}
 use Rattle.tree_model.specs.Contents.{written}
@@ -18,7 +18,8 @@ use Rattle.live_tree_laws.proofs.Numbers.{nodes_have_rows}
 use Rattle.node_changes.specs.Changed.{StandsOn}
 use Rattle.request_checks.specs.Files.{IsWritable}
 use Rattle.file_changes.specs.Steps.{IsContentStep, ChangesContent}
-use Rattle.file_changes.proofs.Standing.{old, old_long, content_of_row}
+use Rattle.file_changes.proofs.Standing.{HeldFile, old, old_long, content_of_row}
+use Rattle.file_changes.proofs.Telling.{ContentAsked}
 
 not_above : (limit n : ℕ) → n ≤ limit → nat_lt limit n ≡ false
 not_above limit n h = grind arith
@@ -38,6 +39,17 @@ some_bytes n some = ne_eqb n 0 (λ e. omega arith)
 
 module _ (keys : KeyPair) (key : IsKey keys.enc) (live : HeldTree) (claims : List (List ℕ × ℕ)) (number at : ℕ) (bytes : List ℕ) (some : 0 < length bytes) (can : IsWritable live number at (length bytes)) (second : ℕ) where
   module _ (d : Disk) (contents : ℕ → Content) (stands : StandsOn (sealing_of keys) d live claims contents) where
+    abbrev file : HeldFile
+    file = record {
+      keys = keys;
+      live = live;
+      claims = claims;
+      number = number;
+      size = can.size;
+      clear = can.clear;
+      is = can.is;
+    }
+
     abbrev rows : Rows
     rows = live_rows contents live
 
@@ -48,13 +60,13 @@ module _ (keys : KeyPair) (key : IsKey keys.enc) (live : HeldTree) (claims : Lis
     found = nodes_have_rows live contents number can.is.held can.is.there
 
     abbrev before : List ℕ
-    before = old keys d live claims number can.size can.clear can.is contents stands
+    before = old file d contents stands
 
     content_is : (live_row contents (number, can.is.held)).content ≡ content_of keys before
-    content_is = content_of_row keys d live claims number can.size can.clear can.is contents stands (live_row contents (number, can.is.held)) found
+    content_is = content_of_row file d contents stands (live_row contents (number, can.is.held)) found
 
     sized : clear_length (length before) ≡ Some can.clear
-    sized = ap clear_length (old_long keys d live claims number can.size can.clear can.is contents stands) ∙ can.is.sized
+    sized = ap clear_length (old_long file d contents stands) ∙ can.is.sized
 
     good : is_bad_size (live_row contents (number, can.is.held)).content ≡ false
     good = ap is_bad_size content_is ∙ good_size keys before can.clear sized
@@ -92,3 +104,14 @@ module _ (keys : KeyPair) (key : IsKey keys.enc) (live : HeldTree) (claims : Lis
 
   pub writes_content : ChangesContent (sealing_of keys) live claims number (λ (content : Content). written content at bytes) None second (write number at bytes) (says (count (length bytes)))
   writes_content d contents stands = writes d contents stands
+
+-- a write, of a file's tree
+abbrev pub writing_of : (file : HeldFile) → IsKey file.keys.enc → (at : ℕ) (bytes : List ℕ) → 0 < length bytes → IsWritable file.live file.number at (length bytes) → ℕ → ContentAsked file
+writing_of file key at bytes some can second = record {
+  change = λ content. written content at bytes;
+  modified = None;
+  second = second;
+  request = write file.number at bytes;
+  answer = says (count (length bytes));
+  its = writes_content file.keys key file.live file.claims file.number at bytes some can second;
+}

@@ -3,7 +3,7 @@ use Rattle.std.specs.Prelude.{◌≡◌, ℕ, List, Option, Some}
 use Rattle.outside.specs.Calls.{Told}
 use Rattle.outside.specs.Disk.{Disk, Path as HostPath, IsTree, node_at as thing_at, file as host_file}
 use Rattle.outside.specs.Images.{Log, disk_in}
-use Rattle.siv_mode.specs.Keys.{KeyPair}
+use Rattle.vault_keys.specs.Keys.{KeyPair}
 use Rattle.tree_model.specs.Rows.{Content}
 use Rattle.file_chunks.specs.File.{content_of}
 use Rattle.content_reader.specs.Reading.{IsFileOf as IsHostFileOf}

@@ -6,7 +6,7 @@ use Rattle.std.specs.List.{range_with_len}
 use Rattle.std.proofs.lemmas.Bool.{cases_lt}
 use Rattle.std.proofs.lemmas.Bool.Decides.{nat_tests}
 use Rattle.std.proofs.lemmas.List.{length-map, length-replicate}
-use Rattle.siv_mode.specs.Keys.{KeyPair}
+use Rattle.vault_keys.specs.Keys.{KeyPair}
 use Rattle.tree_model.specs.Rows.{Cell, good, damaged, cell_bytes, Content, bad_size, chunks, joined, content_length, slice_of, all_there}
 use Rattle.file_chunks.specs.Header.{Head, head_of, header_opens}
 use Rattle.file_chunks.specs.Envelope.{envelope_opens}

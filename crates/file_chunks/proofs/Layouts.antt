@@ -4,7 +4,7 @@ use Rattle.std.specs.Option.{option_map}
 use Rattle.std.proofs.lemmas.List.{append-nil, take_all, drop_all}
 use borrow.Rule.Slice.PartMut.{put_mid}
 use Rattle.aes_block.specs.Bytes.{bytes_of}
-use Rattle.siv_mode.specs.Keys.{KeyPair}
+use Rattle.vault_keys.specs.Keys.{KeyPair}
 use Rattle.file_chunks.specs.Envelope.{envelope_opens, sealed_envelope}
 use Rattle.file_chunks.specs.Header.{Head, head_of, header_opens, sealed_header}
 use Rattle.file_chunks.specs.Chunk.{associated_data, chunk_opens, sealed_chunk}

@@ -4,11 +4,11 @@ use Rattle.std.specs.Prelude.{ℕ, List, ◌++◌, Option}
 use Rattle.aes_block.specs.Bytes.{bytes_of}
 use Rattle.file_chunks.specs.Envelope.{envelope_opens, sealed_envelope}
 use Rattle.file_chunks.specs.Header.{Head}
-use Rattle.file_chunks.specs.declared.header.TheConstants.{INDEX_LENGTH}
+use Rattle.file_chunks.specs.Sizes.{index_length}
 
 -- the index, from 0, as 8 bytes, most significant first, and the header's nonce
 abbrev pub associated_data : Head → ℕ → List ℕ
-associated_data head index = bytes_of INDEX_LENGTH index ++ head.nonce
+associated_data head index = bytes_of index_length index ++ head.nonce
 
 -- the plaintext of a sealed chunk, and None if it is below 28 bytes or its tag isn't GCM's for this header and index
 unfoldable pub chunk_opens : Head → ℕ → List ℕ → Option (List ℕ)

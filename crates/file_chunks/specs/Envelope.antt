@@ -2,13 +2,13 @@
 use Rattle.std.specs.Prelude.{ℕ, ◌-◌, List, ◌++◌, length, take, drop, Option, None, nat_lt, if◌then◌else◌}
 use Rattle.aes_block.specs.Aes.{aes}
 use Rattle.gcm_mode.specs.Gcm.{gcm_opened, gcm_sealed}
-use Rattle.file_chunks.specs.declared.size.TheConstants.{NONCE_LENGTH, TAG_LENGTH, SEALING_LENGTH}
+use Rattle.file_chunks.specs.Sizes.{nonce_length, sealing_length, tag_length}
 
 -- the plaintext in a nonce, a ciphertext and a tag, and None if they are too short to hold both, or the tag isn't GCM's
 abbrev pub envelope_opens : List ℕ → List ℕ → List ℕ → Option (List ℕ)
 envelope_opens key ad sealed =
-    if nat_lt (length sealed) SEALING_LENGTH then None
-    else gcm_opened (aes key) (take NONCE_LENGTH sealed) ad (take (length sealed - SEALING_LENGTH) (drop NONCE_LENGTH sealed)) (drop (length sealed - TAG_LENGTH) sealed)
+    if nat_lt (length sealed) sealing_length then None
+    else gcm_opened (aes key) (take nonce_length sealed) ad (take (length sealed - sealing_length) (drop nonce_length sealed)) (drop (length sealed - tag_length) sealed)
 
 -- a plaintext sealed under a nonce of its own
 abbrev pub sealed_envelope : List ℕ → List ℕ → List ℕ → List ℕ → List ℕ

@@ -2,10 +2,9 @@
 -- key, without associated data, of 8 bytes that aren't looked at and a content key of 32; the tag of 16.
 use Rattle.std.specs.Prelude.{ℕ, List, [], ◌++◌, take, drop, replicate, Option}
 use Rattle.std.specs.Option.{option_map}
-use Rattle.siv_mode.specs.Keys.{KeyPair}
+use Rattle.vault_keys.specs.Keys.{KeyPair}
 use Rattle.file_chunks.specs.Envelope.{envelope_opens, sealed_envelope}
-use Rattle.file_chunks.specs.declared.size.TheConstants.{NONCE_LENGTH}
-use Rattle.file_chunks.specs.declared.header.TheConstants.{UNUSED_LENGTH}
+use Rattle.file_chunks.specs.Sizes.{nonce_length, unused_length}
 
 -- what a header says of its file
 pub record Head : Type 0 where
@@ -14,7 +13,7 @@ pub record Head : Type 0 where
 
 -- the header of these bytes, by what they open to
 abbrev pub head_of : List ℕ → List ℕ → Head
-head_of bytes payload = record { nonce = take NONCE_LENGTH bytes; key = drop UNUSED_LENGTH payload }
+head_of bytes payload = record { nonce = take nonce_length bytes; key = drop unused_length payload }
 
 -- the header that these 68 bytes are, and None if the tag isn't GCM's
 unfoldable pub header_opens : KeyPair → List ℕ → Option Head
@@ -22,4 +21,4 @@ header_opens keys bytes = option_map (head_of bytes) (envelope_opens keys.enc []
 
 -- the header of this nonce and content key, with eight bytes FF before the key
 unfoldable pub sealed_header : KeyPair → Head → List ℕ
-sealed_header keys head = sealed_envelope keys.enc [] head.nonce (replicate UNUSED_LENGTH 255 ++ head.key)
+sealed_header keys head = sealed_envelope keys.enc [] head.nonce (replicate unused_length 255 ++ head.key)

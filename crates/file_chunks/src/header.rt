@@ -7,8 +7,8 @@ use crate::envelope::{Damaged, array_at, open_into, seal_into};
 use crate::size::{HEADER_LENGTH, NONCE_LENGTH};
 use gcm_mode::{BulkGcmKey, GcmKey};
 use outside::{Entropy, Failed};
-use siv_mode::VaultKeys;
 use std::marker::Model;
+use vault_keys::VaultKeys;
 
 const KEY_LENGTH: usize = 32;
 

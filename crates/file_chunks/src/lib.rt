@@ -23,6 +23,6 @@ pub use envelope::Damaged;
 pub use header::{Header, new_header, open_header};
 pub use size::{
     CHUNK_LENGTH, HEADER_LENGTH, NONCE_LENGTH, SEALED_LENGTH, SEALING_LENGTH, TAG_LENGTH,
-    clear_len, span,
+    clear_len, sizes_are_the_formats, span,
 };
 pub use slices::reads_are_slices;

@@ -1,5 +1,6 @@
 ghost use Rattle.std.specs.Prelude.{◌≡◌, ◌↔◌, ◌<◌, ◌≤◌, ◌+◌, ◌/◌, ◌^◌, ℕ};
 ghost use Rattle.file_chunks.specs.File.{clear_length};
+ghost use Rattle.file_chunks.specs.Sizes.{chunk_length, header_length, nonce_length, sealed_length, sealing_length, tag_length};
 
 /// The length of a header in bytes.
 pub const HEADER_LENGTH: usize = 68;
@@ -49,3 +50,13 @@ pub fn span(at: u64, count: u64) -> (u64, u64)
     let last = (at + count - 1) / CHUNK_LENGTH as u64;
     (first, last - first + 1)
 }
+
+/// The sizes of the code are those of the definitions. It does nothing.
+pub fn sizes_are_the_formats()
+    ensures header { HEADER_LENGTH ≡ header_length }
+    ensures chunk { CHUNK_LENGTH ≡ chunk_length }
+    ensures nonce { NONCE_LENGTH ≡ nonce_length }
+    ensures tag { TAG_LENGTH ≡ tag_length }
+    ensures sealing { SEALING_LENGTH ≡ sealing_length }
+    ensures sealed { SEALED_LENGTH ≡ sealed_length }
+{}

@@ -1,6 +1,6 @@
 ghost use Rattle.std.specs.Prelude.{◌≡◌, ◌↔◌, ◌⊎◌, ◌<◌, ◌≤◌, ◌+◌, ◌-◌, ◌*◌, ◌/◌, ◌%◌, ℕ, List, [], ◌++◌, length, take, drop, min, Some, None};
 ghost use Rattle.std.specs.Option.{is_some, option_map, option_and_then};
-ghost use Rattle.siv_mode.specs.Keys.{KeyPair};
+ghost use Rattle.vault_keys.specs.Keys.{KeyPair};
 ghost use Rattle.tree_model.specs.Rows.{Cell, Content, bad_size, chunks, content_length, slice_of};
 ghost use Rattle.file_chunks.specs.Header.{Head, header_opens};
 ghost use Rattle.file_chunks.specs.Chunk.{chunk_opens};

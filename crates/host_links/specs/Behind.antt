@@ -1,11 +1,13 @@
 -- What of the runtime is behind an object.
 use Rattle.std.specs.Prelude.{Option}
 use Rattle.host_links.specs.declared.ends.Untold.{Untold}
-use Rattle.host_links.specs.declared.ends.Output.{Output}
+use Rattle.host_sockets.specs.declared.standard.Output.{Output}
+use Rattle.host_sockets.specs.declared.socket.Socket.{Socket}
 use Rattle.host_links.specs.declared.stream.StdSource.{StdSource}
 use Rattle.host_links.specs.declared.stream.StdSink.{StdSink}
 use Rattle.host_links.specs.declared.link.StreamLink.{StreamLink}
 use Rattle.host_links.specs.declared.listen.HostListen.{HostListen}
+use Rattle.host_links.specs.declared.socket.SocketListen.{SocketListen}
 
 -- the reader of a source
 abbrev pub source_reader : {I : Type 0} → StdSource I → I
@@ -25,3 +27,7 @@ link_writer link = link.output
 -- the link that is to come, if it hasn't come yet
 abbrev pub link_to_come : {R I : Type 0} → HostListen R I → Option (StreamLink (Untold I) (Output R))
 link_to_come listen = listen.link
+
+-- the socket at which a listener is
+abbrev pub socket_of : {R : Type 0} → SocketListen R → Socket
+socket_of listen = listen.socket.now

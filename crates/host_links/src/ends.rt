@@ -4,6 +4,7 @@
 ghost use Rattle.std.specs.Prelude.{IsSome, IsTrue, Bool, true, false, refl};
 ghost use Rattle.host_links.specs.Untold.{never};
 
+use host_sockets::Output;
 use std::io;
 use std::io::{Read, Write};
 
@@ -59,28 +60,6 @@ impl<I: Read> Incoming for Untold<I> {
     ghost tells = { false };
 
     ghost told = { λ tells _. never tells };
-}
-
-/// The standard output of a runtime, which doesn't tell.
-#[derive(Drop)]
-pub struct Output<R> {
-    rt: R,
-}
-
-impl<R: Print> Output<R> {
-    pub(crate) fn new(rt: R) -> Output<R> {
-        Output { rt }
-    }
-}
-
-impl<R: Print> Write for Output<R> {
-    fn write(&mut self, buf: &[u8]) -> io::Result<usize> {
-        self.rt.write_some(buf)
-    }
-
-    fn flush(&mut self) -> io::Result<()> {
-        Ok(())
-    }
 }
 
 impl<R: Print> Outgoing for Output<R> {

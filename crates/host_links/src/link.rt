@@ -3,9 +3,10 @@ ghost use Rattle.std.specs.Io.KnownBytes.{Consumes, IsAtEnd};
 ghost use Rattle.outside.specs.Calls.{HasCause, KeepsFrom, TakesFront, Told};
 ghost use Rattle.host_links.specs.Behind.{link_reader, link_writer};
 
-use crate::ends::{Incoming, Outgoing, Output, Untold};
+use crate::ends::{Incoming, Outgoing, Untold};
+use host_sockets::{Output, input};
+use host_streams::{counted, read_some, write_some};
 use outside::{Failed, Link};
-use outside_real::{counted, read_some, write_some};
 use std::io::Input;
 
 /// A client at a reader and a writer. It tells what they tell.
@@ -26,8 +27,8 @@ impl<R: Input + Print> StreamLink<Untold<R::Reader>, Output<R>> {
         ensures reads { ⟦<HostLink<R> as Link>⟧.read_faults result ≡ 0 }
         ensures writes { ⟦<HostLink<R> as Link>⟧.write_faults result ≡ 0 }
     {
-        let input = rt.reader();
-        StreamLink::over(Untold::new(input), Output::new(rt))
+        let reader = input(&rt);
+        StreamLink::over(Untold::new(reader), Output::new(rt))
     }
 }
 

@@ -3,9 +3,10 @@ ghost use Rattle.std.specs.Io.KnownBytes.{Consumes, IsAtEnd};
 ghost use Rattle.outside.specs.Calls.{HasCause, KeepsFrom, TakesFront, Told};
 ghost use Rattle.host_links.specs.Behind.{source_reader, sink_writer};
 
-use crate::ends::{Incoming, Outgoing, Output, Untold};
+use crate::ends::{Incoming, Outgoing, Untold};
+use host_sockets::{Output, input};
+use host_streams::{counted, read_one, write_some};
 use outside::{Failed, Sink, Source};
-use outside_real::{counted, read_one, write_some};
 use std::io::{Input, Read};
 
 /// A reader, a byte at a time: what follows the last byte that was asked for stays unread. It tells what the reader tells.
@@ -20,7 +21,7 @@ impl<I: Read> StdSource<Untold<I>> {
     pub fn new<R: Input<Reader = I>>(rt: &R) -> StdSource<Untold<I>>
         ensures { ⟦<StdSource<Untold<I>> as Source>⟧.faults result ≡ 0 }
     {
-        StdSource::over(Untold::new(rt.reader()))
+        StdSource::over(Untold::new(input(rt)))
     }
 }
 

@@ -7,8 +7,8 @@ const LENGTH_LEN: usize = 8;
 // One deed that makes the folder `d`.
 const MAKES_D: [u8; 8] = [0, 0, 0, 1, 1, 1, 1, b'd'];
 
-// Puts the file `d/f` with two bytes, moves it to `g`, reshapes `h`, and removes `f` and the folder `d`.
-const FIVE_DEEDS: [u8; 66] = [
+/// Puts the file `d/f` with two bytes, moves it to `g`, reshapes `h`, and removes `f` and the folder `d`.
+pub const FIVE_DEEDS: [u8; 66] = [
     0, 0, 0, 5, // five deeds
     2, 2, 1, b'd', 1, b'f', 0, 0, 0, 2, 7, 8, // puts
     3, 2, 1, b'd', 1, b'f', 1, 1, b'g', // moves

@@ -12,4 +12,6 @@ mod contents;
 #[cfg(test)]
 mod flushes;
 #[cfg(test)]
+mod loose;
+#[cfg(test)]
 mod reads;

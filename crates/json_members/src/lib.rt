@@ -24,9 +24,6 @@ use std::num::{nearest_u64_to_f64, saturating_f64_to_u64};
 use std::str;
 use thiserror::Error;
 
-/// The longest key file, in bytes: a longer one isn't looked into.
-pub const FILE_LIMIT: usize = 65536;
-
 // 2^64
 const INTEGER_END: f64 = 18446744073709551616.0;
 

@@ -1,7 +1,7 @@
-use siv_mode::VaultKeys;
 use std::alloc::{AllocError, Global};
 use std::test::Fail;
 use vault_config::{ClaimName, ConfigErr, read, write};
+use vault_keys::VaultKeys;
 
 // The tokens were written by Python's `hmac`, `hashlib`, `json` and `base64`.
 

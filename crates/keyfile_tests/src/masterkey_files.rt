@@ -1,7 +1,7 @@
 use masterkey_file::{FieldName, KeyFileErr, PasswordErr, password, read, write};
-use siv_mode::VaultKeys;
 use std::alloc::{AllocError, Global};
 use std::test::Fail;
+use vault_keys::VaultKeys;
 
 // The files were written by Python's `hashlib.scrypt`, `hmac`, `json` and `base64`, and `aes_key_wrap` of its package
 // `cryptography`.

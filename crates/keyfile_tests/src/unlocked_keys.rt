@@ -1,7 +1,7 @@
-use siv_mode::VaultKeys;
 use std::test::Fail;
 use unlocking::{FoundFile, UnlockErr, open_masterkey_file, open_vault_file, unlock_found};
 use vault_config::write;
+use vault_keys::VaultKeys;
 
 // Written by Python's `hashlib.scrypt` and `aes_key_wrap` of its package `cryptography`.
 const MASTERKEY_FILE: &[u8] =

@@ -1,4 +1,4 @@
-ghost use Rattle.std.specs.Prelude.{◌≡◌, ℕ, List, true, IfOk, IfSome, IfNone, OnOk, OnErr, Some, None};
+ghost use Rattle.std.specs.Prelude.{◌≡◌, ℕ, List, true, IfSome, IfNone, OnOk, OnErr, Some, None};
 ghost use Rattle.std.specs.Option.{option_copied};
 ghost use Rattle.clear_tree.specs.Kept.{IsBehind};
 ghost use Rattle.live_tree.specs.Index.{number_at, has_names, IsSet, IsSame, IsGrown, IsClosed, IsNameless, IsNextName};
@@ -10,13 +10,6 @@ use vault_path::Text;
 
 /// Of each directory the numbers of its nodes, by their names.
 pub(crate) type Names = BTreeMap<u64, BTreeMap<Text, u64>>;
-
-/// A text of these bytes.
-pub(crate) fn copied(alloc: Global, bytes: &[u8]) -> Result<Text, AllocError>
-    ensures { IfOk result (λ text. text ≡ bytes.now) }
-{
-    Ok(Text::from_vec(Vec::from_slice(alloc, bytes)?))
-}
 
 /// The number of a name in a directory.
 pub(crate) fn number_at(names: &Names, parent: u64, name: &Text) -> Option<u64>

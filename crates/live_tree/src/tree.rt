@@ -13,20 +13,14 @@ ghost use Rattle.live_tree.specs.Held.{HeldNode, node_of, path_of, size_of, live
 ghost use Rattle.live_tree.specs.Changes.{edited, changed, appended, added, dropped, removed, renamed, renamed_node, touched, dated, new_node, count_limit, CanBeMade, RowsAreAdded, RowsAreRemoved, RowsAreRenamed, RowsAreTouched, RowsAreDated};
 
 use crate::changing::{Nodes, change_node, date_node, insert_node, rename_node, resize_node};
-use crate::directories::{
-    Names, close_directory, copied, next_name, number_at, open_directory, put, take,
-};
+use crate::directories::{Names, close_directory, next_name, number_at, open_directory, put, take};
 use crate::node::LiveNode;
 use clear_tree::{Node, Tree, TreeNodes, What, host_entry, host_inner};
 use std::alloc::{AllocError, Global};
 use std::collections::BTreeMap;
 use std::marker::Model;
+use vault_layout::{CONTENTS_FILE, LINK_FILE};
 use vault_path::{Text, VaultPath};
-
-// The file of a node folder at its long place, and that of a link.
-const CONTENTS: &[u8] = b"contents.c9r";
-
-const SYMLINK: &[u8] = b"symlink.c9r";
 
 /// The tree of an open vault in memory. A node is found by its number and by its name in a directory, and changes, in O(log n)
 /// steps: the nodes of a directory that gets another name stay as they are. Clauses see what is held of the vault.
@@ -122,9 +116,13 @@ impl LiveTree {
         let node = self.node(number)?;
         let folder = self.node(node.parent())?.folder()?;
         match node.what() {
-            What::File { .. } if node.is_long() => Some(host_inner(folder, node.entry(), CONTENTS)),
+            What::File { .. } if node.is_long() => Some(host_inner(
+                folder,
+                node.entry(),
+                CONTENTS_FILE,
+            )),
             What::File { .. } => Some(host_entry(folder, node.entry())),
-            What::Link { .. } => Some(host_inner(folder, node.entry(), SYMLINK)),
+            What::Link { .. } => Some(host_inner(folder, node.entry(), LINK_FILE)),
             _ => None,
         }
     }
@@ -258,7 +256,7 @@ impl LiveTree {
         ensures same { OnErr result (self.new ≡ self.old) }
     {
         let number = self.next;
-        let name = copied(self.alloc, node.name().as_bytes())?;
+        let name = Text::from_slice(self.alloc, node.name().as_bytes())?;
         let is_directory = node.folder().is_some();
         open_directory(self.alloc, &mut self.names, number, is_directory)?;
         put(&mut self.names, node.parent(), name, number)?;
@@ -312,7 +310,7 @@ impl LiveTree {
         let Some(node) = self.nodes.get(&number) else {
             unreachable!()
         };
-        let copy = copied(self.alloc, name.as_bytes())?;
+        let copy = Text::from_slice(self.alloc, name.as_bytes())?;
         put(&mut self.names, node.parent(), copy, number)?;
         take(&mut self.names, node.parent(), node.name());
         rename_node(&mut self.nodes, number, name, entry, long);

@@ -3,7 +3,7 @@ use Rattle.std.proofs.Common.{◌≡◌, ℕ, true, false, nat_lt, List, length,
 use Rattle.std.specs.Option.{ok_or}
 use Rattle.json_members.specs.Members.{object_of}
 use Rattle.json_members.specs.Steps.{result_and_then}
-use Rattle.json_members.specs.declared.TheConstants.{FILE_LIMIT}
+use Rattle.vault_layout.specs.Limits.{key_file_limit}
 use Rattle.masterkey_file.specs.declared.reading.KeyFileErr.{KeyFileErr}
 use Rattle.masterkey_file.specs.declared.reading.KeyFileErr.TheVariants.{TooLong, NotJson, Field, Cost, WrongPassword, Memory}
 use Rattle.masterkey_file.specs.KeyFile.{Fault, Fields, too_long, not_json, fields_in, fields_of, keys_in, keys_of}
@@ -20,12 +20,12 @@ IsFault-then WrongPassword found rest h = ap (result_and_then rest) h
 IsFault-then Memory found rest h = tt
 
 -- a file above the limit is too long
-pub fields_of-long : (bytes : List ℕ) → nat_lt FILE_LIMIT (length bytes) ≡ true → fields_of bytes ≡ Err (too_long (length bytes))
+pub fields_of-long : (bytes : List ℕ) → nat_lt key_file_limit (length bytes) ≡ true → fields_of bytes ≡ Err (too_long (length bytes))
 unfolding fields_of
 fields_of-long bytes long = rw long refl
 
 -- a file within the limit is looked into
-pub fields_of-short : (bytes : List ℕ) → nat_lt FILE_LIMIT (length bytes) ≡ false
+pub fields_of-short : (bytes : List ℕ) → nat_lt key_file_limit (length bytes) ≡ false
     → fields_of bytes ≡ result_and_then fields_in (ok_or (object_of bytes) not_json)
 unfolding fields_of
 fields_of-short bytes short = rw short refl
@@ -41,6 +41,6 @@ unfolding keys_of
 keys_of-fields bytes password fields is = ap (λ (found : Result Fields Fault). result_and_then (keys_in password) found) is
 
 -- a file above the limit has no keys
-pub keys_of-long : (bytes password : List ℕ) → nat_lt FILE_LIMIT (length bytes) ≡ true → keys_of bytes password ≡ Err (too_long (length bytes))
+pub keys_of-long : (bytes password : List ℕ) → nat_lt key_file_limit (length bytes) ≡ true → keys_of bytes password ≡ Err (too_long (length bytes))
 unfolding keys_of
 keys_of-long bytes password long = ap (λ (found : Result Fields Fault). result_and_then (keys_in password) found) (fields_of-long bytes long)

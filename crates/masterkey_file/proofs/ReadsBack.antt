@@ -16,7 +16,7 @@ use Rattle.serde_json.specs.Written.{compact_text}
 use Rattle.aes_block.specs.Aes.{aes, inverse_aes}
 use Rattle.key_wrap.specs.Wrap.{wrapped, unwrapped}
 use Rattle.scrypt_kdf.specs.Scrypt.{IsCost, scrypt}
-use Rattle.siv_mode.specs.Keys.{KeyPair}
+use Rattle.vault_keys.specs.Keys.{KeyPair}
 use Rattle.json_members.specs.Members.{object_of, only_object}
 use Rattle.json_members.proofs.Escaped.{length-escape-le}
 use Rattle.json_members.proofs.Objects.{object_of-read}

@@ -11,13 +11,13 @@ use Rattle.serde_json.specs.Data.{Data, number, string, object, unsigned, member
 use Rattle.serde_json.specs.Written.{compact_text}
 use Rattle.aes_block.specs.Aes.{aes, inverse_aes}
 use Rattle.aes_block.specs.Bytes.{bytes_of}
-use Rattle.siv_mode.specs.Keys.{KeyPair}
+use Rattle.vault_keys.specs.Keys.{KeyPair}
 use Rattle.hmac_sha.specs.Hmac.{hmac}
 use Rattle.key_wrap.specs.Wrap.{wrapped, unwrapped}
 use Rattle.scrypt_kdf.specs.Scrypt.{scrypt}
 use Rattle.json_members.specs.Members.{object_of, text_at, integer_at}
 use Rattle.json_members.specs.Steps.{result_and_then}
-use Rattle.json_members.specs.declared.TheConstants.{FILE_LIMIT}
+use Rattle.vault_layout.specs.Limits.{key_file_limit}
 
 -- the members that are read. Every other member, `version` and `versionMac` too, isn't looked at
 pub data Field : Type 0 where
@@ -89,7 +89,7 @@ fields_in value =
 -- what a file's members hold
 unfoldable pub fields_of : List ℕ → Result Fields Fault
 fields_of bytes =
-    if nat_lt FILE_LIMIT (length bytes) then Err (too_long (length bytes))
+    if nat_lt key_file_limit (length bytes) then Err (too_long (length bytes))
     else result_and_then fields_in (ok_or (object_of bytes) not_json)
 
 -- scrypt takes this cost and block size with one part: a power of two above 1, and a block size above 0, of which the table has at most

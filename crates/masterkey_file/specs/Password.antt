@@ -3,7 +3,7 @@ use Rattle.std.specs.Prelude.{ℕ, List, length, codes, ◌&&◌, Option, Some, 
 use Rattle.std.specs.List.{before_first}
 use Rattle.std.specs.Str.{is_utf8}
 use Rattle.nfc_text.specs.Nfc.{nfc_of}
-use Rattle.masterkey_file.specs.declared.secret.TheConstants.{LINE_LIMIT}
+use Rattle.vault_layout.specs.Limits.{password_limit}
 use Rattle.masterkey_file.specs.declared.secret.PasswordErr.{PasswordErr}
 use Rattle.masterkey_file.specs.declared.secret.PasswordErr.TheVariants.{BadSecret, Memory}
 
@@ -11,9 +11,9 @@ use Rattle.masterkey_file.specs.declared.secret.PasswordErr.TheVariants.{BadSecr
 abbrev pub line_of : List ℕ → List ℕ
 line_of bytes = before_first (λ b. b == 10) bytes
 
--- the password of a line of 1 to 1,024 bytes of UTF-8, and None of any other
+-- the password of a line that isn't empty nor longer than the limit, and is UTF-8, and None of any other
 abbrev pub password_in : List ℕ → Option (List ℕ)
-password_in line = if nat_lt 0 (length line) && nat_le (length line) LINE_LIMIT && is_utf8 line then Some (nfc_of line) else None
+password_in line = if nat_lt 0 (length line) && nat_le (length line) password_limit && is_utf8 line then Some (nfc_of line) else None
 
 -- the password in a secret
 unfoldable pub password_of : List ℕ → Option (List ℕ)

@@ -3,6 +3,7 @@ ghost use Rattle.std.specs.Option.{ok_or, option_and_then};
 ghost use Rattle.std.specs.Result.{result_ok};
 ghost use Rattle.base64.specs.GeneralPurpose.{decode_of};
 ghost use Rattle.base64.specs.Engines.{standard};
+ghost use Rattle.vault_layout.specs.Limits.{key_file_limit};
 ghost use Rattle.json_members.specs.Members.{object_of, text_at, integer_at};
 ghost use Rattle.masterkey_file.specs.KeyFile.{bad_field, bytes_at, fields_in, fields_of, fits_key, fits_salt, name_of, not_json};
 ghost use Rattle.masterkey_file.specs.Faults.{IsFault, field_of};
@@ -11,8 +12,9 @@ ghost use Rattle.masterkey_file.specs.Steps.{fields_data};
 use crate::reading::{FieldName, KeyFileErr};
 use base64::DecodeAllocError;
 use base64::engine::general_purpose::STANDARD;
-use json_members::{FILE_LIMIT, Object};
+use json_members::Object;
 use std::alloc::{AllocError, Global};
+use vault_layout::KEY_FILE_LIMIT;
 
 // The longest salt, in bytes.
 const SALT_LIMIT: usize = 1024;
@@ -41,9 +43,9 @@ pub(crate) fn read_fields(alloc: Global, bytes: &[u8]) -> Result<Fields, KeyFile
 
 // Whether a file isn't looked into for its length.
 fn is_too_long(bytes: &[u8]) -> bool
-    ensures { result ≡ nat_lt FILE_LIMIT (length bytes.now) }
+    ensures { result ≡ nat_lt key_file_limit (length bytes.now) }
 {
-    bytes.len() > FILE_LIMIT
+    bytes.len() > KEY_FILE_LIMIT
 }
 
 // The members of an object, in the order of their tests.

@@ -17,5 +17,5 @@ mod writing;
 
 pub use laws::{a_long_file_is_too_long, a_password_is_in_the_first_line};
 pub use reading::{FieldName, KeyFileErr, read};
-pub use secret::{LINE_LIMIT, PasswordErr, password};
+pub use secret::{PasswordErr, password};
 pub use writing::write;

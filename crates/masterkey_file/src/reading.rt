@@ -7,10 +7,10 @@ use crate::fields::{Fields, read_fields};
 use json_members::ObjectErr;
 use key_wrap::unwrap;
 use scrypt_kdf::{ScryptErr, scrypt};
-use siv_mode::VaultKeys;
 use std::alloc::{AllocError, Global};
 use std::error::Error;
 use std::fmt;
+use vault_keys::VaultKeys;
 
 /// A member of the masterkey file. It is shown as the name in JSON.
 #[derive(Clone, Copy, Debug, PartialEq, Eq)]

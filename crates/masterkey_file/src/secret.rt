@@ -1,20 +1,19 @@
 ghost use Rattle.std.specs.Prelude.{◌≡◌, ◌==◌, ◌&&◌, nat_le, nat_lt, length, Some, None, IfOk, IsErrOf};
 ghost use Rattle.std.specs.List.{position};
 ghost use Rattle.std.specs.String.{string_bytes};
+ghost use Rattle.vault_layout.specs.Limits.{password_limit};
 ghost use Rattle.masterkey_file.specs.Password.{line_of, password_of};
 
 use nfc_text::nfc;
 use std::alloc::{AllocError, Global};
 use std::error::Error;
 use std::{fmt, str};
-
-/// The longest line of a secret, in bytes.
-pub const LINE_LIMIT: usize = 1024;
+use vault_layout::PASSWORD_LIMIT;
 
 /// Why a secret gives no password.
 #[derive(Clone, Copy, Debug, PartialEq, Eq)]
 pub enum PasswordErr {
-    /// The first line is empty, has more than 1,024 bytes, or isn't UTF-8.
+    /// The first line is empty, has more than `PASSWORD_LIMIT` bytes, or isn't UTF-8.
     BadSecret,
     /// Memory ran out, which says nothing of the secret.
     Memory,
@@ -47,8 +46,8 @@ impl fmt::Display for PasswordErr {
 
 impl Error for PasswordErr {}
 
-/// The password in a secret: its first line, up to the first LF or the end, which has 1 to 1,024 bytes of UTF-8, in the form
-/// NFC (UAX 15). A CR in front of the LF is part of it.
+/// The password in a secret: its first line, up to the first LF or the end, which has 1 to
+/// `PASSWORD_LIMIT` bytes of UTF-8, in the form NFC (UAX 15). A CR in front of the LF is part of it.
 pub fn password(alloc: Global, secret: &[u8]) -> Result<String, PasswordErr>
     ensures password { IfOk result (λ p. password_of secret.now ≡ Some (string_bytes p)) }
     ensures bad { IsErrOf result PasswordErr.BadSecret → password_of secret.now ≡ None }
@@ -63,11 +62,11 @@ pub fn password(alloc: Global, secret: &[u8]) -> Result<String, PasswordErr>
     Ok(nfc(alloc, text)?)
 }
 
-// Whether a line has 1 to 1,024 bytes.
+// Whether a line isn't empty and has no more bytes than the limit.
 fn is_of_good_length(line: &[u8]) -> bool
-    ensures { result ≡ (nat_lt 0 (length line.now) && nat_le (length line.now) LINE_LIMIT) }
+    ensures { result ≡ (nat_lt 0 (length line.now) && nat_le (length line.now) password_limit) }
 {
-    !line.is_empty() && line.len() <= LINE_LIMIT
+    !line.is_empty() && line.len() <= PASSWORD_LIMIT
 }
 
 // The bytes up to the first LF, or all of them.

@@ -15,8 +15,8 @@ use hmac_sha::hmac256;
 use key_wrap::{unwrapping_is_exact, wrap};
 use scrypt_kdf::scrypt;
 use serde_json::{Value, json};
-use siv_mode::VaultKeys;
 use std::alloc::{AllocError, Global};
+use vault_keys::VaultKeys;
 
 // scrypt's cost, block size and parallelization.
 const COST: u64 = 32768;

@@ -2,7 +2,7 @@
 use Rattle.std.proofs.Common.{◌≡◌, ℕ, List, length, take, map, false, Option, Some, None, refl}
 use Rattle.std.specs.List.{range_with_len}
 use Rattle.std.specs.Option.{is_some, option_map}
-use Rattle.siv_mode.specs.Keys.{KeyPair}
+use Rattle.vault_keys.specs.Keys.{KeyPair}
 use Rattle.tree_model.specs.Rows.{Cell, chunks}
 use Rattle.file_chunks.specs.Header.{Head, header_opens}
 use Rattle.file_chunks.specs.File.{cell_of, chunk_count, content_of, is_bad_size, sealed_at}

@@ -4,7 +4,7 @@ use Rattle.std.specs.Option.{option_map}
 use Rattle.std.proofs.lemmas.List.{take_all}
 use Rattle.aes_block.specs.Aes.{aes}
 use Rattle.gcm_mode.specs.Gcm.{gcm_opened}
-use Rattle.siv_mode.specs.Keys.{KeyPair}
+use Rattle.vault_keys.specs.Keys.{KeyPair}
 use Rattle.file_chunks.specs.Header.{head_of, header_opens}
 use Rattle.file_chunks.proofs.KeptLengths.{keeps_length}
 

@@ -6,8 +6,8 @@ ghost use Rattle.model_contents.specs.Seen.{cell_seen, content_seen, head_seen};
 use crate::gcm::gcm_opened;
 use crate::header::{Head, array_at, header_opens};
 use file_chunks::{HEADER_LENGTH, NONCE_LENGTH, SEALED_LENGTH, SEALING_LENGTH, TAG_LENGTH};
-use siv_mode::VaultKeys;
 use std::alloc::{AllocError, Global};
+use vault_keys::VaultKeys;
 
 // The length of a chunk's index in bytes.
 const INDEX_LENGTH: usize = 8;

@@ -4,8 +4,8 @@ ghost use Rattle.model_contents.specs.Seen.{head_seen};
 
 use crate::gcm::gcm_opened;
 use file_chunks::{HEADER_LENGTH, NONCE_LENGTH, TAG_LENGTH};
-use siv_mode::VaultKeys;
 use std::alloc::{AllocError, Global};
+use vault_keys::VaultKeys;
 
 const KEY_LENGTH: usize = 32;
 

@@ -75,16 +75,6 @@ pub(crate) fn copied_row(alloc: Global, row: &Row) -> Result<Row, AllocError>
     })
 }
 
-// A copy of a row, if there is one.
-fn copied_if(alloc: Global, row: Option<&Row>) -> Result<Option<Row>, AllocError>
-    ensures { IfOk result (λ copy. option_map row_seen copy ≡ option_map (λ row. row_seen row.now) row.entry) }
-{
-    match row {
-        Some(row) => Ok(Some(copied_row(alloc, row)?)),
-        None => Ok(None),
-    }
-}
-
 /// The row of a number.
 pub(crate) fn row_of(alloc: Global, rows: &Rows, number: u64) -> Result<Option<Row>, AllocError>
     ensures { IfOk result (λ row. option_map row_seen row ≡ row_of (rows_seen rows.now) number) }

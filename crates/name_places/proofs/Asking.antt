@@ -5,7 +5,7 @@ use Rattle.outside.specs.Disk.{Disk, Path as HostPath}
 use Rattle.outside.specs.Calls.{Told}
 use Rattle.outside.proofs.Told.{told_then, told_both, told_always}
 use Rattle.vault_path.specs.Parts.{is_part, is_path}
-use Rattle.siv_mode.specs.Keys.{KeyPair}
+use Rattle.vault_keys.specs.Keys.{KeyPair}
 use Rattle.vault_names.specs.Places.{long_folder}
 use Rattle.clear_tree.specs.Places.{host_folder, host_entry}
 use Rattle.tree_loading.specs.Format.{sealing_of}

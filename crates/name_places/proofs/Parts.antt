@@ -7,8 +7,9 @@ use Rattle.base64.specs.GeneralPurpose.{encode_of}
 use Rattle.base64.specs.Engines.{url_safe}
 use Rattle.aes_block.specs.Aes.{aes}
 use Rattle.aes_block.specs.Bytes.{AreBytes}
-use Rattle.siv_mode.specs.Keys.{KeyPair}
+use Rattle.vault_keys.specs.Keys.{KeyPair}
 use Rattle.siv_mode.specs.Siv.{siv_sealed}
+use Rattle.vault_layout.specs.Limits.{max_threshold}
 use Rattle.vault_path.specs.Parts.{is_part, is_part_byte}
 use Rattle.tree_model.specs.Names.{IsClearName}
 use Rattle.vault_names.specs.Sealed.{suffix, sealed_name, opened_name, IsSealedName}
@@ -59,7 +60,7 @@ module _ (keys : KeyPair) (seals : SealsBytes keys) (opens : Opens keys) (i n : 
   past_threshold true g h e = absurd cc
   past_threshold false g h e = (refl, cc)
 
-  module _ (threshold : ℕ) (low : threshold ≤ 250) where
+  module _ (threshold : ℕ) (low : threshold ≤ max_threshold) where
     pub short_place : (t e : List ℕ) → t ≡ sealed_name keys i n → e ≡ t → place_of threshold t ≡ Short
         → IsNewPlace (sealing_of keys) i n threshold (record { text = t; entry = e; long = false })
     short_place t e is entry at =

@@ -7,9 +7,10 @@ use Rattle.std.proofs.lemmas.List.{take_all}
 use Rattle.std.specs.Str.{is_utf8}
 use Rattle.std.specs.FinMap.{get}
 use Rattle.outside.specs.Disk.{Disk}
-use Rattle.siv_mode.specs.Keys.{KeyPair}
+use Rattle.vault_keys.specs.Keys.{KeyPair}
 use Rattle.vault_names.specs.Folder.{base32, hash_of}
 use Rattle.clear_tree.specs.Walk.{Path, Sealing, Node, File, Link, Dir, Bad}
+use Rattle.clear_tree.specs.Kept.{text_limit}
 use Rattle.clear_tree.specs.Places.{entry_at, host_entry}
 use Rattle.tree_loading.specs.Format.{is_identifier}
 use Rattle.tree_loading.specs.Ciphers.{AreCiphers, is_long_entry}
@@ -59,11 +60,11 @@ pub kept_claim : (keys : KeyPair) → KeptClaims keys
 kept_claim keys (File b) = refl
 kept_claim keys (Link b) = refl
 kept_claim keys (Dir i) = refl
-kept_claim keys (Bad t) = by_length (cases_lt 1001 (length t))
+kept_claim keys (Bad t) = by_length (cases_lt text_limit (length t))
   where
-    by_length : (1001 < length t) ⊎ (length t ≤ 1001) → named keys (take 1001 t) ≡ named keys t
+    by_length : (text_limit < length t) ⊎ (length t ≤ text_limit) → named keys (take text_limit t) ≡ named keys t
     by_length (inl more) =
-        let size : length (take 1001 t) ≡ 1001 = omega (arith, length-take 1001 t) in
-        ap (λ (b : Bool). cond b (Some (base32 (hash_of keys (take 1001 t)))) None) (no_identifier (take 1001 t) (omega (arith, size)))
+        let size : length (take text_limit t) ≡ text_limit = omega (arith, length-take text_limit t) in
+        ap (λ (b : Bool). cond b (Some (base32 (hash_of keys (take text_limit t)))) None) (no_identifier (take text_limit t) (omega (arith, size)))
         ∙ sym (ap (λ (b : Bool). cond b (Some (base32 (hash_of keys t))) None) (no_identifier t (omega (arith, more))))
-    by_length (inr few) = ap (named keys) (take_all 1001 t few)
+    by_length (inr few) = ap (named keys) (take_all text_limit t few)

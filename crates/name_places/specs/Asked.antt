@@ -4,7 +4,7 @@ use Rattle.std.specs.FinMap.{get}
 use Rattle.std.specs.Option.{option_map, option_and_then}
 use Rattle.outside.specs.Disk.{Disk, Path as HostPath}
 use Rattle.vault_path.specs.Parts.{is_part}
-use Rattle.siv_mode.specs.Keys.{KeyPair}
+use Rattle.vault_keys.specs.Keys.{KeyPair}
 use Rattle.vault_names.specs.Places.{long_folder}
 use Rattle.clear_tree.specs.Walk.{Sealing}
 use Rattle.clear_tree.specs.Places.{host_two, host_folder, host_entry, host_inner, text_dir}

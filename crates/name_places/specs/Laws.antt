@@ -6,7 +6,7 @@ use Rattle.std.specs.Cmp.Lexicographic.{slice_cmp}
 use Rattle.std.specs.BTreeMap.{insert_entry}
 use Rattle.outside.specs.Disk.{Disk}
 use Rattle.vault_path.specs.Parts.{is_part}
-use Rattle.siv_mode.specs.Keys.{KeyPair}
+use Rattle.vault_keys.specs.Keys.{KeyPair}
 use Rattle.clear_tree.specs.Walk.{Path, Sealing, Node, Dir, claimed}
 use Rattle.clear_tree.specs.Kept.{what_of}
 use Rattle.tree_loading.specs.Format.{sealing_of}

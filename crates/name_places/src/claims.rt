@@ -1,21 +1,20 @@
 ghost use Rattle.std.specs.Prelude.{◌≡◌, ◌≢◌, suc, IfOk, OnOk, OnErr};
-ghost use Rattle.std.specs.Str.{is_utf8};
 ghost use Rattle.tree_model.specs.Rows.{root};
 ghost use Rattle.clear_tree.specs.Kept.{KeptBad};
 ghost use Rattle.clear_tree.specs.Built.{kept_what};
-ghost use Rattle.tree_loading.specs.Format.{sealing_of, is_identifier};
+ghost use Rattle.tree_loading.specs.Format.{sealing_of};
 ghost use Rattle.name_places.specs.Claims.{claimed_at, claimed_in, number_in, AreClaimsOf};
 ghost use Rattle.name_places.specs.Index.{AreClaimsBelow, IsPut};
 ghost use Rattle.name_places.specs.Laws.{Grows, IsInserted, Shrinks, TakesBack};
 
-use crate::directory::folder_of;
 use clear_tree::What;
 use live_tree::LiveTree;
-use siv_mode::VaultKeys;
 use std::alloc::{AllocError, Global};
 use std::collections::BTreeMap;
 use std::marker::Model;
-use vault_names::IDENTIFIER_LIMIT;
+use tree_loading::is_identifier;
+use vault_keys::VaultKeys;
+use vault_names::directory_folder;
 
 /// Of each folder that a node below the root names, a directory or a Bad node, the lowest number of those nodes. O(log n) for
 /// each question and change. Clauses see its entries.
@@ -127,22 +126,5 @@ fn folder_named(keys: &VaultKeys, text: &[u8]) -> Option<[u8; 32]>
     if !is_identifier(text) {
         return None;
     }
-    Some(folder_of(keys, text))
-}
-
-// Whether bytes are the identifier of a directory below the root.
-fn is_identifier(bytes: &[u8]) -> bool
-    ensures { result ≡ is_identifier bytes.now }
-{
-    !bytes.is_empty() && bytes.len() <= IDENTIFIER_LIMIT && is_utf8(bytes)
-}
-
-// Whether bytes are UTF-8.
-fn is_utf8(bytes: &[u8]) -> bool
-    ensures { result ≡ is_utf8 bytes.now }
-{
-    match str::from_utf8(bytes) {
-        Ok(_) => true,
-        Err(_) => false,
-    }
+    Some(directory_folder(keys, text))
 }

@@ -2,8 +2,8 @@ ghost use Rattle.tree_loading.specs.Format.{sealing_of};
 ghost use Rattle.tree_deed_laws.specs.Trees.{AreTexts};
 ghost use Rattle.name_places.specs.Laws.{ClaimsAreWhole, DatingKeeps, EntriesAreParts, KeptClaims, MakingKeeps, RemovingKeeps, RenamingKeeps, WritingKeeps};
 
-use siv_mode::VaultKeys;
 use tree_loading::are_ciphers;
+use vault_keys::VaultKeys;
 
 /// Which texts are those of sealed names under a vault's keys: no long place and no copy of an identifier is one. It does
 /// nothing.

@@ -2,7 +2,7 @@
 //! (Cryptomator's vault format 8).
 //!
 //! ```
-//! let place = place_name(alloc, &keys, b"", 220, &name)?;
+//! let place = place_name(alloc, &keys, b"", DEFAULT_THRESHOLD, &name)?;
 //! let directory = new_directory(&keys, &drawn);
 //! if let Some(path) = taken(&mut folder, &root, &place, Some(&directory), &live, &claims)? {
 //!     return Err(PlaceTaken(path));

@@ -1,9 +1,11 @@
-ghost use Rattle.std.specs.Prelude.{◌≡◌, ◌≤◌, IfOk};
+ghost use Rattle.std.specs.Prelude.{◌≤◌, IfOk};
+ghost use Rattle.vault_layout.specs.Limits.{max_threshold};
 ghost use Rattle.tree_loading.specs.Format.{sealing_of};
 ghost use Rattle.name_places.specs.New.{IsNewPlace};
 
-use siv_mode::{VaultKeys, opening_is_exact};
+use siv_mode::opening_is_exact;
 use std::alloc::{AllocError, Global};
+use vault_keys::VaultKeys;
 use vault_names::{Name, Place, opening_undoes_sealing, place_of, seal_name};
 use vault_path::Text;
 
@@ -18,7 +20,7 @@ pub struct NewPlace {
     pub long: bool,
 }
 
-/// The place of a name in the directory of an identifier, by the threshold, 1 to 250: the most characters of a text that is at
+/// The place of a name in the directory of an identifier, by the threshold: the most characters of a text that is at
 /// its short place. Fails only if memory runs out.
 pub fn place_name(
     alloc: Global,
@@ -27,7 +29,7 @@ pub fn place_name(
     threshold: u32,
     name: &Name,
 ) -> Result<NewPlace, AllocError>
-    requires { (1 ≤ threshold) × (threshold ≤ 250) }
+    requires { (1 ≤ threshold) × (threshold ≤ max_threshold) }
     ensures { IfOk result (IsNewPlace (sealing_of keys.now) identifier.now name.now threshold) }
 {
     opening_undoes_sealing(keys);
@@ -36,7 +38,7 @@ pub fn place_name(
     let text = seal_name(alloc, keys, identifier, name)?;
     match place_of(threshold, text.as_bytes()) {
         Place::Short => {
-            let entry = copied(alloc, text.as_bytes())?;
+            let entry = Text::from_slice(alloc, text.as_bytes())?;
             Ok(NewPlace {
                 text,
                 entry,
@@ -44,7 +46,7 @@ pub fn place_name(
             })
         }
         Place::Long(folder) => {
-            let entry = copied(alloc, &folder)?;
+            let entry = Text::from_slice(alloc, &folder)?;
             Ok(NewPlace {
                 text,
                 entry,
@@ -52,11 +54,4 @@ pub fn place_name(
             })
         }
     }
-}
-
-// A text of these bytes.
-fn copied(alloc: Global, bytes: &[u8]) -> Result<Text, AllocError>
-    ensures { IfOk result (λ text. text ≡ bytes.now) }
-{
-    Ok(Text::from_vec(Vec::from_slice(alloc, bytes)?))
 }

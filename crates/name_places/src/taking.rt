@@ -14,11 +14,9 @@ use crate::name::NewPlace;
 use clear_tree::{host_folder, host_two};
 use live_tree::LiveTree;
 use outside::{Failed, Kind, Reads};
+use vault_layout::DIRECTORY_FILE;
 use vault_names::long_folder;
 use vault_path::VaultPath;
-
-// The file of a directory's node folder that holds its identifier (Cryptomator's vault format 8).
-const DIR: &[u8] = b"dir.c9r";
 
 /// The first path that is taken of those that a new name needs in the directory whose folder has these 32 characters: its short
 /// place, if that is a part of a path, and its long one; and for a new directory its folder, a file at that folder's part of two
@@ -118,7 +116,7 @@ fn claim_path(live: &LiveTree, claims: &Claims, own: &[u8; 32]) -> Option<VaultP
     let above = live.node(node.parent())?.folder()?;
     // The entry of a disk's node is a part of a path.
     let entry = host_folder(above).join(node.entry()).ok()?;
-    Some(entry.joined(DIR))
+    Some(entry.joined(DIRECTORY_FILE))
 }
 
 // A path, if something is there.

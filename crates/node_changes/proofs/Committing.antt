@@ -17,6 +17,8 @@ use Rattle.tree_model.specs.History.{is_refusal}
 use Rattle.clear_tree.specs.Walk.{Sealing}
 use Rattle.live_tree.specs.Held.{HeldTree, live_rows}
 use Rattle.node_changes.specs.Changed.{IsAtRest, LeadsOn, MakesStep, IsStepAnswer, HasChanged, MayHaveChanged}
+use Rattle.node_changes.specs.declared.tree.VaultTree.{VaultTree}
+use Rattle.tree_loading.specs.Format.{sealing_of}
 
 -- ---- refusals before the work
 
@@ -38,52 +40,81 @@ late_by rows request second answer is accepted = go (early_refusal rows request)
 
 -- ---- commits
 
-module _ (s : Sealing) (request : PlainRequest) (second : ℕ) (deeds : List PlainDeed) (live live' : HeldTree) (claims claims' : List (List ℕ × ℕ)) (old : Option Log) where
-  -- what is known of deeds before they are committed
-  abbrev Makes : Type 0
-  Makes = Told old (λ (l : Log). MakesStep s request second deeds (now l) live live' claims claims')
+-- a change of a tree at rest, and deeds that lead on to it
+pub record Led : Type 0 where
+  pub s : Sealing
+  pub request : PlainRequest
+  pub second : ℕ
+  pub answer : Answer
+  pub deeds : List PlainDeed
+  pub live : HeldTree
+  pub live' : HeldTree
+  pub claims : List (List ℕ × ℕ)
+  pub claims' : List (List ℕ × ℕ)
+  pub log : Option Log
+  pub leads : LeadsOn s request second answer live live' claims claims' deeds
+  pub rest : Told log (IsAtRest s live claims)
 
-  pub can_be_done : Makes → Told old (λ (l : Log). (after : Disk) × DoesAll (in_order deeds) (now l) after)
-  can_be_done makes =
-      told_then old (λ (l : Log). MakesStep s request second deeds (now l) live live' claims claims') (λ (l : Log). (after : Disk) × DoesAll (in_order deeds) (now l) after) makes (λ l m. (m.after, m.does))
+-- from a vault's tree to another
+abbrev pub led_of : (old new : VaultTree) (request : PlainRequest) (second : ℕ) (answer : Answer) (deeds : List PlainDeed) (log : Option Log)
+    → LeadsOn (sealing_of old.keys) request second answer old.live new.live old.claims new.claims deeds → Told log (IsAtRest (sealing_of old.keys) old.live old.claims) → Led
+led_of old new request second answer deeds log leads rest = record {
+  s = sealing_of old.keys;
+  request = request;
+  second = second;
+  answer = answer;
+  deeds = deeds;
+  live = old.live;
+  live' = new.live;
+  claims = old.claims;
+  claims' = new.claims;
+  log = log;
+  leads = leads;
+  rest = rest;
+}
+
+module _ (led : Led) where
+  open led use {s, request, second, answer, deeds, live, live', claims, claims', log, leads, rest}
+
+  abbrev Makes : Log → Type 0
+  Makes l = MakesStep s request second deeds (now l) live live' claims claims'
+
+  abbrev Answers : Log → Type 0
+  Answers l = IsStepAnswer s request second answer (now l) live claims
+
+  -- what it leads to is told of the disk that reads give
+  told_makes : Told log Makes
+  told_makes = told_then log (IsAtRest s live claims) Makes rest (λ l r. (leads (now l) r.contents r.stands).0)
+
+  told_answer : Told log Answers
+  told_answer = told_then log (IsAtRest s live claims) Answers rest (λ l r. (leads (now l) r.contents r.stands).1)
+
+  pub can_be_done : Told log (λ (l : Log). (after : Disk) × DoesAll (in_order deeds) (now l) after)
+  can_be_done = told_then log Makes (λ (l : Log). (after : Disk) × DoesAll (in_order deeds) (now l) after) told_makes (λ l m. (m.after, m.does))
 
   abbrev HasDone : Log → Log → Type 0
-  HasDone x y = MakesStep s request second deeds (now x) live live' claims claims' × AnyMoment deeds x y × HasCommitted deeds x y
+  HasDone x y = Makes x × AnyMoment deeds x y × HasCommitted deeds x y
 
   abbrev HasBegun : Log → Log → Type 0
-  HasBegun x y = MakesStep s request second deeds (now x) live live' claims claims' × AnyMoment deeds x y
+  HasBegun x y = Makes x × AnyMoment deeds x y
 
-  pub has_changed : (answer : Answer) (new : Option Log) → Makes → Told old (λ (l : Log). IsStepAnswer s request second answer (now l) live claims) → Changes old new (AnyMoment deeds) → Changes old new (HasCommitted deeds)
-      → Changes old new (HasChanged s request second answer live live' claims claims')
-  has_changed answer new makes is any committed =
-      changed_from old new (λ (l : Log). IsStepAnswer s request second answer (now l) live claims) HasDone (HasChanged s request second answer live live' claims claims')
-      (λ x y p q. record { deeds = deeds; makes = q.0; answer_is = p; any_moment = q.1; committed = q.2 }) is
-      (changed_from old new (λ (l : Log). MakesStep s request second deeds (now l) live live' claims claims') (λ x y. AnyMoment deeds x y × HasCommitted deeds x y) HasDone
-      (λ x y p q. (p, q.0, q.1)) makes (both_changed old new (AnyMoment deeds) (HasCommitted deeds) any committed))
+  pub has_changed : (new : Option Log) → Changes log new (AnyMoment deeds) → Changes log new (HasCommitted deeds) → Changes log new (HasChanged s request second answer live live' claims claims')
+  has_changed new any committed =
+      changed_from log new Answers HasDone (HasChanged s request second answer live live' claims claims')
+      (λ x y p q. record { deeds = deeds; makes = q.0; answer_is = p; any_moment = q.1; committed = q.2 }) told_answer
+      (changed_from log new Makes (λ x y. AnyMoment deeds x y × HasCommitted deeds x y) HasDone (λ x y p q. (p, q.0, q.1)) told_makes (both_changed log new (AnyMoment deeds) (HasCommitted deeds) any committed))
 
-  pub may_have_changed : (answer : Answer) (new : Option Log) → is_refusal answer.reply ≡ false → Makes → Told old (λ (l : Log). IsStepAnswer s request second answer (now l) live claims) → Changes old new (AnyMoment deeds)
-      → Changes old new (MayHaveChanged s request second live live' claims claims')
-  may_have_changed answer new accepted makes is any =
-      changed_from old new (λ (l : Log). IsStepAnswer s request second answer (now l) live claims) HasBegun (MayHaveChanged s request second live live' claims claims')
+  pub may_have_changed : (new : Option Log) → is_refusal answer.reply ≡ false → Changes log new (AnyMoment deeds) → Changes log new (MayHaveChanged s request second live live' claims claims')
+  may_have_changed new accepted any =
+      changed_from log new Answers HasBegun (MayHaveChanged s request second live live' claims claims')
       (λ x y p q. record {
         deeds = deeds;
         makes = q.0;
         late = λ contents stands. late_by (live_rows contents live) request second answer (p contents stands) accepted;
         any_moment = q.1;
-      }) is
-      (changed_from old new (λ (l : Log). MakesStep s request second deeds (now l) live live' claims claims') (AnyMoment deeds) HasBegun (λ x y p q. (p, q)) makes any)
+      }) told_answer
+      (changed_from log new Makes (AnyMoment deeds) HasBegun (λ x y p q. (p, q)) told_makes any)
 
 -- the journal is quiet
 pub quiet : (s : Sealing) (live : HeldTree) (claims : List (List ℕ × ℕ)) (log : Option Log) → Told log (IsAtRest s live claims) → Told log IsQuiet
 quiet s live claims log rest = told_then log (IsAtRest s live claims) IsQuiet rest (λ l r. r.quiet)
-
--- what a change of the tree in memory leads to is told of the disk that reads give
-pub told_makes : (s : Sealing) (request : PlainRequest) (second : ℕ) (answer : Answer) (deeds : List PlainDeed) (live live' : HeldTree) (claims claims' : List (List ℕ × ℕ)) (log : Option Log)
-    → LeadsOn s request second answer live live' claims claims' deeds → Told log (IsAtRest s live claims) → Told log (λ (l : Log). MakesStep s request second deeds (now l) live live' claims claims')
-told_makes s request second answer deeds live live' claims claims' log leads rest =
-    told_then log (IsAtRest s live claims) (λ (l : Log). MakesStep s request second deeds (now l) live live' claims claims') rest (λ l r. (leads (now l) r.contents r.stands).0)
-
-pub told_answer : (s : Sealing) (request : PlainRequest) (second : ℕ) (answer : Answer) (deeds : List PlainDeed) (live live' : HeldTree) (claims claims' : List (List ℕ × ℕ)) (log : Option Log)
-    → LeadsOn s request second answer live live' claims claims' deeds → Told log (IsAtRest s live claims) → Told log (λ (l : Log). IsStepAnswer s request second answer (now l) live claims)
-told_answer s request second answer deeds live live' claims claims' log leads rest =
-    told_then log (IsAtRest s live claims) (λ (l : Log). IsStepAnswer s request second answer (now l) live claims) rest (λ l r. (leads (now l) r.contents r.stands).1)

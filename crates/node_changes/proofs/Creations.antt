@@ -7,7 +7,7 @@ use Rattle.std.specs.Option.{option_and_then}
 use Rattle.outside.specs.Disk.{Disk}
 use Rattle.deeds.specs.Deeds.{PlainDeed, DoesAll, in_order}
 use Rattle.deeds.proofs.Doing.{same_run}
-use Rattle.siv_mode.specs.Keys.{KeyPair}
+use Rattle.vault_keys.specs.Keys.{KeyPair}
 use Rattle.tree_model.specs.Rows.{Content, chunks, Row, Rows, root, qid_of, row_of, child_of}
 use Rattle.tree_model.specs.Asked.{create, qid}
 use Rattle.tree_model.specs.Step.{Stepped, stepped, says, refuses, step, new_row, with_new, create_named, create_refusal, is_full, name_refusal}
@@ -21,7 +21,7 @@ use Rattle.clear_tree.specs.Walk.{Path, Sealing, Node, File, Link, Dir, Bad, is_
 use Rattle.clear_tree.specs.Rows.{content_in}
 use Rattle.clear_tree.specs.Kept.{KeptDir, what_of, content_of}
 use Rattle.tree_loading.specs.Format.{sealing_of}
-use Rattle.tree_deed_laws.specs.Trees.{AreTexts, Tree, IsTreeOf, with_node}
+use Rattle.tree_deed_laws.specs.Trees.{Tree, IsTreeOf, with_node}
 use Rattle.tree_deed_laws.specs.Taken.{AreClaimed, IsClaimed, taken}
 use Rattle.tree_deed_laws.specs.Changes as laws
 use Rattle.tree_deed_laws.specs.Deeds.{place_of}
@@ -88,11 +88,33 @@ dir_node s (Link b) i f e = absurd cc
 dir_node s (Dir j) i f e = cc
 dir_node s (Bad t) i f e = absurd cc
 
-module _ (keys : KeyPair) (texts : AreTexts (sealing_of keys)) (kept : KeptClaims keys) (whole : ClaimsAreWhole) (d : Disk) (live live' : HeldTree) (claims claims' : List (List ℕ × ℕ)) (parent now : ℕ) (i n : List ℕ) (long : Bool)
-    (drawn : Option (List ℕ)) (can : CanCome (sealing_of keys) d live parent i n long drawn) (x : Node) (empty : content_of (what_of (sealing_of keys) x) (chunks true []) ≡ content_in (sealing_of keys) x) (deeds : List PlainDeed)
-    (creates : (tree : Tree) (p : Path) → IsTreeOf (sealing_of keys) d tree → laws.IsNew (sealing_of keys) d tree p i n long drawn → laws.Leads (sealing_of keys) d deeds (with_node tree (n ∷ p) x long))
-    (spares : (tree : Tree) (p : Path) (after : Disk) → IsTreeOf (sealing_of keys) d tree → laws.IsNew (sealing_of keys) d tree p i n long drawn → DoesAll deeds d after → KeepsStrays (sealing_of keys) d after)
-    (made : live' ≡ added live (new_node parent n (what_of (sealing_of keys) x) (place_of (sealing_of keys) i n long).entry long now) now) where
+-- a node comes to a directory, by deeds that make it on the disk
+pub record Coming : Type 0 where
+  pub keys : KeyPair
+  pub kept : KeptClaims keys
+  pub whole : ClaimsAreWhole
+  pub d : Disk
+  pub live : HeldTree
+  pub live' : HeldTree
+  pub claims : List (List ℕ × ℕ)
+  pub claims' : List (List ℕ × ℕ)
+  pub parent : ℕ
+  pub now : ℕ
+  pub i : List ℕ
+  pub n : List ℕ
+  pub long : Bool
+  pub drawn : Option (List ℕ)
+  pub can : CanCome (sealing_of keys) d live parent i n long drawn
+  pub x : Node
+  pub empty : content_of (what_of (sealing_of keys) x) (chunks true []) ≡ content_in (sealing_of keys) x
+  pub deeds : List PlainDeed
+  pub creates : (tree : Tree) (p : Path) → IsTreeOf (sealing_of keys) d tree → laws.IsNew (sealing_of keys) d tree p i n long drawn → laws.Leads (sealing_of keys) d deeds (with_node tree (n ∷ p) x long)
+  pub spares : (tree : Tree) (p : Path) (after : Disk) → IsTreeOf (sealing_of keys) d tree → laws.IsNew (sealing_of keys) d tree p i n long drawn → DoesAll deeds d after → KeepsStrays (sealing_of keys) d after
+  pub made : live' ≡ added live (new_node parent n (what_of (sealing_of keys) x) (place_of (sealing_of keys) i n long).entry long now) now
+
+module _ (coming : Coming) where
+  open coming use {keys, kept, whole, d, live, live', claims, claims', parent, now, i, n, long, drawn, can, x, empty, deeds, creates, spares, made}
+
   abbrev k : Sealing
   k = sealing_of keys
 

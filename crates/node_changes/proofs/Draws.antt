@@ -9,7 +9,7 @@ use Rattle.outside.specs.Images.{Log, now, disk_in}
 use Rattle.outside.proofs.Told.{told_then, told_always, unchanged, changed_by}
 use Rattle.deeds.specs.Deeds.{PlainDeed, DoesAll, in_order}
 use Rattle.chunk_journal.specs.Journal.{AnyMoment, HasCommitted}
-use Rattle.siv_mode.specs.Keys.{KeyPair}
+use Rattle.vault_keys.specs.Keys.{KeyPair}
 use Rattle.tree_model.specs.declared.refusal.Refusal.{Refusal}
 use Rattle.tree_model.specs.declared.refusal.Refusal.TheVariants as refusals
 use Rattle.tree_model.specs.Names.{clear_name}
@@ -34,6 +34,7 @@ use Rattle.node_changes.proofs.Committing.{late_by}
 use Rattle.node_changes.specs.Creation.{HasCreated, IsDraw, IsFoundTaken, MakesDrawn, MayHaveCreated}
 use Rattle.node_changes.specs.Creating.{DrawsDirectory, DrawsHead, DrawsIf, IsPlaceRefusal, IsRefusal, IsSite, IsSiteRefusal, IsUntaken, MakesOn}
 use Rattle.node_changes.proofs.Makings.{told_taken, is_late, is_accepted, never_removed}
+use Rattle.node_changes.specs.declared.tree.VaultTree.{VaultTree}
 
 -- ---- what was drawn
 
@@ -200,8 +201,44 @@ place_cases site drawn live claims disk failed (refusals.Exhausted ticket) h = a
 place_cases site drawn live claims disk failed refusals.RandomFault h = absurd h
 place_cases site drawn live claims disk failed refusals.OutOfMemory h = absurd h
 
-module _ (keys : KeyPair) (parts : EntriesAreParts keys) (live : HeldTree) (claims : List (List ℕ × ℕ)) (parent : ℕ) (site : Site) (at : IsSite (sealing_of keys) live parent site) (is : IsTree live)
-    (name : List ℕ) (clear : clear_name name ≡ Ok site.name) (is_directory : Bool) (mode second : ℕ) where
+-- a create that is asked for, at a site
+pub record Asked : Type 0 where
+  pub keys : KeyPair
+  pub parts : EntriesAreParts keys
+  pub live : HeldTree
+  pub claims : List (List ℕ × ℕ)
+  pub parent : ℕ
+  pub site : Site
+  pub at : IsSite (sealing_of keys) live parent site
+  pub is : IsTree live
+  pub name : List ℕ
+  pub clear : clear_name name ≡ Ok site.name
+  pub is_directory : Bool
+  pub mode : ℕ
+  pub second : ℕ
+
+-- of a vault's tree
+abbrev pub asked_of : (tree : VaultTree) → EntriesAreParts tree.keys → (parent : ℕ) (site : Site) → IsSite (sealing_of tree.keys) tree.live parent site → IsTree tree.live
+    → (name : List ℕ) → clear_name name ≡ Ok site.name → Bool → ℕ → ℕ → Asked
+asked_of tree parts parent site at is name clear is_directory mode second = record {
+  keys = tree.keys;
+  parts = parts;
+  live = tree.live;
+  claims = tree.claims;
+  parent = parent;
+  site = site;
+  at = at;
+  is = is;
+  name = name;
+  clear = clear;
+  is_directory = is_directory;
+  mode = mode;
+  second = second;
+}
+
+module _ (asked : Asked) where
+  open asked use {keys, parts, live, claims, parent, site, at, is, name, clear, is_directory, mode, second}
+
   abbrev k : Sealing
   k = sealing_of keys
 
@@ -238,7 +275,33 @@ module _ (keys : KeyPair) (parts : EntriesAreParts keys) (live : HeldTree) (clai
 
 -- ---- the commit
 
-module _ (keys : KeyPair) (request : PlainRequest) (second : ℕ) (live live' : HeldTree) (claims claims' : List (List ℕ × ℕ)) (drawn : Option (List ℕ)) where
+-- a create, from one tree in memory to another
+pub record Creating : Type 0 where
+  pub keys : KeyPair
+  pub request : PlainRequest
+  pub second : ℕ
+  pub live : HeldTree
+  pub live' : HeldTree
+  pub claims : List (List ℕ × ℕ)
+  pub claims' : List (List ℕ × ℕ)
+  pub drawn : Option (List ℕ)
+
+-- from a vault's tree to another
+abbrev pub creating_of : VaultTree → VaultTree → PlainRequest → ℕ → Option (List ℕ) → Creating
+creating_of old new request second drawn = record {
+  keys = old.keys;
+  request = request;
+  second = second;
+  live = old.live;
+  live' = new.live;
+  claims = old.claims;
+  claims' = new.claims;
+  drawn = drawn;
+}
+
+module _ (creating : Creating) where
+  open creating use {keys, request, second, live, live', claims, claims', drawn}
+
   abbrev o : Sealing
   o = sealing_of keys
 

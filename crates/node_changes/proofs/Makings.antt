@@ -7,7 +7,7 @@ use Rattle.std.specs.Option.{option_and_then, option_map_or}
 use Rattle.vault_path.specs.Parts.{is_part}
 use Rattle.outside.specs.Disk.{Disk, Path as HostPath}
 use Rattle.deeds.specs.Deeds.{PlainDeed, DoesAll}
-use Rattle.siv_mode.specs.Keys.{KeyPair}
+use Rattle.vault_keys.specs.Keys.{KeyPair}
 use Rattle.file_chunks.specs.Header.{header_opens}
 use Rattle.file_chunks.specs.File.{is_bad_size, cell_of, chunk_count, sealed_at}
 use Rattle.file_chunks.specs.File.{content_of as file_content}
@@ -52,7 +52,7 @@ use Rattle.node_changes.specs.Within.{AreWithin}
 use Rattle.node_changes.proofs.Nodes.{is_below, place_is, above_there}
 use Rattle.node_changes.proofs.Sites.{named_raw}
 use Rattle.node_changes.proofs.Within.{creation_within, directory_within}
-use Rattle.node_changes.proofs.Creations.{CanCome, dir_node, free_child, made_step, makes}
+use Rattle.node_changes.proofs.Creations.{Coming, CanCome, dir_node, free_child, made_step, makes}
 
 -- ---- a file without chunks
 
@@ -172,8 +172,28 @@ module _ (keys : KeyPair) (live : HeldTree) (parent : ℕ) (site : Site) (at : I
 abbrev pub place_by : List ℕ → List ℕ → Bool → Place
 place_by folder entry long = record { folder = folder; entry = entry; long = long }
 
-module _ (keys : KeyPair) (texts : AreTexts (sealing_of keys)) (kept : KeptClaims keys) (live live' : HeldTree) (claims claims' : List (List ℕ × ℕ)) (parent now : ℕ) (site : Site) (at : IsSite (sealing_of keys) live parent site)
-    (is : IsTree live) (name : List ℕ) (clear : clear_name name ≡ Ok site.name) (mode : ℕ) (deeds : List PlainDeed) where
+-- a node is made at a site, for a name and by deeds
+pub record Making : Type 0 where
+  pub keys : KeyPair
+  pub texts : AreTexts (sealing_of keys)
+  pub kept : KeptClaims keys
+  pub live : HeldTree
+  pub live' : HeldTree
+  pub claims : List (List ℕ × ℕ)
+  pub claims' : List (List ℕ × ℕ)
+  pub parent : ℕ
+  pub now : ℕ
+  pub site : Site
+  pub at : IsSite (sealing_of keys) live parent site
+  pub is : IsTree live
+  pub name : List ℕ
+  pub clear : clear_name name ≡ Ok site.name
+  pub mode : ℕ
+  pub deeds : List PlainDeed
+
+module _ (making : Making) where
+  open making use {keys, texts, kept, live, live', claims, claims', parent, now, site, at, is, name, clear, mode, deeds}
+
   abbrev o : Sealing
   o = sealing_of keys
 
@@ -200,14 +220,35 @@ module _ (keys : KeyPair) (texts : AreTexts (sealing_of keys)) (kept : KeptClaim
     }
 
     makes_on : MakesOn (sealing_of keys) (create parent name is_directory mode) now (says (qid (new_qid live is_directory))) drawn live live' claims claims' deeds
-    makes_on d contents stands untaken = (
-      makes keys texts kept claims_are_whole d live live' claims claims' parent now at.identifier site.name site.place.long drawn (can d untaken) x empty deeds
-          (λ tree p of new. leads d tree p (folder_is keys live parent site at d claims contents stands) of new)
-          (λ tree p after of new does. spares d tree p after (folder_is keys live parent site at d claims contents stands) of new does) (made ∙ ap with_entry at.place.entry) within name is_directory mode rows
-          (λ others more. subst (λ (entry : List ℕ). AreClaimsOf o (with_entry entry) claims') at.place.entry (claimed more.claimed))
-          (made_is keys live parent site at name clear is_directory mode now is) contents stands,
-      λ others more. answer_is keys live parent site at name clear is_directory mode now is others,
-    )
+    makes_on d contents stands untaken =
+        let coming : Coming = record {
+          keys = keys;
+          kept = kept;
+          whole = claims_are_whole;
+          d = d;
+          live = live;
+          live' = live';
+          claims = claims;
+          claims' = claims';
+          parent = parent;
+          now = now;
+          i = at.identifier;
+          n = site.name;
+          long = site.place.long;
+          drawn = drawn;
+          can = can d untaken;
+          x = x;
+          empty = empty;
+          deeds = deeds;
+          creates = λ tree p of new. leads d tree p (folder_is keys live parent site at d claims contents stands) of new;
+          spares = λ tree p after of new does. spares d tree p after (folder_is keys live parent site at d claims contents stands) of new does;
+          made = made ∙ ap with_entry at.place.entry;
+        } in (
+          makes coming within name is_directory mode rows
+              (λ others more. subst (λ (entry : List ℕ). AreClaimsOf o (with_entry entry) claims') at.place.entry (claimed more.claimed))
+              (made_is keys live parent site at name clear is_directory mode now is) contents stands,
+          λ others more. answer_is keys live parent site at name clear is_directory mode now is others,
+        )
 
   -- a file with this header
   module _ (header : List ℕ) (long : length header ≡ 68) (opens : IsSome (header_opens keys header)) (are : deeds ≡ create_file_deeds (place_by site.folder site.place.entry site.place.long) site.place.text header)

@@ -8,7 +8,7 @@ use Rattle.outside.proofs.Told.{told_then, told_always, both_changed, changed_fr
 use Rattle.deeds.specs.Deeds.{PlainDeed, DoesAll, in_order}
 use Rattle.deeds.specs.Repeatable.{IsRepeatable}
 use Rattle.chunk_journal.specs.Journal.{AnyMoment, HasCommitted}
-use Rattle.siv_mode.specs.Keys.{KeyPair}
+use Rattle.vault_keys.specs.Keys.{KeyPair}
 use Rattle.tree_model.specs.declared.refusal.Refusal.{Refusal}
 use Rattle.tree_model.specs.declared.refusal.Refusal.TheVariants as refusals
 use Rattle.tree_model.specs.Rows.{Content}
@@ -40,7 +40,8 @@ use Rattle.node_changes.specs.Renaming.{IsRenamingIn, IsRenaming, HasRenamed}
 use Rattle.node_changes.specs.NewName.{IsNewName, IsNameRefusal, IsPlaceRefusal, IsStuck, IsRenameRefusal, AreNaming, IsNamedTree, RowsAreNamed, CanBeGiven, RenamesOn, dated_if, place_with}
 use Rattle.node_changes.proofs.Naming.{never_removed, given, not_kept_back}
 use Rattle.node_changes.proofs.Placing.{folder_is, found_is, taken_is, free, can_rename, never_stuck}
-use Rattle.node_changes.proofs.Renames.{CanRename, leads, does, makes}
+use Rattle.node_changes.proofs.Renames.{Renaming, CanRename, leads, does, makes}
+use Rattle.node_changes.specs.declared.tree.VaultTree.{VaultTree}
 
 -- ---- deeds that can be done again
 
@@ -95,7 +96,35 @@ dating_stands s d live claims contents number (Some modified) stands = record {
   are = dating_keeps_contents s stands.tree live number modified contents stands.holds stands.are;
 }
 
-module _ (keys : KeyPair) (parts : EntriesAreParts keys) (live : HeldTree) (claims : List (List ℕ × ℕ)) (number : ℕ) (new : NewName) (is : IsNewName (sealing_of keys) live number new) (modified : Option ℕ) (second : ℕ) where
+-- a new name for a node of the tree in memory
+pub record Naming : Type 0 where
+  pub keys : KeyPair
+  pub parts : EntriesAreParts keys
+  pub live : HeldTree
+  pub claims : List (List ℕ × ℕ)
+  pub number : ℕ
+  pub new : NewName
+  pub is : IsNewName (sealing_of keys) live number new
+  pub modified : Option ℕ
+  pub second : ℕ
+
+-- of a vault's tree
+abbrev pub naming_of : (tree : VaultTree) → EntriesAreParts tree.keys → (number : ℕ) (new : NewName) → IsNewName (sealing_of tree.keys) tree.live number new → Option ℕ → ℕ → Naming
+naming_of tree parts number new is modified second = record {
+  keys = tree.keys;
+  parts = parts;
+  live = tree.live;
+  claims = tree.claims;
+  number = number;
+  new = new;
+  is = is;
+  modified = modified;
+  second = second;
+}
+
+module _ (its : Naming) where
+  open its use {keys, parts, live, claims, number, new, is, modified, second}
+
   abbrev k : Sealing
   k = sealing_of keys
 
@@ -137,11 +166,46 @@ module _ (keys : KeyPair) (parts : EntriesAreParts keys) (live : HeldTree) (clai
 
   -- ---- it is given
 
-  module _ (texts : AreTexts (sealing_of keys)) (kept : KeptClaims keys) (whole : ClaimsAreWhole) (live' : HeldTree) (deeds : List PlainDeed) (naming : AreNaming live number new deeds) (named : IsNamedTree live live' number new modified second)
-      (rows : RowsAreNamed live live' number new.name modified second) (d : Disk) (untaken : IsTaken new.folder new.place None live claims None d) where
+  -- the tree in memory has it, and the deeds give it to the node on the disk
+  pub record NamedTree : Type 0 where
+    pub texts : AreTexts (sealing_of keys)
+    pub kept : KeptClaims keys
+    pub whole : ClaimsAreWhole
+    pub live' : HeldTree
+    pub deeds : List PlainDeed
+    pub naming : AreNaming live number new deeds
+    pub named : IsNamedTree live live' number new modified second
+    pub rows : RowsAreNamed live live' number new.name modified second
+    pub d : Disk
+    pub untaken : IsTaken new.folder new.place None live claims None d
+
+  module _ (new_tree : NamedTree) where
+    open new_tree use {texts, kept, whole, live', deeds, naming, named, rows, d, untaken}
+
     module _ (contents : ℕ → Content) (stands : StandsOn (sealing_of keys) d live claims contents) where
       abbrev can : CanRename k d live number is.held is.above.above is.identifier new.name new.place.long
       can = can_rename keys parts live claims d contents stands number new is untaken
+
+      abbrev on_disk : Renaming
+      on_disk = record {
+        keys = keys;
+        texts = texts;
+        kept = kept;
+        whole = whole;
+        d = d;
+        live = live;
+        claims = claims;
+        number = number;
+        now = second;
+        deeds = deeds;
+        held = is.held;
+        above = is.above.above;
+        there = is.node.there;
+        i = is.identifier;
+        m = new.name;
+        long = new.place.long;
+        can = can;
+      }
 
       deeds_are : deeds ≡ rename_deeds (place_in new.folder is.held) (place_of k is.identifier new.name new.place.long) (k.seal is.identifier new.name) is.held.kept.what
       deeds_are =
@@ -168,10 +232,10 @@ module _ (keys : KeyPair) (parts : EntriesAreParts keys) (live : HeldTree) (clai
 
       pub can_be_given : CanBeGiven (sealing_of keys) number new.name modified second live live' claims claims deeds d
       can_be_given = record {
-        after = (leads keys texts kept whole d live claims number second deeds is.held is.above.above is.node.there is.identifier new.name new.place.long can deeds_are contents stands).after;
-        does = does keys texts kept whole d live claims number second deeds is.held is.above.above is.node.there is.identifier new.name new.place.long can deeds_are contents stands;
+        after = (leads on_disk deeds_are contents stands).after;
+        does = does on_disk deeds_are contents stands;
         gives = λ c renaming. record {
-          makes = makes keys texts kept whole d live claims number second deeds is.held is.above.above is.node.there is.identifier new.name new.place.long can deeds_are live' (change number c) goes_on (shown c renaming) contents stands;
+          makes = makes on_disk deeds_are live' (change number c) goes_on (shown c renaming) contents stands;
           answer_is = λ others more. answer_is d c others more (renaming d others more);
           untaken = taken_is keys parts live claims d contents stands number new is c modified (renaming d contents stands) ∙ free keys parts live claims d contents stands number new is untaken;
         };
@@ -179,38 +243,78 @@ module _ (keys : KeyPair) (parts : EntriesAreParts keys) (live : HeldTree) (clai
 
 -- ---- what is told of the journal's folder
 
+-- a rename of a tree at rest, and deeds that give the name
+pub record Led : Type 0 where
+  pub s : Sealing
+  pub number : ℕ
+  pub name : List ℕ
+  pub modified : Option ℕ
+  pub second : ℕ
+  pub live : HeldTree
+  pub live' : HeldTree
+  pub claims : List (List ℕ × ℕ)
+  pub claims' : List (List ℕ × ℕ)
+  pub deeds : List PlainDeed
+  pub log : Option Log
+  pub rest : Told log (IsAtRest s live claims)
+  pub made : Told (disk_in log) (RenamesOn s number name modified second live live' claims claims' deeds)
+
+-- from a vault's tree to another
+abbrev pub led_of : (old new : VaultTree) (number : ℕ) (name : List ℕ) (modified : Option ℕ) (second : ℕ) (deeds : List PlainDeed) (log : Option Log) → Told log (IsAtRest (sealing_of old.keys) old.live old.claims)
+    → Told (disk_in log) (RenamesOn (sealing_of old.keys) number name modified second old.live new.live old.claims new.claims deeds) → Led
+led_of old new number name modified second deeds log rest made = record {
+  s = sealing_of old.keys;
+  number = number;
+  name = name;
+  modified = modified;
+  second = second;
+  live = old.live;
+  live' = new.live;
+  claims = old.claims;
+  claims' = new.claims;
+  deeds = deeds;
+  log = log;
+  rest = rest;
+  made = made;
+}
+
+module _ (led : Led) where
+  open led use {s, number, name, modified, second, live, live', claims, claims', deeds, log, rest, made}
+
+  abbrev Given : Log → Type 0
+  Given l = CanBeGiven s number name modified second live live' claims claims' deeds (now l)
+
+  told_given : Told log Given
+  told_given = go log rest made
+    where
+      go : (o : Option Log) → Told o (IsAtRest s live claims) → Told (disk_in o) (RenamesOn s number name modified second live live' claims claims' deeds) → Told o Given
+      go None r m = tt
+      go (Some l) r m = m r.contents r.stands
+
+  pub told_can : Told log (λ l. (after : Disk) × DoesAll (in_order deeds) (now l) after)
+  told_can = told_then log Given (λ l. (after : Disk) × DoesAll (in_order deeds) (now l) after) told_given (λ l can. (can.after, can.does))
+
+  module _ (c : PlainChange) (renaming : IsRenaming s live claims number name modified c) (new : Option Log) (any : Changes log new (AnyMoment deeds)) where
+    pub has_renamed : Changes log new (HasCommitted deeds) → Changes log new (HasRenamed s number c second live live' claims claims')
+    has_renamed committed =
+        changed_from log new Given (λ x y. AnyMoment deeds x y × HasCommitted deeds x y) (HasRenamed s number c second live live' claims claims')
+        (λ x y can both. record {
+          changed = record { deeds = deeds; makes = (can.gives c renaming).makes; answer_is = (can.gives c renaming).answer_is; any_moment = both.0; committed = both.1 };
+          untaken = (can.gives c renaming).untaken;
+        })
+        told_given (both_changed log new (AnyMoment deeds) (HasCommitted deeds) any committed)
+
+    pub may_have_renamed : Changes log new (MayHaveChanged s (change number c) second live live' claims claims')
+    may_have_renamed =
+        changed_from log new Given (AnyMoment deeds) (MayHaveChanged s (change number c) second live live' claims claims')
+        (λ x y can moment. record {
+          deeds = deeds;
+          makes = (can.gives c renaming).makes;
+          late = λ contents stands. ap is_some (renaming (now x) contents stands).none;
+          any_moment = moment;
+        }) told_given any
+
 module _ (s : Sealing) (number : ℕ) (name : List ℕ) (modified : Option ℕ) (second : ℕ) (live : HeldTree) (claims : List (List ℕ × ℕ)) where
-  module _ (live' : HeldTree) (claims' : List (List ℕ × ℕ)) (deeds : List PlainDeed) where
-    abbrev pub Given : Log → Type 0
-    Given l = CanBeGiven s number name modified second live live' claims claims' deeds (now l)
-
-    pub told_given : (log : Option Log) → Told log (IsAtRest s live claims) → Told (disk_in log) (RenamesOn s number name modified second live live' claims claims' deeds) → Told log (λ l. CanBeGiven s number name modified second live live' claims claims' deeds (now l))
-    told_given None rest made = tt
-    told_given (Some l) rest made = made rest.contents rest.stands
-
-    pub told_can : (log : Option Log) → Told log (λ l. CanBeGiven s number name modified second live live' claims claims' deeds (now l)) → Told log (λ l. (after : Disk) × DoesAll (in_order deeds) (now l) after)
-    told_can log told = told_then log Given (λ l. (after : Disk) × DoesAll (in_order deeds) (now l) after) told (λ l can. (can.after, can.does))
-
-    module _ (c : PlainChange) (renaming : IsRenaming s live claims number name modified c) (old new : Option Log) (told : Told old (λ l. CanBeGiven s number name modified second live live' claims claims' deeds (now l))) (any : Changes old new (AnyMoment deeds)) where
-      pub has_renamed : Changes old new (HasCommitted deeds) → Changes old new (HasRenamed s number c second live live' claims claims')
-      has_renamed committed =
-          changed_from old new Given (λ x y. AnyMoment deeds x y × HasCommitted deeds x y) (HasRenamed s number c second live live' claims claims')
-          (λ x y can both. record {
-            changed = record { deeds = deeds; makes = (can.gives c renaming).makes; answer_is = (can.gives c renaming).answer_is; any_moment = both.0; committed = both.1 };
-            untaken = (can.gives c renaming).untaken;
-          })
-          told (both_changed old new (AnyMoment deeds) (HasCommitted deeds) any committed)
-
-      pub may_have_renamed : Changes old new (MayHaveChanged s (change number c) second live live' claims claims')
-      may_have_renamed =
-          changed_from old new Given (AnyMoment deeds) (MayHaveChanged s (change number c) second live live' claims claims')
-          (λ x y can moment. record {
-            deeds = deeds;
-            makes = (can.gives c renaming).makes;
-            late = λ contents stands. ap is_some (renaming (now x) contents stands).none;
-            any_moment = moment;
-          }) told any
-
   pub told_refused : (refusal : Refusal) (log : Option Log) → Told log (IsAtRest s live claims) → Told (disk_in log) (IsRenameRefusal s number name modified second refusal live claims)
       → (c : PlainChange) → IsRenaming s live claims number name modified c → Told (disk_in log) (λ d. MayRefuse s (change number c) second (taken_for s d live (change number c) None) refusal d live claims)
   told_refused refusal None rest told c renaming = tt

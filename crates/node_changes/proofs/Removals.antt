@@ -5,7 +5,7 @@ use Rattle.outside.specs.Disk.{Disk}
 use Rattle.deeds.specs.Deeds.{PlainDeed, DoesAll, in_order}
 use Rattle.deeds.specs.Repeatable.{IsRepeatable}
 use Rattle.deeds.proofs.Doing.{same_run}
-use Rattle.siv_mode.specs.Keys.{KeyPair}
+use Rattle.vault_keys.specs.Keys.{KeyPair}
 use Rattle.tree_model.specs.declared.refusal.Refusal.{Refusal}
 use Rattle.tree_model.specs.declared.refusal.Refusal.TheVariants as refusals
 use Rattle.tree_model.specs.Rows.{Content, Row, row_of}
@@ -85,9 +85,30 @@ module _ (keys : KeyPair) (kept : KeptClaims keys) (d : Disk) (tree : Tree) (of 
         one_number live holds.is_tree a.path other number (subst (λ (q : Path). IsAt live q other) path b.at) a.at;
   }
 
-module _ (keys : KeyPair) (texts : AreTexts (sealing_of keys)) (kept : KeptClaims keys) (d : Disk) (live live' : HeldTree) (claims claims' : List (List ℕ × ℕ)) (number now : ℕ) (deeds : List PlainDeed)
-    (none : IsRemovalRefusal live number None) (held : HeldNode) (there : node_of live number ≡ Some held) (can : IsRemovable live number held) (folder : List ℕ) (above : IsFolderAbove live held folder)
-    (deeds_are : deeds ≡ remove_deeds (place_in folder held) held.kept.what) where
+-- a node leaves its directory, by deeds that remove it from the disk
+pub record Leaving : Type 0 where
+  pub keys : KeyPair
+  pub texts : AreTexts (sealing_of keys)
+  pub kept : KeptClaims keys
+  pub d : Disk
+  pub live : HeldTree
+  pub live' : HeldTree
+  pub claims : List (List ℕ × ℕ)
+  pub claims' : List (List ℕ × ℕ)
+  pub number : ℕ
+  pub now : ℕ
+  pub deeds : List PlainDeed
+  pub none : IsRemovalRefusal live number None
+  pub held : HeldNode
+  pub there : node_of live number ≡ Some held
+  pub can : IsRemovable live number held
+  pub folder : List ℕ
+  pub above : IsFolderAbove live held folder
+  pub deeds_are : deeds ≡ remove_deeds (place_in folder held) held.kept.what
+
+module _ (leaving : Leaving) where
+  open leaving use {keys, texts, kept, d, live, live', claims, claims', number, now, deeds, none, held, there, can, folder, above, deeds_are}
+
   abbrev k : Sealing
   k = sealing_of keys
 
@@ -201,9 +222,29 @@ pub removed_leads : (keys : KeyPair) → AreTexts (sealing_of keys) → KeptClai
 removed_leads keys texts kept live live' claims claims' number now deeds is none removal gone rows unclaimed d contents stands =
     let held = removal.held in
     let there = removal.there in
-    let can = removable live is number held there none in (
-      makes keys texts kept d live live' claims claims' number now deeds none held there can removal.folder removal.above removal.are (gone held there) rows (unclaimed held there) contents stands,
-      answer_is keys texts kept d live live' claims claims' number now deeds none held there can removal.folder removal.above removal.are (gone held there) rows (unclaimed held there),
+    let can = removable live is number held there none in
+    let leaving : Leaving = record {
+      keys = keys;
+      texts = texts;
+      kept = kept;
+      d = d;
+      live = live;
+      live' = live';
+      claims = claims;
+      claims' = claims';
+      number = number;
+      now = now;
+      deeds = deeds;
+      none = none;
+      held = held;
+      there = there;
+      can = can;
+      folder = removal.folder;
+      above = removal.above;
+      deeds_are = removal.are;
+    } in (
+      makes leaving (gone held there) rows (unclaimed held there) contents stands,
+      answer_is leaving (gone held there) rows (unclaimed held there),
     )
 
 -- ---- deeds that can be done again

@@ -4,7 +4,7 @@ use Rattle.std.specs.FinMap.{get}
 use Rattle.outside.specs.Disk.{Disk}
 use Rattle.deeds.specs.Deeds.{PlainDeed, DoesAll, in_order}
 use Rattle.deeds.proofs.Doing.{same_run}
-use Rattle.siv_mode.specs.Keys.{KeyPair}
+use Rattle.vault_keys.specs.Keys.{KeyPair}
 use Rattle.tree_model.specs.Rows.{Content, root}
 use Rattle.tree_model.specs.Asked.{PlainRequest}
 use Rattle.tree_model.specs.Step.{step}
@@ -48,8 +48,29 @@ pub record CanRename (s : Sealing) (d : Disk) (live : HeldTree) (number : ℕ) (
   pub part : long ≡ false → s.is_part (s.seal i m) ≡ true
   pub untaken : taken s d (claims_in s live) i m None ≡ None
 
-module _ (keys : KeyPair) (texts : AreTexts (sealing_of keys)) (kept : KeptClaims keys) (whole : ClaimsAreWhole) (d : Disk) (live : HeldTree) (claims : List (List ℕ × ℕ)) (number now : ℕ) (deeds : List PlainDeed)
-    (held above : HeldNode) (there : node_of live number ≡ Some held) (i m : List ℕ) (long : Bool) (can : CanRename (sealing_of keys) d live number held above i m long) where
+-- a node gets another name in its directory, by deeds that give it on the disk
+pub record Renaming : Type 0 where
+  pub keys : KeyPair
+  pub texts : AreTexts (sealing_of keys)
+  pub kept : KeptClaims keys
+  pub whole : ClaimsAreWhole
+  pub d : Disk
+  pub live : HeldTree
+  pub claims : List (List ℕ × ℕ)
+  pub number : ℕ
+  pub now : ℕ
+  pub deeds : List PlainDeed
+  pub held : HeldNode
+  pub above : HeldNode
+  pub there : node_of live number ≡ Some held
+  pub i : List ℕ
+  pub m : List ℕ
+  pub long : Bool
+  pub can : CanRename (sealing_of keys) d live number held above i m long
+
+module _ (renaming : Renaming) where
+  open renaming use {keys, texts, kept, whole, d, live, claims, number, now, deeds, held, above, there, i, m, long, can}
+
   abbrev k : Sealing
   k = sealing_of keys
 

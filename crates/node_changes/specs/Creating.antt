@@ -4,7 +4,7 @@ use Rattle.vault_path.specs.Parts.{is_path}
 use Rattle.outside.specs.Disk.{Disk}
 use Rattle.outside.specs.Calls.{Changes, Told}
 use Rattle.deeds.specs.Deeds.{PlainDeed}
-use Rattle.siv_mode.specs.Keys.{KeyPair}
+use Rattle.vault_keys.specs.Keys.{KeyPair}
 use Rattle.file_chunks.specs.Header.{Head, header_opens, sealed_header}
 use Rattle.tree_model.specs.declared.refusal.Refusal.{Refusal}
 use Rattle.tree_model.specs.declared.refusal.Refusal.TheVariants as refusals

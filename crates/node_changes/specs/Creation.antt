@@ -4,7 +4,7 @@ use Rattle.outside.specs.Disk.{Path as HostPath}
 use Rattle.outside.specs.Calls.{Changes, Told}
 use Rattle.outside.specs.Images.{Log, now, disk_in}
 use Rattle.deeds.specs.Deeds.{PlainDeed}
-use Rattle.siv_mode.specs.Keys.{KeyPair}
+use Rattle.vault_keys.specs.Keys.{KeyPair}
 use Rattle.tree_model.specs.declared.refusal.Refusal.{Refusal}
 use Rattle.tree_model.specs.declared.refusal.Refusal.TheVariants as refusals
 use Rattle.tree_model.specs.declared.stat.Qid.{Qid}

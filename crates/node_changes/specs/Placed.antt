@@ -3,7 +3,7 @@ use Rattle.std.specs.Prelude.{◌≡◌, ℕ, List, ◌++◌, length, Option, So
 use Rattle.std.specs.Option.{option_and_then}
 use Rattle.outside.specs.Disk.{Disk, Path as HostPath}
 use Rattle.deeds.specs.Deeds.{PlainDeed}
-use Rattle.siv_mode.specs.Keys.{KeyPair}
+use Rattle.vault_keys.specs.Keys.{KeyPair}
 use Rattle.file_chunks.specs.Header.{Head, sealed_header}
 use Rattle.tree_model.specs.Names.{NameFault, clear_name}
 use Rattle.tree_model.specs.Asked.{PlainRequest, look, walk, open_node, create, read, list, write, remove, stat_of, change, sync}

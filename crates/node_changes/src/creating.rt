@@ -1,4 +1,5 @@
 ghost use Rattle.std.specs.Prelude.{◌≡◌, ◌≤◌, ℕ, List, true, false, Ok, Some, None, IfOk, IfErr, IsErr, IsSome, OnErr, OnOk};
+ghost use Rattle.vault_layout.specs.Limits.{max_threshold};
 ghost use Rattle.outside.specs.Calls.{Changes, HasCause, Rose, Told};
 ghost use Rattle.outside.specs.Images.{disk_in};
 ghost use Rattle.deeds.specs.Grammar.{IsBatch};
@@ -35,9 +36,9 @@ use name_places::{
 };
 use node_deeds::{Place, create_dir_deeds, create_file_deeds};
 use outside::{Entropy, Failed, Folder, Reads};
-use siv_mode::VaultKeys;
 use std::alloc::AllocError;
 use tree_model::{Qid, Refusal};
+use vault_keys::VaultKeys;
 use vault_path::Text;
 
 impl VaultTree {
@@ -55,7 +56,7 @@ impl VaultTree {
         now: u32,
     ) -> Result<Qid, ChangeErr>
         requires rest { Told (D.log journal.old) (IsAtRest (sealing_of self.old.keys) self.old.live self.old.claims) }
-        requires threshold { (1 ≤ self.old.threshold) × (self.old.threshold ≤ 250) }
+        requires threshold { (1 ≤ self.old.threshold) × (self.old.threshold ≤ max_threshold) }
         ensures came { (mode : ℕ) → IsCreation self.old.keys (create parent name.now is_dir mode) is_dir now result self.old.live self.new.live
             self.old.claims self.new.claims (E.drawn entropy.old) (E.drawn entropy.new) (D.log journal.old) (D.log journal.new) }
         ensures unchanged { IfErr result (λ error. IfRefused error (λ refusal.
@@ -87,7 +88,7 @@ impl VaultTree {
         is_dir: bool,
         now: u32,
     ) -> Result<Vec<Deed>, Refusal>
-        requires { (1 ≤ self.old.threshold) × (self.old.threshold ≤ 250) }
+        requires { (1 ≤ self.old.threshold) × (self.old.threshold ≤ max_threshold) }
         ensures ready { (mode : ℕ) → IfOk result (λ deeds. IsReady self.old.keys (create parent name.now is_dir mode) is_dir now
             (says (qid (new_qid self.old.live is_dir))) self.old.live self.new.live self.old.claims self.new.claims
             (E.drawn entropy.old) (E.drawn entropy.new) (disk_in (R.log folder.old)) (plains deeds.items)) }

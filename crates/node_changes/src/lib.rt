@@ -1,7 +1,7 @@
 //! The changes of an open vault's shape: a node is made, removed or gets another name, on the disk by one batch and in memory.
 //!
 //! ```
-//! let mut tree = VaultTree::new(alloc, &keys, 220, live)?;
+//! let mut tree = VaultTree::new(alloc, &keys, DEFAULT_THRESHOLD, live)?;
 //! let qid = tree.create(&mut journal, &mut entropy, 0, "notes", false, now)?;
 //! tree.rename(&mut journal, qid.path, name, None, now)?;
 //! tree.remove(&mut journal, qid.path, now)?;

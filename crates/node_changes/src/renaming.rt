@@ -1,4 +1,5 @@
 ghost use Rattle.std.specs.Prelude.{◌≡◌, ◌≤◌, ◌<◌, ◌^◌, ◌⊎◌, ◌||◌, ◌&&◌, ℕ, List, length, is_some, None, Some, IsSome, IsTrue, IfOk, IfErr, OnErr, OnOk};
+ghost use Rattle.vault_layout.specs.Limits.{max_threshold};
 ghost use Rattle.vault_path.specs.Parts.{is_part, is_path};
 ghost use Rattle.outside.specs.Calls.{Changes, Rose, Told};
 ghost use Rattle.outside.specs.Images.{disk_in};
@@ -61,7 +62,7 @@ impl VaultTree {
         now: u32,
     ) -> Result<(), ChangeErr>
         requires rest { Told (D.log journal.old) (IsAtRest (sealing_of self.old.keys) self.old.live self.old.claims) }
-        requires threshold { (1 ≤ self.old.threshold) × (self.old.threshold ≤ 250) }
+        requires threshold { (1 ≤ self.old.threshold) × (self.old.threshold ≤ max_threshold) }
         ensures changed { (c : PlainChange) → IsRenaming (sealing_of self.old.keys) self.old.live self.old.claims number name modified c
             → OnOk result (Changes (D.log journal.old) (D.log journal.new)
             (HasRenamed (sealing_of self.old.keys) number c now self.old.live self.new.live self.old.claims self.new.claims)) }
@@ -99,7 +100,7 @@ impl VaultTree {
         modified: Option<u32>,
         now: u32,
     ) -> Result<Vec<Deed>, Refusal>
-        requires { (1 ≤ self.old.threshold) × (self.old.threshold ≤ 250) }
+        requires { (1 ≤ self.old.threshold) × (self.old.threshold ≤ max_threshold) }
         ensures made { IfOk result (λ deeds. Told (disk_in (R.log folder.old))
             (RenamesOn (sealing_of self.old.keys) number name modified now self.old.live self.new.live self.old.claims self.new.claims (plains deeds.items))) }
         ensures batch { IfOk result (λ deeds. IsBatch (plains deeds.items)) }
@@ -130,7 +131,7 @@ impl VaultTree {
 
     // The name that a node is to be given, and its place.
     fn new_name(&self, number: u64, name: Name) -> Result<NewName, Refusal>
-        requires { (1 ≤ self.now.threshold) × (self.now.threshold ≤ 250) }
+        requires { (1 ≤ self.now.threshold) × (self.now.threshold ≤ max_threshold) }
         ensures new { IfOk result (IsNewName (sealing_of self.now.keys) self.now.live number) }
         ensures name { IfOk result (λ new. new.name ≡ name) }
         ensures refusal { IfErr result (IsNameRefusal self.now.live number name) }

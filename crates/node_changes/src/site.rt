@@ -1,5 +1,6 @@
 ghost use Rattle.std.specs.Prelude.{◌≡◌, ◌≤◌, ℕ, Bool, Ok, None, IfOk, IfErr, IfSome, IsTrue, OnOk};
 ghost use Rattle.std.specs.Option.{option_copied};
+ghost use Rattle.vault_layout.specs.Limits.{max_threshold};
 ghost use Rattle.vault_path.specs.Parts.{is_path};
 ghost use Rattle.outside.specs.Calls.{Rose, Told};
 ghost use Rattle.outside.specs.Images.{disk_in};
@@ -21,7 +22,6 @@ use clear_tree::What;
 use live_tree::LiveTree;
 use name_places::{NewDirectory, NewPlace, place_name, taken};
 use outside::Reads;
-use std::alloc::{AllocError, Global};
 use tree_loading::are_ciphers;
 use tree_model::Refusal;
 use vault_names::{BadName, clear_name};
@@ -44,7 +44,7 @@ pub(crate) struct Site {
 impl VaultTree {
     /// Where a new node of this name is to be in the directory of a number.
     pub(crate) fn site(&self, parent: u64, name: &[u8]) -> Result<Site, Refusal>
-        requires { (1 ≤ self.now.threshold) × (self.now.threshold ≤ 250) }
+        requires { (1 ≤ self.now.threshold) × (self.now.threshold ≤ max_threshold) }
         ensures site { IfOk result (IsSite (sealing_of self.now.keys) self.now.live parent) }
         ensures name { IfOk result (λ site. clear_name name.now ≡ Ok site.name) }
         ensures refusal { IfErr result (IsSiteRefusal self.now.live parent name.now) }
@@ -66,7 +66,7 @@ impl VaultTree {
             Ok(clear) => clear,
             Err(fault) => return Err(name_refusal(fault)),
         };
-        let Ok(name) = copied(self.alloc, clear.as_bytes()) else {
+        let Ok(name) = Text::from_slice(self.alloc, clear.as_bytes()) else {
             return Err(Refusal::OutOfMemory);
         };
         if self.live.look(parent, &name).is_some() {
@@ -142,11 +142,4 @@ fn is_full(live: &LiveTree) -> bool
     ensures { (contents : ℕ → Content) → is_full (live_rows contents live.now) ≡ result }
 {
     live.len() >= NODE_LIMIT || live.next() == u64::MAX
-}
-
-// A text of these bytes.
-fn copied(alloc: Global, bytes: &[u8]) -> Result<Text, AllocError>
-    ensures { IfOk result (λ text. text ≡ bytes.now) }
-{
-    Ok(Text::from_vec(Vec::from_slice(alloc, bytes)?))
 }

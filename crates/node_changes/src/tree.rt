@@ -7,8 +7,8 @@ ghost use Rattle.name_places.specs.Claims.{AreClaimsOf};
 
 use live_tree::LiveTree;
 use name_places::Claims;
-use siv_mode::VaultKeys;
 use std::alloc::{AllocError, Global};
+use vault_keys::VaultKeys;
 
 /// The tree of an open vault in memory, with its keys and with what its changes look up.
 #[derive(Drop)]
@@ -24,7 +24,7 @@ pub struct VaultTree {
 
 impl VaultTree {
     /// The tree of a vault with these keys. `threshold` is the most characters of a sealed name's text that is at its short
-    /// place, 1 to 250. Fails only if memory runs out.
+    /// place, 1 to `MAX_THRESHOLD`. Fails only if memory runs out.
     pub fn new(
         alloc: Global,
         keys: &VaultKeys,

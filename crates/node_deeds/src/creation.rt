@@ -6,11 +6,11 @@ ghost use Rattle.clear_tree.specs.Places.{host_folder};
 ghost use Rattle.tree_deed_laws.specs.Deeds as changes;
 ghost use Rattle.node_deeds.specs.Made.{IsHostPlace, place_at};
 
-use crate::known::{CONTENTS, DIR, NAME};
 use crate::place::{Place, entry_of, inner_of};
 use clear_tree::{host_folder, host_two};
 use deeds::Deed;
 use std::alloc::{AllocError, Global};
+use vault_layout::{CONTENTS_FILE, DIRECTORY_FILE, NAME_FILE};
 
 /// The deeds that make a file without chunks, of this header, at a place. `text` is the text of its name, which a long place
 /// keeps. They are a batch. Fails only if memory runs out.
@@ -45,8 +45,8 @@ fn file_creation(
     let name = Vec::from_slice(alloc, text)?;
     let deeds = vec![in alloc;
         Deed::MakeDir(entry_of(place)),
-        Deed::Put(inner_of(place, NAME), name),
-        Deed::Put(inner_of(place, CONTENTS), header),
+        Deed::Put(inner_of(place, NAME_FILE), name),
+        Deed::Put(inner_of(place, CONTENTS_FILE), header),
     ]?;
     Ok(deeds)
 }
@@ -88,7 +88,7 @@ fn dir_creation(
             Deed::MakeDir(host_two(own)),
             Deed::MakeDir(host_folder(own)),
             Deed::MakeDir(entry_of(place)),
-            Deed::Put(inner_of(place, DIR), bytes),
+            Deed::Put(inner_of(place, DIRECTORY_FILE), bytes),
         ]?;
         return Ok(deeds);
     }
@@ -97,8 +97,8 @@ fn dir_creation(
         Deed::MakeDir(host_two(own)),
         Deed::MakeDir(host_folder(own)),
         Deed::MakeDir(entry_of(place)),
-        Deed::Put(inner_of(place, NAME), name),
-        Deed::Put(inner_of(place, DIR), bytes),
+        Deed::Put(inner_of(place, NAME_FILE), name),
+        Deed::Put(inner_of(place, DIRECTORY_FILE), bytes),
     ]?;
     Ok(deeds)
 }

@@ -11,7 +11,6 @@
 #![tactic(auto)]
 
 mod creation;
-mod known;
 mod place;
 mod removal;
 mod renaming;

@@ -8,11 +8,11 @@ ghost use Rattle.tree_deed_laws.specs.Deeds as changes;
 ghost use Rattle.tree_deed_laws.specs.Deeds.{remove_node_at, remove_dir_at};
 ghost use Rattle.node_deeds.specs.Made.{IsHostPlace, place_at};
 
-use crate::known::{CONTENTS, DIR, DIRID, NAME, SYMLINK};
 use crate::place::{Place, entry_of, inner_of};
 use clear_tree::{What, host_folder};
 use deeds::Deed;
 use std::alloc::{AllocError, Global};
+use vault_layout::{CONTENTS_FILE, DIRECTORY_FILE, IDENTIFIER_COPY, LINK_FILE, NAME_FILE};
 
 /// The deeds that remove the node at a place: a file, a link, or a directory without nodes and foreign entries. A Bad node has
 /// none. They are a batch. Fails only if memory runs out.
@@ -32,9 +32,9 @@ fn removal(alloc: Global, place: &Place, what: &What) -> Result<Vec<Deed>, Alloc
     ensures { IfOk result (λ deeds. plains deeds.items ≡ changes.remove_deeds (place_at place.now) (kept_what what.now)) }
 {
     match what {
-        What::File { .. } if place.long => node_removal(alloc, place, CONTENTS),
+        What::File { .. } if place.long => node_removal(alloc, place, CONTENTS_FILE),
         What::File { .. } => Ok(vec![in alloc; Deed::Remove(entry_of(place))]?),
-        What::Link { .. } => node_removal(alloc, place, SYMLINK),
+        What::Link { .. } => node_removal(alloc, place, LINK_FILE),
         What::Dir { folder, .. } => dir_removal(alloc, place, folder),
         What::Bad { .. } => Ok(Vec::new(alloc)),
     }
@@ -55,7 +55,7 @@ fn node_removal(alloc: Global, place: &Place, known: &[u8]) -> Result<Vec<Deed>,
     }
     let deeds = vec![in alloc;
         Deed::Remove(inner_of(place, known)),
-        Deed::Remove(inner_of(place, NAME)),
+        Deed::Remove(inner_of(place, NAME_FILE)),
         Deed::RemoveDir(entry_of(place)),
     ]?;
     Ok(deeds)
@@ -69,10 +69,10 @@ fn dir_removal(alloc: Global, place: &Place, own: &[u8; 32]) -> Result<Vec<Deed>
         ≡ remove_dir_at (place_at place.now).long (place_at place.now).folder (place_at place.now).entry own.now) }
 {
     let folder = host_folder(own);
-    let copy = folder.joined(DIRID);
+    let copy = folder.joined(IDENTIFIER_COPY);
     if !place.long {
         let deeds = vec![in alloc;
-            Deed::Remove(inner_of(place, DIR)),
+            Deed::Remove(inner_of(place, DIRECTORY_FILE)),
             Deed::RemoveDir(entry_of(place)),
             Deed::Remove(copy),
             Deed::RemoveDir(folder),
@@ -80,8 +80,8 @@ fn dir_removal(alloc: Global, place: &Place, own: &[u8; 32]) -> Result<Vec<Deed>
         return Ok(deeds);
     }
     let deeds = vec![in alloc;
-        Deed::Remove(inner_of(place, DIR)),
-        Deed::Remove(inner_of(place, NAME)),
+        Deed::Remove(inner_of(place, DIRECTORY_FILE)),
+        Deed::Remove(inner_of(place, NAME_FILE)),
         Deed::RemoveDir(entry_of(place)),
         Deed::Remove(copy),
         Deed::RemoveDir(folder),

@@ -7,11 +7,11 @@ ghost use Rattle.tree_deed_laws.specs.Deeds as changes;
 ghost use Rattle.tree_deed_laws.specs.Deeds.{rename_node_at, rename_file_at};
 ghost use Rattle.node_deeds.specs.Made.{IsHostPlace, place_at};
 
-use crate::known::{CONTENTS, DIR, NAME, SYMLINK};
 use crate::place::{Place, entry_of, inner_of};
 use clear_tree::What;
 use deeds::Deed;
 use std::alloc::{AllocError, Global};
+use vault_layout::{CONTENTS_FILE, DIRECTORY_FILE, LINK_FILE, NAME_FILE};
 
 /// The deeds that bring the node at a place to another one of the same directory. `text` is the text of its new name, which a
 /// long place keeps. A Bad node has none. They are a batch. Fails only if memory runs out.
@@ -49,8 +49,8 @@ fn renaming(
 {
     match what {
         What::File { .. } => file_renaming(alloc, old, new, text),
-        What::Link { .. } => node_renaming(alloc, old, new, text, SYMLINK),
-        What::Dir { .. } => node_renaming(alloc, old, new, text, DIR),
+        What::Link { .. } => node_renaming(alloc, old, new, text, LINK_FILE),
+        What::Dir { .. } => node_renaming(alloc, old, new, text, DIRECTORY_FILE),
         What::Bad { .. } => Ok(Vec::new(alloc)),
     }
 }
@@ -74,20 +74,20 @@ fn file_renaming(
             let name = Vec::from_slice(alloc, text)?;
             let deeds = vec![in alloc;
                 Deed::MakeDir(entry_of(new)),
-                Deed::Put(inner_of(new, NAME), name),
-                Deed::Rename(entry_of(old), inner_of(new, CONTENTS)),
+                Deed::Put(inner_of(new, NAME_FILE), name),
+                Deed::Rename(entry_of(old), inner_of(new, CONTENTS_FILE)),
             ]?;
             Ok(deeds)
         }
         (true, false) => {
             let deeds = vec![in alloc;
-                Deed::Rename(inner_of(old, CONTENTS), entry_of(new)),
-                Deed::Remove(inner_of(old, NAME)),
+                Deed::Rename(inner_of(old, CONTENTS_FILE), entry_of(new)),
+                Deed::Remove(inner_of(old, NAME_FILE)),
                 Deed::RemoveDir(entry_of(old)),
             ]?;
             Ok(deeds)
         }
-        (true, true) => node_renaming(alloc, old, new, text, CONTENTS),
+        (true, true) => node_renaming(alloc, old, new, text, CONTENTS_FILE),
     }
 }
 
@@ -117,7 +117,7 @@ fn node_renaming(
     Ok(vec![in alloc;
         make,
         rename,
-        Deed::Remove(inner_of(old, NAME)),
+        Deed::Remove(inner_of(old, NAME_FILE)),
         Deed::RemoveDir(entry_of(old)),
     ]?)
 }
@@ -139,7 +139,7 @@ fn node_to_long(
 {
     let name = Vec::from_slice(alloc, text)?;
     let make = Deed::MakeDir(entry_of(new));
-    let put = Deed::Put(inner_of(new, NAME), name);
+    let put = Deed::Put(inner_of(new, NAME_FILE), name);
     let rename = Deed::Rename(inner_of(old, known), inner_of(new, known));
     if !old.long {
         return Ok(vec![in alloc; make, put, rename, Deed::RemoveDir(entry_of(old))]?);
@@ -148,7 +148,7 @@ fn node_to_long(
         make,
         put,
         rename,
-        Deed::Remove(inner_of(old, NAME)),
+        Deed::Remove(inner_of(old, NAME_FILE)),
         Deed::RemoveDir(entry_of(old)),
     ]?)
 }

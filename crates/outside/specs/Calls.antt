@@ -1,5 +1,5 @@
 -- What the calls of the outside say of contents that are told, and when they may fail.
-use Rattle.std.specs.Prelude.{◌≡◌, ◌⊎◌, ℕ, ◌+◌, ◌<◌, ◌≤◌, ◌-◌, ◌^◌, ◌==◌, if◌then◌else◌, List, ◌++◌, drop, Option, Some, None, IfSome, ⊤}
+use Rattle.std.specs.Prelude.{◌≡◌, ◌⊎◌, ℕ, zero, suc, ◌+◌, ◌<◌, ◌≤◌, ◌-◌, ◌^◌, ◌==◌, if◌then◌else◌, List, [], ◌∷◌, ◌++◌, drop, Option, Some, None, option_map, IfSome, ⊤}
 
 -- a count one higher, which saturates
 abbrev pub risen : ℕ → ℕ
@@ -38,6 +38,20 @@ Extends old new more = Changes old new (λ before after. after ≡ before ++ mor
 -- these were taken from a list's front, if it is told
 abbrev pub TakesFront : {X : Type 0} → Option (List X) → Option (List X) → List X → Type 0
 TakesFront old new front = Changes old new (λ before after. before ≡ front ++ after)
+
+-- these, and then what a sequence gives that has no end
+abbrev pub followed_by : List ℕ → (ℕ → ℕ) → ℕ → ℕ
+followed_by [] rest k = rest k
+followed_by (x ∷ xs) rest zero = x
+followed_by (x ∷ xs) rest (suc k) = followed_by xs rest k
+
+-- these were the next that such a sequence gave, if it is told
+abbrev pub TakesNext : Option (ℕ → ℕ) → Option (ℕ → ℕ) → List ℕ → Type 0
+TakesNext old new front = Changes old new (λ before after. (k : ℕ) → before k ≡ followed_by front after k)
+
+-- what it gives next, if it is told
+abbrev pub next_of : Option (ℕ → ℕ) → Option ℕ
+next_of to_give = option_map (λ seconds. seconds 0) to_give
 
 -- a buffer is as it was from an index on
 abbrev pub KeepsFrom : {X : Type 0} → ℕ → List X → List X → Type 0

@@ -1,14 +1,14 @@
-ghost use Rattle.std.specs.Prelude.{◌≡◌, ℕ, Option};
-ghost use Rattle.outside.specs.Calls.{Told};
+ghost use Rattle.std.specs.Prelude.{◌∷◌, [], ℕ, Option};
+ghost use Rattle.outside.specs.Calls.{TakesNext};
 
 /// A clock; a real one reveals nothing to proofs.
 pub trait Clock {
-    /// The second that every call returns, if it tells.
-    ghost second: { Self → Option ℕ };
+    /// The seconds that it is still to give, call by call, if it tells. They have no end.
+    ghost to_give: { Self → Option (ℕ → ℕ) };
 
-    /// The seconds since 1970-01-01.
-    fn now(&self) -> u32
-        ensures { Told (second self.now) (λ second. result ≡ second) };
+    /// The seconds since 1970-01-01: the next that it gives.
+    fn now(&mut self) -> u32
+        ensures { TakesNext (to_give self.old) (to_give self.new) (result ∷ []) };
 }
 
 /// What a session has done between two turns.

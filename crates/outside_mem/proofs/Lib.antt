@@ -4,5 +4,6 @@ pub mod Names
 pub mod Moving
 pub mod Logs
 pub mod Drawn
+pub mod Clocks
 pub mod Pictures
 pub mod Choices

@@ -20,7 +20,7 @@ mod link;
 mod plan;
 mod stream;
 
-pub use clock::{OpenGate, SetClock};
+pub use clock::{OpenGate, SetClock, TickingClock};
 pub use entropy::SeedEntropy;
 pub use folder::MemFolder;
 pub use link::{MemLink, MemListener};

@@ -2,7 +2,9 @@
 // The helpers have no contracts, so that what is known of an object doesn't grow from call to call.
 
 use outside::{Clock, Entropy, Gate, Link, Listener, Sink, Source, Stage};
-use outside_mem::{MemLink, MemListener, MemSink, MemSource, OpenGate, SeedEntropy, SetClock};
+use outside_mem::{
+    MemLink, MemListener, MemSink, MemSource, OpenGate, SeedEntropy, SetClock, TickingClock,
+};
 use std::test::Fail;
 
 fn takes<S: Source>(source: &mut S, out: &mut [u8]) -> Option<usize> {
@@ -129,6 +131,18 @@ fn entropy_is_the_key_stream(rt: HostRuntime) -> Result<(), Fail> {
 
 #[test]
 fn a_set_clock_stands(rt: HostRuntime) {
-    assert_eq!(rt; SetClock::new(7).now(), 7);
+    let mut clock = SetClock::new(7);
+    assert_eq!(rt; clock.now(), 7);
+    assert_eq!(rt; clock.now(), 7);
     OpenGate.pass(Stage::Sealed);
+}
+
+#[test]
+fn a_ticking_clock_counts_on_and_stays_at_its_end(rt: HostRuntime) {
+    let mut clock = TickingClock::new(7);
+    assert_eq!(rt; clock.now(), 7);
+    assert_eq!(rt; clock.now(), 8);
+    let mut last = TickingClock::new(u32::MAX);
+    assert_eq!(rt; last.now(), u32::MAX);
+    assert_eq!(rt; last.now(), u32::MAX);
 }

@@ -1,4 +1,3 @@
 pub mod Ascii
-pub mod Filled
 pub mod HostPathLemmas
 pub mod Kept

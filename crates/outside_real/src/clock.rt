@@ -33,10 +33,10 @@ impl<R: SystemClock> HostClock<R> {
 }
 
 impl<R: SystemClock> Clock for HostClock<R> {
-    ghost second = { λ _. None };
+    ghost to_give = { λ _. None };
 
     // The low 32 bits of the seconds since 1970, and 0 if the clock fails or is before 1970.
-    fn now(&self) -> u32 {
+    fn now(&mut self) -> u32 {
         cut(self.since_1970().unwrap_or(0))
     }
 }

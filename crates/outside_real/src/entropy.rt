@@ -3,7 +3,7 @@ ghost use Rattle.std.specs.Io.KnownBytes.{Consumes};
 ghost use Rattle.outside.specs.Calls.{HasCause};
 ghost use Rattle.outside_real.specs.Behind.{device_of};
 
-use crate::count::counted;
+use host_streams::counted;
 use outside::{Entropy, Failed};
 use std::fs::File;
 use std::io;

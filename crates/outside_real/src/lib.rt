@@ -14,10 +14,6 @@
 //! what their manuals say, that `/dev/urandom` gives bytes that nobody can foresee, that the clock is right, and that
 //! nobody else changes the folder.
 //!
-//! A link, a source and a sink are over any reader and writer, and tell what these tell. Over bytes in memory
-//! (`StreamLink::over`, `StdSource::over`, `StdSink::over`) everything that their traits say of contents is proved of the
-//! code that serves the standard streams; of those only std's own reader and writer are trusted.
-//!
 //! If another process does, no file outside of the folder is cut or written by way of a link at the end of a path: what is
 //! opened is compared (device, inode, kind) with what was seen before a byte is read or written, a new file is made only
 //! if there is nothing, and no file is cut by opening. These stay open, as std has neither `openat` nor flags for `open`:
@@ -34,10 +30,7 @@ mod host;
 mod opened;
 mod path_buffer;
 mod touched;
-mod transfer;
 
 pub use clock::HostClock;
-pub use count::{counted, raised};
 pub use entropy::OsEntropy;
 pub use folder::HostFolder;
-pub use transfer::{read_one, read_some, write_some};

@@ -2,7 +2,7 @@ ghost use Rattle.std.specs.Prelude.{◌≡◌, ◌≤◌, length, IfOk};
 ghost use Rattle.outside.specs.Calls.{KeepsFrom};
 
 use crate::found::{Found, found_of, is_same};
-use crate::transfer::read_full;
+use host_streams::read_full;
 use std::fs::{DirBuilder, OpenFile, OpenOptions};
 use std::io;
 use std::io::{Error, ErrorKind, Seek, SeekFrom, Write};

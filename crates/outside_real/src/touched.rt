@@ -1,6 +1,7 @@
 ghost use Rattle.std.specs.Prelude.{◌≡◌, [], Contains, IsTrue};
 
 use std::alloc::{AllocError, Global};
+use vault_layout::{FOLDERS, JOURNAL_FILE, NEW_JOURNAL_FILE};
 use vault_path::VaultPath;
 
 // How many paths are kept for the next sync.
@@ -8,7 +9,7 @@ const MOST: usize = 128;
 
 // What an earlier process may have left unflushed, and the start of a server builds on: the folder itself, and in it the
 // folder of all others, the journal and the file that the first journal is made in.
-const FIRST: [&[u8]; 3] = [b"d", b"served.journal", b"served.journal.new"];
+const FIRST: [&[u8]; 3] = [FOLDERS, JOURNAL_FILE, NEW_JOURNAL_FILE];
 
 /// The paths that the next sync flushes.
 #[derive(Drop)]

@@ -69,6 +69,7 @@ fn draws_differ_and_the_clock_is_past_2024(rt: HostRuntime) -> Result<(), Fail> 
     entropy.fill(&mut first)?;
     entropy.fill(&mut second)?;
     assert_ne!(rt; first, second);
-    assert!(rt; HostClock::new(&rt).now() > 1_704_067_200);
+    let mut clock = HostClock::new(&rt);
+    assert!(rt; clock.now() > 1_704_067_200);
     Ok(())
 }

@@ -4,7 +4,7 @@ use crate::listening::RunListener;
 use crate::plan::Row;
 use crate::row::RowErr;
 use ninep_wire::kinds;
-use outside_mem::{MemLink, SeedEntropy};
+use outside_mem::{MemLink, SeedEntropy, SetClock};
 use std::alloc::{AllocError, Global};
 use vault_top::Worker;
 
@@ -97,7 +97,7 @@ pub(crate) fn given_back(
 pub(crate) fn compare_replies(
     alloc: Global,
     row: &Row<'_>,
-    workers: &mut Vec<Worker<RunListener<'_>, SeedEntropy>>,
+    workers: &mut Vec<Worker<RunListener<'_>, SeedEntropy, SetClock>>,
 ) -> Result<Likeness, RowErr> {
     let mut like = Likeness::Same;
     for (crew, worker) in row.crews.iter().zip(workers.iter_mut()) {

@@ -11,8 +11,8 @@ use std::sync::Wait;
 use std::thread::Threads;
 use vault_top::{Ended, Worker, run};
 
-// The second that the clock is at.
-const SECOND: u32 = 100;
+/// The second that the clocks are at.
+pub(crate) const SECOND: u32 = 100;
 
 // The seed of each worker's random source: RFC 8439's first example of ChaCha20's stream has this key.
 const SEED: [u8; 32] = [0; 32];
@@ -42,7 +42,7 @@ pub(crate) struct Ran {
     pub folder: Option<MemFolder>,
     pub secret: MemSource,
     pub report: MemSink,
-    pub workers: Vec<Worker<RunListener<'static>, SeedEntropy>>,
+    pub workers: Vec<Worker<RunListener<'static>, SeedEntropy, SetClock>>,
 }
 
 impl Ran {
@@ -86,7 +86,7 @@ fn worker(
     crew: &Crew,
     failing: &[u64],
     pieces: Pieces,
-) -> Result<Worker<RunListener<'static>, SeedEntropy>, AllocError> {
+) -> Result<Worker<RunListener<'static>, SeedEntropy, SetClock>, AllocError> {
     let mut links = Vec::new(alloc);
     for client in &crew.clients {
         links.push(link(alloc, client, pieces)?)?;
@@ -99,6 +99,7 @@ fn worker(
     Ok(Worker {
         listener: RunListener::listed(listener),
         entropy,
+        clock: SetClock::new(SECOND),
     })
 }
 
@@ -107,7 +108,7 @@ fn workers(
     alloc: Global,
     row: &Row<'_>,
     pieces: Pieces,
-) -> Result<Vec<Worker<RunListener<'static>, SeedEntropy>>, AllocError> {
+) -> Result<Vec<Worker<RunListener<'static>, SeedEntropy, SetClock>>, AllocError> {
     let mut workers = Vec::new(alloc);
     if row.crews.is_empty() {
         workers.push(worker(alloc, &Crew::new(alloc), &row.failing.random, pieces)?)?;
@@ -135,7 +136,7 @@ pub(crate) fn run_words<R: Threads + Wait + Sync>(
     alloc: Global,
     words: &str,
     folder: MemFolder,
-    workers: &mut Vec<Worker<RunListener<'_>, SeedEntropy>>,
+    workers: &mut Vec<Worker<RunListener<'_>, SeedEntropy, SetClock>>,
     secret: &mut MemSource,
     report: &mut MemSink,
 ) -> Result<Ended<MemFolder>, RowErr> {
@@ -151,7 +152,7 @@ pub(crate) fn run_words<R: Threads + Wait + Sync>(
         workers,
         secret,
         report,
-        &SetClock::new(SECOND),
+        &mut SetClock::new(SECOND),
         &OpenGate,
     ))
 }

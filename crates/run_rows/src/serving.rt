@@ -4,9 +4,9 @@ use crate::link::{Asking, OrderedLink};
 use crate::listening::RunListener;
 use crate::look::zero_keys;
 use crate::row::RowErr;
-use crate::running::run_words;
+use crate::running::{SECOND, run_words};
 use crate::table::{Message, replies_to};
-use outside_mem::{MemFolder, MemSink, MemSource, SeedEntropy};
+use outside_mem::{MemFolder, MemSink, MemSource, SeedEntropy, SetClock};
 use std::alloc::{AllocError, Global};
 use std::sync::Wait;
 use std::sync::atomic::AtomicU64;
@@ -45,13 +45,14 @@ fn workers_of<'a>(
     messages: &'a [Message],
     answered: &'a AtomicU64,
     asking: Asking,
-) -> Result<Vec<Worker<RunListener<'a>, SeedEntropy>>, AllocError> {
+) -> Result<Vec<Worker<RunListener<'a>, SeedEntropy, SetClock>>, AllocError> {
     let mut workers = Vec::new(alloc);
     for client in 0..CLIENTS {
         let link = OrderedLink::new(alloc, messages, answered, client, asking);
         workers.push(Worker {
             listener: RunListener::ordered(link),
             entropy: SeedEntropy::from_seed(alloc, [client as u8; 32]),
+            clock: SetClock::new(SECOND),
         })?;
     }
     Ok(workers)
@@ -60,7 +61,7 @@ fn workers_of<'a>(
 // What each client was sent.
 fn sent_by(
     alloc: Global,
-    workers: &[Worker<RunListener<'_>, SeedEntropy>],
+    workers: &[Worker<RunListener<'_>, SeedEntropy, SetClock>],
 ) -> Result<Vec<Vec<u8>>, AllocError> {
     let mut sent = Vec::new(alloc);
     for worker in workers {
@@ -107,7 +108,7 @@ fn run_workers<R: Threads + Wait + Sync>(
     rt: &R,
     alloc: Global,
     folder: MemFolder,
-    workers: &mut Vec<Worker<RunListener<'_>, SeedEntropy>>,
+    workers: &mut Vec<Worker<RunListener<'_>, SeedEntropy, SetClock>>,
 ) -> Result<(MemFolder, Ending), RowErr> {
     let mut secret = MemSource::new(alloc, zero_keys(alloc)?);
     let mut report = MemSink::new(alloc);
@@ -121,7 +122,7 @@ fn served_by<R: Threads + Wait + Sync>(
     rt: &R,
     alloc: Global,
     folder: MemFolder,
-    workers: &mut Vec<Worker<RunListener<'_>, SeedEntropy>>,
+    workers: &mut Vec<Worker<RunListener<'_>, SeedEntropy, SetClock>>,
 ) -> Result<Served, RowErr> {
     let (folder, ending) = run_workers(rt, alloc, folder, workers)?;
     Ok(Served {

@@ -1,7 +1,9 @@
 pub mod Links
+pub mod Seconds
 pub mod TalkSoFar
 pub mod Stops
 pub mod Whole
 pub mod Counting
 pub mod ShareSoFar
 pub mod Sharing
+pub mod Timed

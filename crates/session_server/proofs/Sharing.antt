@@ -91,12 +91,12 @@ all_ends-take (suc i) (share ∷ shares) =
     omega arith
 
 -- the counts of one crew more
-pub record OneMore {N B C : Type 0} (crew : Crew N B) (shares : List (Share C)) (i : ℕ) : Type 0 where
+pub record OneMore {N B K C : Type 0} (crew : Crew N B K) (shares : List (Share C)) (i : ℕ) : Type 0 where
   pub share : Share C
   pub counted : AreCounts crew.counts (ends_of share)
   pub more : all_ends (take (suc i) shares) ≡ all_ends (take i shares) ++ ends_of share
 
-pub one_more : {N B C : Type 0} (crews : List (Crew N B)) (shares : List (Share C)) (i : ℕ) (d : Crew N B) → i < length crews → AreCountsOf crews shares → OneMore (get_or crews i d) shares i
+pub one_more : {N B K C : Type 0} (crews : List (Crew N B K)) (shares : List (Share C)) (i : ℕ) (d : Crew N B K) → i < length crews → AreCountsOf crews shares → OneMore (get_or crews i d) shares i
 one_more [] [] i d lt h = absurd (omega arith)
 one_more [] (share ∷ shares) i d lt h = absurd h
 one_more (crew ∷ crews) [] i d lt h = absurd h
@@ -110,7 +110,7 @@ one_more (crew ∷ crews) (share ∷ shares) (suc i) d lt h =
     }
 
 -- all of them
-pub counts_all : {N B C : Type 0} (crews : List (Crew N B)) (shares : List (Share C)) (i : ℕ) → length crews ≤ i → AreCountsOf crews shares → take i shares ≡ shares
+pub counts_all : {N B K C : Type 0} (crews : List (Crew N B K)) (shares : List (Share C)) (i : ℕ) → length crews ≤ i → AreCountsOf crews shares → take i shares ≡ shares
 counts_all [] [] zero le h = refl
 counts_all [] [] (suc i) le h = refl
 counts_all [] (share ∷ shares) i le h = absurd h
@@ -118,12 +118,12 @@ counts_all (crew ∷ crews) [] i le h = absurd h
 counts_all (crew ∷ crews) (share ∷ shares) zero le h = absurd (omega arith)
 counts_all (crew ∷ crews) (share ∷ shares) (suc i) le h = ap (λ l. share ∷ l) (counts_all crews shares i (omega arith) h.1)
 
-pub none_more : {N B : Type 0} (crews : List (Crew N B)) (i : ℕ) (d : Crew N B) → i < length crews → NoneFailed (take i crews) → (get_or crews i d).failed ≡ false → NoneFailed (take (suc i) crews)
+pub none_more : {N B K : Type 0} (crews : List (Crew N B K)) (i : ℕ) (d : Crew N B K) → i < length crews → NoneFailed (take i crews) → (get_or crews i d).failed ≡ false → NoneFailed (take (suc i) crews)
 none_more [] i d lt none fine = absurd (omega arith)
 none_more (crew ∷ crews) zero d lt none fine = (fine, tt)
 none_more (crew ∷ crews) (suc i) d lt none fine = (none.0, none_more crews i d (omega arith) none.1 fine)
 
-pub any_at : {N B : Type 0} (crews : List (Crew N B)) (i : ℕ) (d : Crew N B) → i < length crews → (get_or crews i d).failed ≡ true → AnyFailed crews
+pub any_at : {N B K : Type 0} (crews : List (Crew N B K)) (i : ℕ) (d : Crew N B K) → i < length crews → (get_or crews i d).failed ≡ true → AnyFailed crews
 any_at [] i d lt failed = absurd (omega arith)
 any_at (crew ∷ crews) zero d lt failed = inl failed
 any_at (crew ∷ crews) (suc i) d lt failed = inr (any_at crews i d (omega arith) failed)
@@ -144,31 +144,31 @@ gave_as sessions F G before after links only h = record {
   given = h.given;
 }
 
-module _ {N B C : Type 0} (stands : B → B → List Asked → Type 0) (listener : N → ListenerView C) (link : C → LinkView) (second : Option ℕ) (n m : ℕ) where
+module _ {N B K C : Type 0} (stands : B → B → List Asked → Type 0) (listener : N → ListenerView C) (link : C → LinkView) (clock : K → Option (ℕ → ℕ)) (n m : ℕ) where
   -- the crews of a list, from number j on
-  pub served_by : (j : ℕ) (olds news : List (Crew N B)) → length news ≡ length olds
-      → ((i : ℕ) (d : Crew N B) → i < length olds → HasServedShare stands listener link second (share_of n m (j + i)) (get_or olds i d) (get_or news i d))
-      → (shares : List (Share C)) × AreServedBy stands listener link second n m j olds news shares
+  pub served_by : (j : ℕ) (olds news : List (Crew N B K)) → length news ≡ length olds
+      → ((i : ℕ) (d : Crew N B K) → i < length olds → HasServedShare stands listener link clock (share_of n m (j + i)) (get_or olds i d) (get_or news i d))
+      → (shares : List (Share C)) × AreServedBy stands listener link clock n m j olds news shares
   served_by j [] [] same each = ([], tt)
   served_by j [] (new ∷ news) same each = absurd (omega arith)
   served_by j (old ∷ olds) [] same each = absurd (omega arith)
   served_by j (old ∷ olds) (new ∷ news) same each =
       let here : j + 0 ≡ j = omega arith in
       let next : (i : ℕ) → j + suc i ≡ suc j + i = λ i. omega arith in
-      let first : HasServedShare stands listener link second (share_of n m j) old new = subst (λ (k : ℕ). HasServedShare stands listener link second (share_of n m k) old new) here (each 0 old (omega arith)) in
+      let first : HasServedShare stands listener link clock (share_of n m j) old new = subst (λ (k : ℕ). HasServedShare stands listener link clock (share_of n m k) old new) here (each 0 old (omega arith)) in
       let rest = served_by (suc j) olds news (omega arith)
-      (λ i d lt. subst (λ (k : ℕ). HasServedShare stands listener link second (share_of n m k) (get_or olds i d) (get_or news i d)) (next i) (each (suc i) d (omega arith)))
+      (λ i d lt. subst (λ (k : ℕ). HasServedShare stands listener link clock (share_of n m k) (get_or olds i d) (get_or news i d)) (next i) (each (suc i) d (omega arith)))
       in
       (first.share ∷ rest.0, (first.served, rest.1))
 
-  pub all_served : (olds news : List (Crew N B)) → length news ≡ length olds
-      → ((i : ℕ) (d : Crew N B) → i < length olds → HasServedShare stands listener link second (share_of n m i) (get_or olds i d) (get_or news i d))
-      → (shares : List (Share C)) × AreServedBy stands listener link second n m 0 olds news shares
+  pub all_served : (olds news : List (Crew N B K)) → length news ≡ length olds
+      → ((i : ℕ) (d : Crew N B K) → i < length olds → HasServedShare stands listener link clock (share_of n m i) (get_or olds i d) (get_or news i d))
+      → (shares : List (Share C)) × AreServedBy stands listener link clock n m 0 olds news shares
   all_served olds news same each =
       let from : (i : ℕ) → i ≡ 0 + i = λ i. omega arith in
-      served_by 0 olds news same (λ i d lt. subst (λ (k : ℕ). HasServedShare stands listener link second (share_of n m k) (get_or olds i d) (get_or news i d)) (from i) (each i d lt))
+      served_by 0 olds news same (λ i d lt. subst (λ (k : ℕ). HasServedShare stands listener link clock (share_of n m k) (get_or olds i d) (get_or news i d)) (from i) (each i d lt))
 
-  pub counts_of : (j : ℕ) (olds news : List (Crew N B)) (shares : List (Share C)) → AreServedBy stands listener link second n m j olds news shares → AreCountsOf news shares
+  pub counts_of : (j : ℕ) (olds news : List (Crew N B K)) (shares : List (Share C)) → AreServedBy stands listener link clock n m j olds news shares → AreCountsOf news shares
   counts_of j [] [] [] h = tt
   counts_of j [] [] (share ∷ shares) h = absurd h
   counts_of j [] (new ∷ news) shares h = absurd h
@@ -176,7 +176,7 @@ module _ {N B C : Type 0} (stands : B → B → List Asked → Type 0) (listener
   counts_of j (old ∷ olds) (new ∷ news) [] h = absurd h
   counts_of j (old ∷ olds) (new ∷ news) (share ∷ shares) h = (h.0.counted, counts_of (suc j) olds news shares h.1)
 
-  pub extended_of : (j : ℕ) (olds news : List (Crew N B)) (shares : List (Share C)) → AreServedBy stands listener link second n m j olds news shares → AreExtended stands olds news shares
+  pub extended_of : (j : ℕ) (olds news : List (Crew N B K)) (shares : List (Share C)) → AreServedBy stands listener link clock n m j olds news shares → AreExtended stands olds news shares
   extended_of j [] [] [] h = tt
   extended_of j [] [] (share ∷ shares) h = absurd h
   extended_of j [] (new ∷ news) shares h = absurd h
@@ -185,7 +185,7 @@ module _ {N B C : Type 0} (stands : B → B → List Asked → Type 0) (listener
   extended_of j (old ∷ olds) (new ∷ news) (share ∷ shares) h = (h.0.extends, extended_of (suc j) olds news shares h.1)
 
   -- there are no more ends than sessions that are shared
-  few_from : (j : ℕ) (olds news : List (Crew N B)) (shares : List (Share C)) → AreServedBy stands listener link second n m j olds news shares → length (all_ends shares) + shared n m j ≤ n
+  few_from : (j : ℕ) (olds news : List (Crew N B K)) (shares : List (Share C)) → AreServedBy stands listener link clock n m j olds news shares → length (all_ends shares) + shared n m j ≤ n
   few_from j [] [] [] h = let all = shared-le n m j in omega arith
   few_from j [] [] (share ∷ shares) h = absurd h
   few_from j [] (new ∷ news) shares h = absurd h
@@ -198,12 +198,12 @@ module _ {N B C : Type 0} (stands : B → B → List Asked → Type 0) (listener
       let b = length-append (ends_of share) (all_ends shares) in
       omega arith
 
-  pub few_of : (olds news : List (Crew N B)) (shares : List (Share C)) → AreServedBy stands listener link second n m 0 olds news shares → length (all_ends shares) ≤ n
+  pub few_of : (olds news : List (Crew N B K)) (shares : List (Share C)) → AreServedBy stands listener link clock n m 0 olds news shares → length (all_ends shares) ≤ n
   few_of olds news shares h = let all = few_from 0 olds news shares h in omega arith
 
   -- if none failed each served its share
-  shares_whole : (entropy : B → EntropyView) (j : ℕ) (olds news : List (Crew N B)) (shares : List (Share C)) → AreServedBy stands listener link second n m j olds news shares → NoneFailed news
-      → AreShares link second (λ worker. ⊥) n m j (spans_of listener entropy olds news) shares
+  shares_whole : (entropy : B → EntropyView) (j : ℕ) (olds news : List (Crew N B K)) (shares : List (Share C)) → AreServedBy stands listener link clock n m j olds news shares → NoneFailed news
+      → AreShares link (λ worker. ⊥) n m j (spans_of listener entropy clock olds news) shares
   shares_whole entropy j [] [] [] h none = tt
   shares_whole entropy j [] [] (share ∷ shares) h none = absurd h
   shares_whole entropy j [] (new ∷ news) shares h none = absurd h
@@ -215,8 +215,8 @@ module _ {N B C : Type 0} (stands : B → B → List Asked → Type 0) (listener
   )
 
   -- or up to where it failed
-  shares_cut : (entropy : B → EntropyView) (j : ℕ) (olds news : List (Crew N B)) (shares : List (Share C)) → AreServedBy stands listener link second n m j olds news shares
-      → AreShares link second ListenerFailed n m j (spans_of listener entropy olds news) shares
+  shares_cut : (entropy : B → EntropyView) (j : ℕ) (olds news : List (Crew N B K)) (shares : List (Share C)) → AreServedBy stands listener link clock n m j olds news shares
+      → AreShares link ListenerFailed n m j (spans_of listener entropy clock olds news) shares
   shares_cut entropy j [] [] [] h = tt
   shares_cut entropy j [] [] (share ∷ shares) h = absurd h
   shares_cut entropy j [] (new ∷ news) shares h = absurd h
@@ -227,8 +227,8 @@ module _ {N B C : Type 0} (stands : B → B → List Asked → Type 0) (listener
     shares_cut entropy (suc j) olds news shares h.1,
   )
 
-  some_failed : (entropy : B → EntropyView) (j : ℕ) (olds news : List (Crew N B)) (shares : List (Share C)) → AreServedBy stands listener link second n m j olds news shares → AnyFailed news
-      → SomeFailed (spans_of listener entropy olds news)
+  some_failed : (entropy : B → EntropyView) (j : ℕ) (olds news : List (Crew N B K)) (shares : List (Share C)) → AreServedBy stands listener link clock n m j olds news shares → AnyFailed news
+      → SomeFailed (spans_of listener entropy clock olds news)
   some_failed entropy j [] [] [] h any = absurd any
   some_failed entropy j [] [] (share ∷ shares) h any = absurd h
   some_failed entropy j [] (new ∷ news) shares h any = absurd h
@@ -237,9 +237,9 @@ module _ {N B C : Type 0} (stands : B → B → List Asked → Type 0) (listener
   some_failed entropy j (old ∷ olds) (new ∷ news) (share ∷ shares) h (inl failed) = inl (h.0.cause.rose failed)
   some_failed entropy j (old ∷ olds) (new ∷ news) (share ∷ shares) h (inr any) = inr (some_failed entropy (suc j) olds news shares h.1 any)
 
-  pub have_served : (olds news : List (Crew N B)) (shares : List (Share C)) (result : Result SessionCounts Failed) → AreServedBy stands listener link second n m 0 olds news shares
+  pub have_served : (olds news : List (Crew N B K)) (shares : List (Share C)) (result : Result SessionCounts Failed) → AreServedBy stands listener link clock n m 0 olds news shares
       → IfOk result (λ counts. AreCounts counts (all_ends shares)) → OnOk result (NoneFailed news) → OnErr result (AnyFailed news)
-      → HaveServed stands listener link second n m olds news result
+      → HaveServed stands listener link clock n m olds news result
   have_served olds news shares (Ok counts) h counted none some = record {
     shares = shares;
     are = λ entropy. shares_whole entropy 0 olds news shares h none;

@@ -1,38 +1,34 @@
 -- The talk so far: messages that were answered, and what the link and the object are after them.
-use Rattle.std.proofs.Common.{◌≡◌, ℕ, ◌+◌, ◌^◌, ◌<◌, ◌≤◌, List, [], ◌∷◌, ◌++◌, length, take, drop, Option, Some, None, refl, sym, ap, subst, ◌∙◌, append_assoc, arith}
-use Rattle.std.specs.List.{concat, AllByRecursion}
+use Rattle.std.proofs.Common.{◌≡◌, ℕ, ◌+◌, ◌^◌, ◌<◌, ◌≤◌, List, [], ◌∷◌, ◌++◌, length, take, drop, Option, refl, sym, ap, subst, ◌∙◌, append_assoc, arith}
+use Rattle.std.specs.List.{concat}
 use Rattle.std.specs.Option.{option_to_list}
 use Rattle.std.proofs.lemmas.List.{append-nil, take-append-drop, length-append, length-drop}
-use Rattle.outside.specs.Calls.{HasCause, Told}
+use Rattle.outside.specs.Calls.{HasCause, TakesNext}
 use Rattle.outside.specs.Views.{LinkView}
 use Rattle.outside.proofs.Told.{told_always}
-use Rattle.outside.proofs.Lists.{all_joined}
 use Rattle.tree_model.specs.Asked.{Asked, Extends}
-use Rattle.ninep_wire.specs.Reading.{IsFrame, message_in}
+use Rattle.ninep_wire.specs.Reading.{IsFrame}
 use Rattle.session_core.specs.State.{State, fresh, limit}
-use Rattle.session_core.specs.Action.{Action, says, asks}
-use Rattle.session_core.specs.Session.{Exchanged, IsDone, action_on}
+use Rattle.session_core.specs.Session.{Exchanged}
 use Rattle.session_server.specs.declared.ending.SessionEnd.{SessionEnd}
 use Rattle.session_server.specs.declared.ending.SessionEnd.TheVariants.{Done, Cut, BadFrame, ReadFault, WriteFault, Limit, Memory}
 use Rattle.session_server.specs.Talk.{Answered, EndsAfter, IsTaken, IsReadUp}
 use Rattle.session_server.specs.Served.{HasTalked}
 use Rattle.session_server.specs.Steps.{Reads, Writes, IsReadEnd, StopsAt}
 use Rattle.session_server.proofs.Links.{reads_nothing, reads_then, reads_more, reads_with, writes_nothing, writes_more, cause_later, no_cause}
+use Rattle.session_server.proofs.Seconds.{gives_none, gives_more}
 
--- all was asked at the clock's second, if it tells
-abbrev pub AtSecond : Option ℕ → List Asked → Type 0
-AtSecond second asked = Told second (λ s. AllByRecursion (λ a. a.second ≡ s) asked)
-
--- n messages were answered since the link was as before
-pub record SoFar {B : Type 0} (stands : B → B → List Asked → Type 0) (object object' : B) (before now : LinkView) (second : Option ℕ) (n : ℕ) (s : State) : Type 0 where
+-- n messages were answered since the link and the clock were as before
+pub record SoFar {B : Type 0} (stands : B → B → List Asked → Type 0) (object object' : B) (before now : LinkView) (clock clock' : Option (ℕ → ℕ)) (n : ℕ) (s : State) : Type 0 where
   pub frames : List (List ℕ)
+  pub seconds : List ℕ
   pub asked : List Asked
   pub answers : List (List ℕ)
   pub count : length frames ≡ n
-  pub answered : Answered fresh frames asked answers s
+  pub answered : Answered fresh frames seconds asked answers s
   pub read : Reads before.left now.left (concat frames)
   pub wrote : Writes before.taken now.taken (concat answers)
-  pub seconds : AtSecond second asked
+  pub clock_gave : TakesNext clock clock' seconds
   pub extends : Extends stands object object' asked
   pub read_faults : before.read_faults ≤ now.read_faults
   pub write_faults : before.write_faults ≤ now.write_faults
@@ -51,11 +47,11 @@ concat_more [] x = append-nil x
 concat_more (y ∷ xs) x = ap (λ (w : List ℕ). y ++ w) (concat_more xs x) ∙ sym (append_assoc y (concat xs) x)
 
 -- messages that were answered, and one more
-answered_more : (first : State) (frames : List (List ℕ)) (asked : List Asked) (answers : List (List ℕ)) (s : State) (frame : List ℕ) (second : ℕ) (request : Option Asked) (answer : List ℕ) (next : State)
-    → Answered first frames asked answers s → OneAnswered s frame second request answer next
-    → Answered first (frames ++ frame ∷ []) (asked ++ option_to_list request) (answers ++ answer ∷ []) next
-answered_more first [] asked answers s frame second request answer next h one =
-    let same : s ≡ first = h.2 in record {
+answered_more : (first : State) (frames : List (List ℕ)) (seconds : List ℕ) (asked : List Asked) (answers : List (List ℕ)) (s : State) (frame : List ℕ) (second : ℕ) (request : Option Asked) (answer : List ℕ) (next : State)
+    → Answered first frames seconds asked answers s → OneAnswered s frame second request answer next
+    → Answered first (frames ++ frame ∷ []) (seconds ++ second ∷ []) (asked ++ option_to_list request) (answers ++ answer ∷ []) next
+answered_more first [] seconds asked answers s frame second request answer next h one =
+    let same : s ≡ first = h.3 in record {
       framed = one.framed;
       fits = subst (λ (t : State). length frame ≤ limit t) same one.fits;
       second = second;
@@ -63,13 +59,15 @@ answered_more first [] asked answers s frame second request answer next h one =
       answer = answer;
       next = next;
       exchanged = subst (λ (t : State). Exchanged t frame second request answer next) same one.exchanged;
+      other_seconds = [];
       others = [];
       other_answers = [];
-      rest = (refl, refl, refl);
-      asked_is = ap (λ (w : List Asked). w ++ option_to_list request) h.0 ∙ sym (append-nil (option_to_list request));
-      answers_are = ap (λ (w : List (List ℕ)). w ++ answer ∷ []) h.1;
+      rest = (refl, refl, refl, refl);
+      seconds_are = ap (λ (w : List ℕ). w ++ second ∷ []) h.0;
+      asked_is = ap (λ (w : List Asked). w ++ option_to_list request) h.1 ∙ sym (append-nil (option_to_list request));
+      answers_are = ap (λ (w : List (List ℕ)). w ++ answer ∷ []) h.2;
     }
-answered_more first (x ∷ frames) asked answers s frame second request answer next h one = record {
+answered_more first (x ∷ frames) seconds asked answers s frame second request answer next h one = record {
   framed = h.framed;
   fits = h.fits;
   second = h.second;
@@ -77,33 +75,14 @@ answered_more first (x ∷ frames) asked answers s frame second request answer n
   answer = h.answer;
   next = h.next;
   exchanged = h.exchanged;
+  other_seconds = h.other_seconds ++ second ∷ [];
   others = h.others ++ option_to_list request;
   other_answers = h.other_answers ++ answer ∷ [];
-  rest = answered_more h.next frames h.others h.other_answers s frame second request answer next h.rest one;
+  rest = answered_more h.next frames h.other_seconds h.others h.other_answers s frame second request answer next h.rest one;
+  seconds_are = ap (λ (w : List ℕ). w ++ second ∷ []) h.seconds_are;
   asked_is = ap (λ (w : List Asked). w ++ option_to_list request) h.asked_is ∙ append_assoc (option_to_list h.request) h.others (option_to_list request);
   answers_are = ap (λ (w : List (List ℕ)). w ++ answer ∷ []) h.answers_are;
 }
-
-at_more : (second : Option ℕ) (xs ys : List Asked) → AtSecond second xs → AtSecond second ys → AtSecond second (xs ++ ys)
-at_more None xs ys h k = tt
-at_more (Some s) xs ys h k = all_joined (λ (a : Asked). a.second ≡ s) xs ys h k
-
-done_at : (action : Action) (s : State) (frame : List ℕ) (second : ℕ) (request : Option Asked) (answer : List ℕ) (next : State) (e : Exchanged s frame second request answer next)
-    → IsDone action s (message_in frame) second request e.answer next → AllByRecursion (λ a. a.second ≡ second) (option_to_list request)
-done_at (says said after) s frame second request answer next e is = subst (λ (r : Option Asked). AllByRecursion (λ a. a.second ≡ second) (option_to_list r)) (sym is.0) tt
-done_at (asks asked) s frame second request answer next e (entry, asked_is, request_is, second_is, outcome_is) = subst (λ (r : Option Asked). AllByRecursion (λ a. a.second ≡ second) (option_to_list r)) (sym asked_is) (second_is, tt)
-
--- what was asked for a message was asked at its second
-asked_at : (s : State) (frame : List ℕ) (second : ℕ) (request : Option Asked) (answer : List ℕ) (next : State) → Exchanged s frame second request answer next
-    → AllByRecursion (λ a. a.second ≡ second) (option_to_list request)
-asked_at s frame second request answer next e = done_at (action_on s (message_in frame)) s frame second request answer next e e.is_done
-
--- which is the clock's
-pub at_clock : (told : Option ℕ) (s : State) (frame : List ℕ) (second : ℕ) (request : Option Asked) (answer : List ℕ) (next : State) → Told told (λ t. second ≡ t)
-    → Exchanged s frame second request answer next → AtSecond told (option_to_list request)
-at_clock None s frame second request answer next e h = tt
-at_clock (Some t) s frame second request answer next e h =
-    subst (λ (n : ℕ). AllByRecursion (λ (a : Asked). a.second ≡ n) (option_to_list request)) e (asked_at s frame second request answer next h)
 
 -- an object that was asked these, and then those
 pub extends_more : {B : Type 0} (stands : B → B → List Asked → Type 0) (a b c : B) (xs ys : List Asked) → Extends stands a b xs → Extends stands b c ys → Extends stands a c (xs ++ ys)
@@ -113,21 +92,18 @@ extends_more stands a b c xs ys h k = λ start before stood. subst (λ (w : List
 pub extends_none : {B : Type 0} (stands : B → B → List Asked → Type 0) (a : B) → Extends stands a a []
 extends_none stands a = λ start before stood. subst (λ (w : List Asked). stands a start w) (sym (append-nil before)) stood
 
-at_none : (second : Option ℕ) → AtSecond second []
-at_none None = tt
-at_none (Some s) = tt
-
 -- before the first message
-pub so_far_none : {B : Type 0} (stands : B → B → List Asked → Type 0) (object : B) (link : LinkView) (second : Option ℕ) (s : State) → s ≡ fresh → SoFar stands object object link link second 0 s
-so_far_none stands object link second s is = record {
+pub so_far_none : {B : Type 0} (stands : B → B → List Asked → Type 0) (object : B) (link : LinkView) (clock : Option (ℕ → ℕ)) (s : State) → s ≡ fresh → SoFar stands object object link link clock clock 0 s
+so_far_none stands object link clock s is = record {
   frames = [];
+  seconds = [];
   asked = [];
   answers = [];
   count = refl;
-  answered = (refl, refl, is);
+  answered = (refl, refl, refl, is);
   read = reads_nothing link.left;
   wrote = writes_nothing link.taken;
-  seconds = at_none second;
+  clock_gave = gives_none clock;
   extends = extends_none stands object;
   read_faults = omega arith;
   write_faults = omega arith;
@@ -141,20 +117,21 @@ pub record IsOnLink (now after : LinkView) (frame sent : List ℕ) : Type 0 wher
   pub write_faults : now.write_faults ≤ after.write_faults
 
 -- one message more
-pub so_far_more : {B : Type 0} (stands : B → B → List Asked → Type 0) (object object' object'' : B) (before now after : LinkView) (told : Option ℕ) (n : ℕ) (s : State)
+pub so_far_more : {B : Type 0} (stands : B → B → List Asked → Type 0) (object object' object'' : B) (before now after : LinkView) (clock clock' clock'' : Option (ℕ → ℕ)) (n : ℕ) (s : State)
     (frame : List ℕ) (second : ℕ) (request : Option Asked) (answer : List ℕ) (next : State)
-    → SoFar stands object object' before now told n s → OneAnswered s frame second request answer next → IsOnLink now after frame answer
-    → AtSecond told (option_to_list request) → Extends stands object' object'' (option_to_list request)
-    → SoFar stands object object'' before after told (n + 1) next
-so_far_more stands object object' object'' before now after told n s frame second request answer next so one link at extends = record {
+    → SoFar stands object object' before now clock clock' n s → OneAnswered s frame second request answer next → IsOnLink now after frame answer
+    → TakesNext clock' clock'' (second ∷ []) → Extends stands object' object'' (option_to_list request)
+    → SoFar stands object object'' before after clock clock'' (n + 1) next
+so_far_more stands object object' object'' before now after clock clock' clock'' n s frame second request answer next so one link gave extends = record {
   frames = so.frames ++ frame ∷ [];
+  seconds = so.seconds ++ second ∷ [];
   asked = so.asked ++ option_to_list request;
   answers = so.answers ++ answer ∷ [];
   count = length-append so.frames (frame ∷ []) ∙ ap (λ (k : ℕ). k + 1) so.count;
-  answered = answered_more fresh so.frames so.asked so.answers s frame second request answer next so.answered one;
+  answered = answered_more fresh so.frames so.seconds so.asked so.answers s frame second request answer next so.answered one;
   read = subst (λ (w : List ℕ). Reads before.left after.left w) (sym (concat_more so.frames frame)) (reads_more before.left now.left after.left (concat so.frames) frame so.read link.read);
   wrote = subst (λ (w : List ℕ). Writes before.taken after.taken w) (sym (concat_more so.answers answer)) (writes_more before.taken now.taken after.taken (concat so.answers) answer so.wrote link.wrote);
-  seconds = at_more told so.asked (option_to_list request) so.seconds at;
+  clock_gave = gives_more clock clock' clock'' so.seconds (second ∷ []) so.clock_gave gave;
   extends = extends_more stands object object' object'' so.asked (option_to_list request) so.extends extends;
   read_faults = omega (arith, so.read_faults, link.read_faults);
   write_faults = omega (arith, so.write_faults, link.write_faults);
@@ -190,14 +167,15 @@ no_write_fault Limit kind e = cc
 no_write_fault Memory kind e = cc
 
 -- the reading of the next message stopped
-pub talked_stop : {B : Type 0} (stands : B → B → List Asked → Type 0) (object object' : B) (before now after : LinkView) (told : Option ℕ) (n : ℕ) (s : State) (end : SessionEnd)
-    → SoFar stands object object' before now told n s → n < 2 ^ 32 → StopsAt [] s now.left after.left end → after.taken ≡ now.taken
+pub talked_stop : {B : Type 0} (stands : B → B → List Asked → Type 0) (object object' : B) (before now after : LinkView) (clock clock' : Option (ℕ → ℕ)) (n : ℕ) (s : State) (end : SessionEnd)
+    → SoFar stands object object' before now clock clock' n s → n < 2 ^ 32 → StopsAt [] s now.left after.left end → after.taken ≡ now.taken
     → HasCause now.read_faults after.read_faults (end ≡ ReadFault) → now.write_faults ≤ after.write_faults
-    → HasTalked stands object object' before after told end
-talked_stop stands object object' before now after told n s end so lt stop same cause writes = record {
+    → HasTalked stands object object' before after clock clock' end
+talked_stop stands object object' before now after clock clock' n s end so lt stop same cause writes = record {
   asked = so.asked;
   talked = record {
     input = concat so.frames ++ stop.more;
+    seconds = so.seconds;
     answers = so.answers;
     sent = concat so.answers;
     talk = record {
@@ -212,7 +190,7 @@ talked_stop stands object object' before now after told n s end so lt stop same 
     read = reads_then (IsReadUp end) before.left now.left after.left (concat so.frames) stop.more so.read stop.read;
     written = subst (λ (t : Option (List ℕ)). Writes before.taken t (concat so.answers)) (sym same) so.wrote;
     sent_is = all_taken end so.answers stop.kind;
-    seconds = so.seconds;
+    clock_gave = so.clock_gave;
     read_fault = cause_later before.read_faults now.read_faults after.read_faults (end ≡ ReadFault) (end ≡ ReadFault) so.read_faults cause (λ e. e);
     write_fault = no_cause before.write_faults after.write_faults (end ≡ WriteFault) (omega (arith, so.write_faults)) (no_write_fault end stop.kind);
   };
@@ -220,19 +198,20 @@ talked_stop stands object object' before now after told n s end so lt stop same 
 }
 
 -- 2^32 messages were answered
-pub talked_limit : {B : Type 0} (stands : B → B → List Asked → Type 0) (object object' : B) (before now : LinkView) (told : Option ℕ) (s : State)
-    → SoFar stands object object' before now told (2 ^ 32) s → HasTalked stands object object' before now told Limit
-talked_limit stands object object' before now told s so = record {
+pub talked_limit : {B : Type 0} (stands : B → B → List Asked → Type 0) (object object' : B) (before now : LinkView) (clock clock' : Option (ℕ → ℕ)) (s : State)
+    → SoFar stands object object' before now clock clock' (2 ^ 32) s → HasTalked stands object object' before now clock clock' Limit
+talked_limit stands object object' before now clock clock' s so = record {
   asked = so.asked;
   talked = record {
     input = concat so.frames;
+    seconds = so.seconds;
     answers = so.answers;
     sent = concat so.answers;
     talk = record { frames = so.frames; rest = []; last = s; input_is = sym (append-nil (concat so.frames)); answered = so.answered; ended = refl; count = so.count };
     read = reads_with (IsReadUp Limit) before.left now.left (concat so.frames) so.read (told_always now.left (IsReadUp Limit) (λ x. tt));
     written = so.wrote;
     sent_is = refl;
-    seconds = so.seconds;
+    clock_gave = so.clock_gave;
     read_fault = no_cause before.read_faults now.read_faults (Limit ≡ ReadFault) so.read_faults (λ e. cc);
     write_fault = no_cause before.write_faults now.write_faults (Limit ≡ WriteFault) so.write_faults (λ e. cc);
   };
@@ -240,18 +219,19 @@ talked_limit stands object object' before now told s so = record {
 }
 
 -- nothing was read for lack of memory
-pub talked_memory : {B : Type 0} (stands : B → B → List Asked → Type 0) (object : B) (link : LinkView) (told : Option ℕ) → HasTalked stands object object link link told Memory
-talked_memory stands object link told = record {
+pub talked_memory : {B : Type 0} (stands : B → B → List Asked → Type 0) (object : B) (link : LinkView) (clock : Option (ℕ → ℕ)) → HasTalked stands object object link link clock clock Memory
+talked_memory stands object link clock = record {
   asked = [];
   talked = record {
     input = [];
+    seconds = [];
     answers = [];
     sent = [];
-    talk = record { frames = []; rest = []; last = fresh; input_is = refl; answered = (refl, refl, refl); ended = refl; count = refl };
+    talk = record { frames = []; rest = []; last = fresh; input_is = refl; answered = (refl, refl, refl, refl); ended = refl; count = refl };
     read = reads_with (IsReadUp Memory) link.left link.left [] (reads_nothing link.left) (told_always link.left (IsReadUp Memory) (λ x. tt));
     written = writes_nothing link.taken;
     sent_is = refl;
-    seconds = at_none told;
+    clock_gave = gives_none clock;
     read_fault = no_cause link.read_faults link.read_faults (Memory ≡ ReadFault) (omega arith) (λ e. cc);
     write_fault = no_cause link.write_faults link.write_faults (Memory ≡ WriteFault) (omega arith) (λ e. cc);
   };
@@ -259,13 +239,13 @@ talked_memory stands object link told = record {
 }
 
 -- the last message is answered, and only a part of the answer's front is taken
-pub talked_fault : {B : Type 0} (stands : B → B → List Asked → Type 0) (object object' object'' : B) (before now after : LinkView) (told : Option ℕ) (n : ℕ) (s : State)
+pub talked_fault : {B : Type 0} (stands : B → B → List Asked → Type 0) (object object' object'' : B) (before now after : LinkView) (clock clock' clock'' : Option (ℕ → ℕ)) (n : ℕ) (s : State)
     (frame : List ℕ) (second : ℕ) (request : Option Asked) (answer : List ℕ) (sent : ℕ) (next : State)
-    → SoFar stands object object' before now told n s → n < 2 ^ 32 → OneAnswered s frame second request answer next
+    → SoFar stands object object' before now clock clock' n s → n < 2 ^ 32 → OneAnswered s frame second request answer next
     → sent < length answer → IsOnLink now after frame (take sent answer) → HasCause now.write_faults after.write_faults (WriteFault ≡ WriteFault)
-    → AtSecond told (option_to_list request) → Extends stands object' object'' (option_to_list request)
-    → HasTalked stands object object'' before after told WriteFault
-talked_fault stands object object' object'' before now after told n s frame second request answer sent next so lt one short link cause at extends =
+    → TakesNext clock' clock'' (second ∷ []) → Extends stands object' object'' (option_to_list request)
+    → HasTalked stands object object'' before after clock clock'' WriteFault
+talked_fault stands object object' object'' before now after clock clock' clock'' n s frame second request answer sent next so lt one short link cause gave extends =
     let size : length (so.frames ++ frame ∷ []) ≡ n + 1 = length-append so.frames (frame ∷ []) ∙ ap (λ (k : ℕ). k + 1) so.count in
     let input : Reads before.left after.left (concat (so.frames ++ frame ∷ [])) =
     subst (λ (w : List ℕ). Reads before.left after.left w) (sym (concat_more so.frames frame)) (reads_more before.left now.left after.left (concat so.frames) frame so.read link.read)
@@ -273,6 +253,7 @@ talked_fault stands object object' object'' before now after told n s frame seco
       asked = so.asked ++ option_to_list request;
       talked = record {
         input = concat (so.frames ++ frame ∷ []);
+        seconds = so.seconds ++ second ∷ [];
         answers = so.answers ++ answer ∷ [];
         sent = concat so.answers ++ take sent answer;
         talk = record {
@@ -280,7 +261,7 @@ talked_fault stands object object' object'' before now after told n s frame seco
           rest = [];
           last = next;
           input_is = sym (append-nil (concat (so.frames ++ frame ∷ [])));
-          answered = answered_more fresh so.frames so.asked so.answers s frame second request answer next so.answered one;
+          answered = answered_more fresh so.frames so.seconds so.asked so.answers s frame second request answer next so.answered one;
           ended = refl;
           count = (omega (arith, size), omega (arith, size));
         };
@@ -294,7 +275,7 @@ talked_fault stands object object' object'' before now after told n s frame seco
           some = omega (arith, length-drop sent answer);
           taken_is = refl;
         };
-        seconds = at_more told so.asked (option_to_list request) so.seconds at;
+        clock_gave = gives_more clock clock' clock'' so.seconds (second ∷ []) so.clock_gave gave;
         read_fault = no_cause before.read_faults after.read_faults (WriteFault ≡ ReadFault) (omega (arith, so.read_faults, link.read_faults)) (λ e. cc);
         write_fault = cause_later before.write_faults now.write_faults after.write_faults (WriteFault ≡ WriteFault) (WriteFault ≡ WriteFault) so.write_faults cause (λ e. e);
       };

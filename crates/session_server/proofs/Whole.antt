@@ -45,21 +45,21 @@ record Begins (messages answered : List (List ℕ)) (last : State) (text : List 
   fitting : AreFitting last others
   joined : concat others ≡ text
 
-begins : (s last : State) (answered messages : List (List ℕ)) (asked : List Asked) (answers : List (List ℕ)) (text : List ℕ) → Answered s answered asked answers last → AreFitting s messages
+begins : (s last : State) (answered messages : List (List ℕ)) (seconds : List ℕ) (asked : List Asked) (answers : List (List ℕ)) (text : List ℕ) → Answered s answered seconds asked answers last → AreFitting s messages
     → concat messages ≡ concat answered ++ text → Begins messages answered last text
-begins s last [] messages asked answers text done fitting is =
-    record { others = messages; all = refl; fitting = subst (λ (t : State). AreFitting t messages) (sym done.2) fitting; joined = is }
-begins s last (frame ∷ answered) [] asked answers text done fitting is =
+begins s last [] messages seconds asked answers text done fitting is =
+    record { others = messages; all = refl; fitting = subst (λ (t : State). AreFitting t messages) (sym done.3) fitting; joined = is }
+begins s last (frame ∷ answered) [] seconds asked answers text done fitting is =
     let long : 0 ≡ length ((frame ++ concat answered) ++ text) = ap length is in
     absurd (omega (arith, done.framed.long, long, length-append (frame ++ concat answered) text, length-append frame (concat answered)))
-begins s last (frame ∷ answered) (message ∷ messages) asked answers text done fitting is =
+begins s last (frame ∷ answered) (message ∷ messages) seconds asked answers text done fitting is =
     let whole : message ++ concat messages ≡ frame ++ (concat answered ++ text) = is ∙ append_assoc frame (concat answered) text in
     let same : message ≡ frame = same_first message frame (concat messages) (concat answered ++ text) fitting.framed done.framed whole in
     let exchanged : Exchanged s message done.second done.request done.answer done.next =
     subst (λ (f : List ℕ). Exchanged s f done.second done.request done.answer done.next) (sym same) done.exchanged
     in
     let rest : Begins messages answered last text =
-    begins done.next last answered messages done.others done.other_answers text done.rest
+    begins done.next last answered messages done.other_seconds done.others done.other_answers text done.rest
     (fitting.rest done.second done.request done.answer done.next exchanged)
     (same_rest message frame (concat messages) (concat answered ++ text) fitting.framed done.framed whole)
     in
@@ -144,14 +144,14 @@ left_told (Some old) (Some new) whole input end is (input_is, read_up) =
     record { new = new; told = refl; input_is = sym (same_Some old whole is) ∙ input_is; read_up = read_up }
 
 -- a session of whole messages over a link that never fails is done
-pub served_whole : (before after : LinkView) (second : Option ℕ) (end : SessionEnd) (asked : List Asked) (talked : TalkedOn before after second end asked) (whole : IsWhole before.left)
+pub served_whole : (before after : LinkView) (clock clock' : Option (ℕ → ℕ)) (end : SessionEnd) (asked : List Asked) (talked : TalkedOn before after clock clock' end asked) (whole : IsWhole before.left)
     → IsFaultless before after → IsServedWhole whole.messages talked.talk.frames before after end
-served_whole before after second end asked talked whole faultless =
+served_whole before after clock clock' end asked talked whole faultless =
     let left = left_told before.left after.left (concat whole.messages) talked.input end whole.told talked.read in
     let talk = talked.talk in
     let joined : concat whole.messages ≡ concat talk.frames ++ (talk.rest ++ left.new) =
     left.input_is ∙ ap (λ (w : List ℕ). w ++ left.new) talk.input_is ∙ append_assoc (concat talk.frames) talk.rest left.new
     in
     served_at before after end whole.messages talk.frames talk.last talk.rest left.new
-    (begins fresh talk.last talk.frames whole.messages asked talked.answers (talk.rest ++ left.new) talk.answered whole.fitting joined)
+    (begins fresh talk.last talk.frames whole.messages talked.seconds asked talked.answers (talk.rest ++ left.new) talk.answered whole.fitting joined)
     whole.few whole.told left.told talk.ended talk.count left.read_up talked.read_fault talked.write_fault faultless

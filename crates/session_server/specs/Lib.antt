@@ -1,5 +1,6 @@
 pub mod Talk
 pub mod Served
+pub mod Timed
 pub mod Steps
 pub mod Whole
 pub mod Backward

@@ -13,10 +13,11 @@ pub record Course (X : Type 0) : Type 0 where
 abbrev pub course : {X Y : Type 0} → (X → Y) → X → X → Course Y
 course view before after = record { before = view before; after = view after }
 
--- a worker's listener and random source
+-- a worker's listener, random source and clock
 pub record WorkerSpan (C : Type 0) : Type 0 where
   pub listener : Course (ListenerView C)
   pub entropy : Course EntropyView
+  pub clock : Course (Option (ℕ → ℕ))
 
 -- how many of n sessions worker j serves, if m workers share them: the first n % m serve one more than the others
 abbrev pub share_of : ℕ → ℕ → ℕ → ℕ
@@ -27,18 +28,18 @@ pub record Share (C : Type 0) : Type 0 where
   pub links : List (ServedLink C)
   pub asked : List Asked
 
--- a worker served this share of so many sessions; if fewer links came, the listener had no more, or what may stop it did
-pub record IsShare {C : Type 0} (link : C → LinkView) (second : Option ℕ) (MayStop : WorkerSpan C → Type 0) (sessions : ℕ) (worker : WorkerSpan C) (share : Share C) : Type 0 where
+-- a worker served this share of so many sessions, by its own clock; if fewer links came, the listener had no more, or what may stop it did
+pub record IsShare {C : Type 0} (link : C → LinkView) (MayStop : WorkerSpan C → Type 0) (sessions : ℕ) (worker : WorkerSpan C) (share : Share C) : Type 0 where
   pub gave : GaveBack sessions (MayStop worker) worker.listener.before worker.listener.after share.links
-  pub talked : TalkedOnEach link second share.links share.asked
+  pub talked : TalkedOnEach link worker.clock.before worker.clock.after share.links share.asked
 
 -- each worker from number j on served its share of n sessions
-abbrev pub AreShares : {C : Type 0} → (C → LinkView) → Option ℕ → (WorkerSpan C → Type 0) → ℕ → ℕ → ℕ → List (WorkerSpan C) → List (Share C) → Type 0
-AreShares link second MayStop n m j [] [] = ⊤
-AreShares link second MayStop n m j [] (share ∷ shares) = ⊥
-AreShares link second MayStop n m j (worker ∷ workers) [] = ⊥
-AreShares link second MayStop n m j (worker ∷ workers) (share ∷ shares) =
-    IsShare link second MayStop (share_of n m j) worker share × AreShares link second MayStop n m (suc j) workers shares
+abbrev pub AreShares : {C : Type 0} → (C → LinkView) → (WorkerSpan C → Type 0) → ℕ → ℕ → ℕ → List (WorkerSpan C) → List (Share C) → Type 0
+AreShares link MayStop n m j [] [] = ⊤
+AreShares link MayStop n m j [] (share ∷ shares) = ⊥
+AreShares link MayStop n m j (worker ∷ workers) [] = ⊥
+AreShares link MayStop n m j (worker ∷ workers) (share ∷ shares) =
+    IsShare link MayStop (share_of n m j) worker share × AreShares link MayStop n m (suc j) workers shares
 
 -- how the sessions of a share ended, and those of all shares, one after the other
 abbrev pub ends_of : {C : Type 0} → Share C → List SessionEnd

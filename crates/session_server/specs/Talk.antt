@@ -10,9 +10,9 @@ use Rattle.session_core.specs.Session.{Exchanged}
 use Rattle.session_server.specs.declared.ending.SessionEnd.{SessionEnd}
 use Rattle.session_server.specs.declared.ending.SessionEnd.TheVariants as ends
 
--- The first message is answered in a state, after at most one request, and Rest holds of the state after it and of what was asked and
--- answered for the others.
-pub record FirstAnswered (s : State) (frame : List ℕ) (asked : List Asked) (answers : List (List ℕ)) (Rest : State → List Asked → List (List ℕ) → Type 0) : Type 0 where
+-- The first message is answered in a state, at the first of the seconds, after at most one request, and Rest holds of the state after it and of
+-- the seconds, and what was asked and answered, for the others.
+pub record FirstAnswered (s : State) (frame seconds : List ℕ) (asked : List Asked) (answers : List (List ℕ)) (Rest : State → List ℕ → List Asked → List (List ℕ) → Type 0) : Type 0 where
   pub framed : IsFrame frame
   pub fits : length frame ≤ limit s
   pub second : ℕ
@@ -20,17 +20,19 @@ pub record FirstAnswered (s : State) (frame : List ℕ) (asked : List Asked) (an
   pub answer : List ℕ
   pub next : State
   pub exchanged : Exchanged s frame second request answer next
+  pub other_seconds : List ℕ
   pub others : List Asked
   pub other_answers : List (List ℕ)
-  pub rest : Rest next others other_answers
+  pub rest : Rest next other_seconds others other_answers
+  pub seconds_are : seconds ≡ second ∷ other_seconds
   pub asked_is : asked ≡ option_to_list request ++ others
   pub answers_are : answers ≡ answer ∷ other_answers
 
--- messages answered in order, from one state to another: what was asked for them, and the answer to each
-abbrev pub Answered : State → List (List ℕ) → List Asked → List (List ℕ) → State → Type 0
-Answered s [] asked answers last = (asked ≡ []) × (answers ≡ []) × (last ≡ s)
-Answered s (frame ∷ frames) asked answers last =
-    FirstAnswered s frame asked answers (λ next others other_answers. Answered next frames others other_answers last)
+-- messages answered in order, from one state to another: the second at which each was, what was asked for them, and the answer to each
+abbrev pub Answered : State → List (List ℕ) → List ℕ → List Asked → List (List ℕ) → State → Type 0
+Answered s [] seconds asked answers last = (seconds ≡ []) × (asked ≡ []) × (answers ≡ []) × (last ≡ s)
+Answered s (frame ∷ frames) seconds asked answers last =
+    FirstAnswered s frame seconds asked answers (λ next other_seconds others other_answers. Answered next frames other_seconds others other_answers last)
 
 -- the size that a message opens with, once its 4 bytes are there
 abbrev pub size_of : List ℕ → ℕ
@@ -69,13 +71,13 @@ EndsAfter n (ends.Cut had wanted) = n < 2 ^ 32
 EndsAfter n (ends.BadFrame size) = n < 2 ^ 32
 EndsAfter n ends.ReadFault = n < 2 ^ 32
 
--- a talk: the input is whole messages and a rest; there is an answer to each message
-pub record Talk (input : List ℕ) (asked : List Asked) (answers : List (List ℕ)) (end : SessionEnd) : Type 0 where
+-- a talk: the input is whole messages and a rest; there is a second and an answer for each message
+pub record Talk (input seconds : List ℕ) (asked : List Asked) (answers : List (List ℕ)) (end : SessionEnd) : Type 0 where
   pub frames : List (List ℕ)
   pub rest : List ℕ
   pub last : State
   pub input_is : input ≡ concat frames ++ rest
-  pub answered : Answered fresh frames asked answers last
+  pub answered : Answered fresh frames seconds asked answers last
   pub ended : EndsWith last rest end
   pub count : EndsAfter (length frames) end
 

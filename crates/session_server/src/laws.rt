@@ -13,8 +13,8 @@ use session_core::fids_are_found_by_looking_back;
 /// A session of whole messages over a link that never fails is done and answered them all, unless memory runs out, in which case
 /// it read nothing. It does nothing.
 pub fn a_session_of_whole_messages_is_done()
-    ensures { (before after : LinkView) (second : Option ℕ) (end : SessionEnd) (asked : List Asked)
-        (talked : TalkedOn before after second end asked) (whole : IsWhole before.left) → IsFaultless before after
+    ensures { (before after : LinkView) (clock clock' : Option (ℕ → ℕ)) (end : SessionEnd) (asked : List Asked)
+        (talked : TalkedOn before after clock clock' end asked) (whole : IsWhole before.left) → IsFaultless before after
         → IsServedWhole whole.messages talked.talk.frames before after end }
 {}
 

@@ -5,7 +5,7 @@
 //! Serves a link: reads its messages one at a time and writes each answer whole before the next is read.
 //!
 //! ```
-//! let end = serve_session(rt.alloc(), &mut link, &mut tree, &clock);
+//! let end = serve_session(rt.alloc(), &mut link, &mut tree, &mut clock);
 //! println!(rt; "the session ended: {end:?}")?;
 //! ```
 //!
@@ -14,8 +14,8 @@
 //! Workers: each serves its share of the sessions, one link of its listener after another, in a thread of its own.
 //!
 //! ```text
-//! let mut crews = vec![in alloc; Crew::new(listener, object)]?;
-//! let counts = run_workers(&rt, alloc, 100, 1, &mut crews, &clock)?; // 100 sessions, or as many as came
+//! let mut crews = vec![in alloc; Crew::new(listener, object, clock)]?;
+//! let counts = run_workers(&rt, alloc, 100, 1, &mut crews)?; // 100 sessions, or as many as came
 //! println!(rt; "{} sessions, {} of them done", counts.sessions, counts.done)?;
 //! ```
 //!

@@ -30,7 +30,7 @@ fn answer_messages<L: Link, B: TreeObject, K: Clock>(
     mut session: Session,
     link: &mut L,
     object: &mut B,
-    clock: &K,
+    clock: &mut K,
     frame: &mut [u8],
     out: &mut [u8],
 ) -> SessionEnd
@@ -39,7 +39,7 @@ fn answer_messages<L: Link, B: TreeObject, K: Clock>(
     requires out { most_message ≤ length out.old }
     ensures talked { HasTalked B.stands object.old object.new
         (link_in L.Link link.old)
-        (link_in L.Link link.new) (K.second clock.now) result }
+        (link_in L.Link link.new) (K.to_give clock.old) (K.to_give clock.new) result }
 {
     let mut answered: u64 = 0;
     while answered < MESSAGE_LIMIT {
@@ -59,17 +59,18 @@ fn answer_messages<L: Link, B: TreeObject, K: Clock>(
 
 /// Serves one link until its session ends. Each answer is written whole before a byte of the next message is read, so a client
 /// may wait for each answer. The session's fids and two buffers of 65,560 bytes are taken at the start, and no
-/// memory after them; if it is refused, nothing was read. `clock` gives the seconds of the requests, since 1970-01-01.
+/// memory after them; if it is refused, nothing was read. `clock` gives the seconds of the requests, since 1970-01-01: it is read once for each
+/// message, when it is there whole.
 pub fn serve_session<L: Link, B: TreeObject, K: Clock>(
     alloc: Global,
     link: &mut L,
     object: &mut B,
-    clock: &K,
+    clock: &mut K,
 ) -> SessionEnd
     // There is one talk that was held: what was asked in it is what the object stands for from now on.
     ensures talked { HasTalked B.stands object.old object.new
         (link_in L.Link link.old)
-        (link_in L.Link link.new) (K.second clock.now) result }
+        (link_in L.Link link.new) (K.to_give clock.old) (K.to_give clock.new) result }
 {
     let Ok(session) = Session::new(alloc) else {
         return SessionEnd::Memory;

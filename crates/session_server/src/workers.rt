@@ -34,33 +34,31 @@ fn share_of(sessions: u32, at_once: usize, worker: usize) -> u32
 // The worker of this number serves its share.
 fn serve_crew<N: Listener, B: TreeObject, K: Clock>(
     alloc: Global,
-    crew: &mut Crew<N, B>,
-    clock: &K,
+    crew: &mut Crew<N, B, K>,
     sessions: u32,
     at_once: usize,
     worker: usize,
 )
     ensures { HasServedShare B.stands (listener_in N.Listener)
-        (link_in N.Conn.Link) (K.second clock.now)
+        (link_in N.Conn.Link) K.to_give
         (sharing.share_of sessions at_once worker) crew.old crew.new }
 {
-    serve_share(alloc, crew, clock, share_of(sessions, at_once, worker));
+    serve_share(alloc, crew, share_of(sessions, at_once, worker));
 }
 
 // All workers serve their shares, each in a thread of its own if one can be made.
-fn serve_crews<R: Threads + Sync, N: Listener + Send, B: TreeObject + Send, K: Clock + Sync>(
+fn serve_crews<R: Threads + Sync, N: Listener + Send, B: TreeObject + Send, K: Clock + Send>(
     rt: &R,
     alloc: Global,
     sessions: u32,
     at_once: usize,
-    crews: &mut [Crew<N, B>],
-    clock: &K,
+    crews: &mut [Crew<N, B, K>],
 )
 where
     N::Conn: Send,
     ensures same { length crews.new ≡ length crews.old }
-    ensures served { (j : ℕ) (d : kept.Crew N B) → j < length crews.old → HasServedShare B.stands (listener_in N.Listener)
-        (link_in N.Conn.Link) (K.second clock.now)
+    ensures served { (j : ℕ) (d : kept.Crew N B K) → j < length crews.old → HasServedShare B.stands (listener_in N.Listener)
+        (link_in N.Conn.Link) K.to_give
         (sharing.share_of sessions at_once j) (slice_index_or crews.old j d) (slice_index_or crews.new j d) }
 {
     let threads = crews.len().max(1);
@@ -68,12 +66,12 @@ where
         rt,
         crews,
         threads,
-        &|worker, crew| { serve_crew(alloc, crew, clock, sessions, at_once, worker) },
+        &|worker, crew| { serve_crew(alloc, crew, sessions, at_once, worker) },
     );
 }
 
 // The ends of the sessions of all crews, counted; `Failed` if some listener failed. There are fewer than 2^32 of them.
-fn all_counts<N: Listener, B>(crews: &[Crew<N, B>]) -> Result<SessionCounts, Failed>
+fn all_counts<N: Listener, B, K>(crews: &[Crew<N, B, K>]) -> Result<SessionCounts, Failed>
     requires few { (shares : List (sharing.Share N.Conn)) × AreCountsOf crews.now shares × (length (sharing.all_ends shares) < 2 ^ 32) }
     ensures counted { (shares : List (sharing.Share N.Conn)) → AreCountsOf crews.now shares
         → IfOk result (λ counts. AreCounts counts (sharing.all_ends shares)) }
@@ -99,20 +97,19 @@ fn all_counts<N: Listener, B>(crews: &[Crew<N, B>]) -> Result<SessionCounts, Fai
 /// # Errors
 ///
 /// `Failed` if some worker's listener failed: its count of faults rose.
-pub fn run_workers<R: Threads + Sync, N: Listener + Send, B: TreeObject + Send, K: Clock + Sync>(
+pub fn run_workers<R: Threads + Sync, N: Listener + Send, B: TreeObject + Send, K: Clock + Send>(
     rt: &R,
     alloc: Global,
     sessions: u32,
     at_once: usize,
-    crews: &mut [Crew<N, B>],
-    clock: &K,
+    crews: &mut [Crew<N, B, K>],
 ) -> Result<SessionCounts, Failed>
 where
     N::Conn: Send,
     ensures served { HaveServed B.stands (listener_in N.Listener)
-        (link_in N.Conn.Link) (K.second clock.now)
+        (link_in N.Conn.Link) K.to_give
         sessions at_once crews.old crews.new result }
 {
-    serve_crews(rt, alloc, sessions, at_once, crews, clock);
+    serve_crews(rt, alloc, sessions, at_once, crews);
     all_counts(crews)
 }

@@ -50,6 +50,12 @@ pub const CLUNK: &[u8] = b"\x0b\0\0\0\x78\x01\0\x01\0\0\0";
 
 pub const CLUNK_SAID: &[u8] = b"\x07\0\0\0\x79\x01\0";
 
+/// A stat of fid 0 that touches nothing.
+pub const SYNC: &[u8] =
+    b"\x3e\0\0\0\x7e\x01\0\0\0\0\0\x31\0\x2f\0\xff\xff\xff\xff\xff\xff\xff\xff\xff\xff\xff\xff\xff\xff\xff\xff\xff\xff\xff\xff\xff\xff\xff\xff\xff\xff\xff\xff\xff\xff\xff\xff\xff\xff\xff\xff\xff\xff\xff\0\0\0\0\0\0\0\0";
+
+pub const SYNC_SAID: &[u8] = b"\x07\0\0\0\x7f\x01\0";
+
 pub const NOT_PERMITTED: &[u8] = b"\x16\0\0\0\x6b\x01\0\x0d\0not permitted";
 
 pub const UNKNOWN_MESSAGE: &[u8] = b"\x18\0\0\0\x6b\x01\0\x0f\0unknown message";

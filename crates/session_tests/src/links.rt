@@ -46,7 +46,7 @@ fn connect(
 }
 
 fn serve_client(alloc: Global, link: &mut MemLink) -> SessionEnd {
-    serve_session(alloc, link, &mut OneFile::new(), &SetClock::new(100))
+    serve_session(alloc, link, &mut OneFile::new(), &mut SetClock::new(100))
 }
 
 #[test]

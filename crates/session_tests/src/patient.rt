@@ -89,7 +89,7 @@ fn a_client_that_waits_gets_each_answer(rt: HostRuntime) -> Result<(), Fail> {
         rt.alloc(),
         &mut client,
         &mut Obliging::new(),
-        &SetClock::new(100),
+        &mut SetClock::new(100),
     );
     assert_eq!(rt; end, SessionEnd::Done);
     assert_eq!(rt; client.at, TALK.len());

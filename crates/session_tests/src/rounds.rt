@@ -21,7 +21,7 @@ struct Round {
 fn workers_at<'a>(
     alloc: Global,
     turns: &'a [AtomicU64],
-) -> Option<Vec<Worker<OneLink<'a>, NoEntropy>>> {
+) -> Option<Vec<Worker<OneLink<'a>, NoEntropy, Sundial>>> {
     let mut workers = Vec::new(alloc);
     for at in 0..turns.len() {
         let next = if at + 1 < turns.len() { at + 1 } else { 0 };
@@ -30,6 +30,7 @@ fn workers_at<'a>(
             .push(Worker {
                 listener: OneLink::new(link),
                 entropy: NoEntropy { faults: 0 },
+                clock: Sundial,
             })
             .ok()?;
     }
@@ -56,7 +57,6 @@ fn serve<R: Threads + Wait + Sync>(
         sessions,
         at_once,
         &mut workers,
-        &Sundial,
     ).ok()?;
     Some(Round {
         asked: served.tree.asked,

@@ -45,7 +45,7 @@ fn no_frame_is_larger_than_what_was_agreed(rt: HostRuntime) -> Result<(), Fail> 
             rt.alloc(),
             &mut link,
             &mut Obliging::new(),
-            &SetClock::new(100),
+            &mut SetClock::new(100),
         );
         assert_eq!(rt; ended, end, "{input:?}");
         assert_eq!(rt; link.sink().taken(), taken, "{input:?}");

@@ -26,7 +26,7 @@ fn expect_talk(
     let mut tree = OneFile::new();
     let source = MemSource::new(alloc, frames_of(alloc, rows)?);
     let mut link = MemLink::new(alloc, source, MemSink::new(alloc))?;
-    let end = serve_session(alloc, &mut link, &mut tree, &SetClock::new(100));
+    let end = serve_session(alloc, &mut link, &mut tree, &mut SetClock::new(100));
     assert_eq!(rt; end, SessionEnd::Done, "{shows}");
     let mut rest = link.sink().taken();
     for (frame, answer) in rows {
@@ -162,10 +162,7 @@ const CHANGES: [Row; 4] = [
     (VERSION, VERSION_SAID),
     (ATTACH, ATTACH_SAID),
     // A stat that touches nothing, and one with a mode.
-    (
-        b"\x3e\0\0\0\x7e\x01\0\0\0\0\0\x31\0\x2f\0\xff\xff\xff\xff\xff\xff\xff\xff\xff\xff\xff\xff\xff\xff\xff\xff\xff\xff\xff\xff\xff\xff\xff\xff\xff\xff\xff\xff\xff\xff\xff\xff\xff\xff\xff\xff\xff\xff\xff\0\0\0\0\0\0\0\0",
-        b"\x07\0\0\0\x7f\x01\0",
-    ),
+    (SYNC, SYNC_SAID),
     (
         b"\x3e\0\0\0\x7e\x01\0\0\0\0\0\x31\0\x2f\0\xff\xff\xff\xff\xff\xff\xff\xff\xff\xff\xff\xff\xff\xff\xff\xff\xff\xff\xff\xa4\x01\0\0\xff\xff\xff\xff\xff\xff\xff\xff\xff\xff\xff\xff\xff\xff\xff\xff\0\0\0\0\0\0\0\0",
         NOT_PERMITTED,

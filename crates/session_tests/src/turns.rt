@@ -131,9 +131,9 @@ impl Entropy for NoEntropy {
 pub struct Sundial;
 
 impl Clock for Sundial {
-    ghost second = { λ _. None };
+    ghost to_give = { λ _. None };
 
-    fn now(&self) -> u32 {
+    fn now(&mut self) -> u32 {
         0
     }
 }

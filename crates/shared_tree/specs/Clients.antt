@@ -4,11 +4,11 @@ use Rattle.outside.specs.Views.{EntropyView}
 use Rattle.tree_model.specs.Asked.{Asked, entered}
 use Rattle.tree_model.specs.Rows.{Rows}
 use Rattle.tree_model.specs.History.{Made, Entry, Origin, entries_of, tally_of}
-use Rattle.turn_lock.specs.declared.TheConstants.{TURN_LIMIT}
+use Rattle.turn_lock.specs.Limits.{turn_limit}
 use Rattle.turn_lock.specs.declared.history.Ended.{Ended}
 use Rattle.turn_lock.specs.SeatView.{SeatView}
 use Rattle.turn_lock.specs.Seats.{IsSpent}
-use Rattle.shared_tree.specs.declared.TheConstants.{MOST_TICKETS}
+use Rattle.shared_tree.specs.Limits.{most_tickets}
 use Rattle.shared_tree.specs.Turns.{entries_in, StandsFor}
 use Rattle.shared_tree.specs.Trees.{IsDrawnFor, IsMadeOf}
 
@@ -42,7 +42,7 @@ pub record HasEntry {E : Type 0} (draws : Option (List ℕ) → Option (List ℕ
   pub seen : new.seat.seen ≡ (old.seat.seen ++ between) ++ record { by = old.seat.number; entry = Some made } ∷ []
   pub others : made_by old.seat.number between ≡ []
   pub seat : new.seat ≡ record old.seat { drawn = new.seat.drawn; seen = new.seat.seen }
-  pub tickets : new.seat.drawn ≤ old.seat.drawn + MOST_TICKETS
+  pub tickets : new.seat.drawn ≤ old.seat.drawn + most_tickets
   pub in_time : old.seat.ticket ≡ None
   pub faults : (view old.entropy).faults ≤ (view new.entropy).faults
 
@@ -69,7 +69,7 @@ AreDrawnFor draws before after (made ∷ others) = FirstDrawn draws before made 
 pub record IsLate (seat : SeatView Made) : Type 0 where
   pub ticket : ℕ
   pub has : seat.ticket ≡ Some ticket
-  pub past : TURN_LIMIT ≤ ticket
+  pub past : turn_limit ≤ ticket
 
 -- What a client has asked since a time: it has seen turns since, in which its own entries are, in order, what was asked, but for requests
 -- for which no turn was left; and its random source gave what was drawn for them. It drew few tickets for each request.
@@ -80,5 +80,5 @@ pub record HasAsked {E : Type 0} (draws : Option (List ℕ) → Option (List ℕ
   pub seen : now.seat.seen ≡ start.seat.seen ++ more
   pub own : map (λ made. made.asked) (made_by start.seat.number more) ≡ entered asked
   pub drawn : AreDrawnFor draws (view start.entropy) (view now.entropy) (made_by start.seat.number more)
-  pub tickets : now.seat.drawn ≤ start.seat.drawn + MOST_TICKETS * length asked
+  pub tickets : now.seat.drawn ≤ start.seat.drawn + most_tickets * length asked
   pub in_time : (entered asked ≡ asked) ⊎ IsLate now.seat

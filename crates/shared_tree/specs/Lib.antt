@@ -1,3 +1,4 @@
+pub mod Limits
 pub mod Turns
 pub mod Trees
 pub mod Clients

@@ -19,13 +19,17 @@
 //! Many workers' sessions over one shared tree: all that is asked in them is one history.
 //!
 //! ```text
-//! let mut workers = vec![in alloc; Worker { listener, entropy }]?;
-//! let Ok(served) = serve_all(&rt, alloc, tree, 100, 1, &mut workers, &clock) else { return out_of_memory() };
+//! let mut workers = vec![in alloc; Worker { listener, entropy, clock }]?;
+//! let Ok(served) = serve_all(&rt, alloc, tree, 100, 1, &mut workers) else { return out_of_memory() };
 //! println!(rt; "{} sessions", served.counts?.sessions)?; // `served.tree` stands for all that was asked
 //! ```
 //!
-//! Worker j is caller number j of the history: its entries are, in order, what was asked on the links of its listener.
+//! Worker j is caller number j of the history: its entries are, in order, what was asked on the links of its listener, at the seconds that its
+//! clock gave.
 #![tactic(auto)]
+
+ghost use Rattle.std.specs.Prelude.{◌≡◌};
+ghost use Rattle.shared_tree.specs.Limits.{most_tickets};
 
 mod client;
 mod held;
@@ -45,3 +49,8 @@ pub use workers::Worker;
 
 /// How many tickets a client draws for one request at most.
 pub const MOST_TICKETS: u64 = 17;
+
+/// The number of tickets in the code is that of the definitions. It does nothing.
+pub fn most_tickets_is_the_definitions()
+    ensures { MOST_TICKETS ≡ most_tickets }
+{}

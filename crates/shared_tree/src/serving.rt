@@ -35,22 +35,21 @@ struct Seated<S> {
 }
 
 // Runs the crews of a vector.
-fn run_all<R: Threads + Sync, N: Listener + Send, B: TreeObject + Send, K: Clock + Sync>(
+fn run_all<R: Threads + Sync, N: Listener + Send, B: TreeObject + Send, K: Clock + Send>(
     rt: &R,
     alloc: Global,
     sessions: u32,
     at_once: usize,
-    crews: &mut Vec<Crew<N, B>>,
-    clock: &K,
+    crews: &mut Vec<Crew<N, B, K>>,
 ) -> Result<SessionCounts, Failed>
 where
     N::Conn: Send,
     ensures same { length crews.new.items ≡ length crews.old.items }
     ensures served { HaveServed B.stands (listener_in N.Listener)
-        (link_in N.Conn.Link) (K.second clock.now)
+        (link_in N.Conn.Link) K.to_give
         sessions at_once crews.old.items crews.new.items result }
 {
-    run_workers(rt, alloc, sessions, at_once, crews.as_mut_slice(), clock)
+    run_workers(rt, alloc, sessions, at_once, crews.as_mut_slice())
 }
 
 // All workers over a shared tree. `Err`: memory ran out, and nothing was served.
@@ -60,7 +59,7 @@ fn serve_seats<
     B: Start + Send + Sync,
     N: Listener + Send,
     E: Entropy + Send,
-    K: Clock + Sync,
+    K: Clock + Send,
 >(
     rt: &R,
     alloc: Global,
@@ -68,15 +67,14 @@ fn serve_seats<
     mut seats: Vec<Seat<Held<T, B>>>,
     sessions: u32,
     at_once: usize,
-    workers: &mut Vec<Worker<N, E>>,
-    clock: &K,
+    workers: &mut Vec<Worker<N, E, K>>,
 ) -> Result<Seated<Seat<Held<T, B>>>, Vec<Seat<Held<T, B>>>>
 where
     N::Conn: Send,
     requires here { AllByRecursion (λ seat. seat.lock ≡ shared.now.id) seats.items }
     requires ready { AreReady B.is E.faults seats.items workers.old.items }
     ensures ok { IfOk result (λ seated. HaveWorked B.is T.draws (listener_in N.Listener) (entropy_in E.Entropy)
-        (link_in N.Conn.Link) (K.second clock.now)
+        (link_in N.Conn.Link) K.to_give
         sessions at_once seats.items workers.old.items seated.seats.items workers.new.items seated.counts) }
     ensures err { IfErr result (λ left. (left.items ≡ seats.items) × (workers.new.items ≡ workers.old.items)) }
 {
@@ -84,7 +82,7 @@ where
         return Err(seats);
     };
     hire(rt, shared, &mut seats, workers, &mut crews);
-    let counts = run_all(rt, alloc, sessions, at_once, &mut crews, clock);
+    let counts = run_all(rt, alloc, sessions, at_once, &mut crews);
     dismiss(crews, &mut seats, workers);
     Ok(Seated { seats, counts })
 }
@@ -101,15 +99,14 @@ pub fn serve_all<
     B: Start + Send + Sync,
     N: Listener + Send,
     E: Entropy + Send,
-    K: Clock + Sync,
+    K: Clock + Send,
 >(
     rt: &R,
     alloc: Global,
     tree: T,
     sessions: u32,
     at_once: usize,
-    workers: &mut Vec<Worker<N, E>>,
-    clock: &K,
+    workers: &mut Vec<Worker<N, E, K>>,
 ) -> Result<Served<T>, Option<T>>
 where
     N::Conn: Send,
@@ -118,12 +115,12 @@ where
     requires since { (rows : Rows) (origin : Origin) → B.is rows origin → AreSince E.faults origin 0 workers.old.items }
     ensures joined { IfOk result (λ served. (rows : Rows) × (origin : Origin) × B.is rows origin
         × IsJoined T.stands T.draws (listener_in N.Listener) (entropy_in E.Entropy)
-        (link_in N.Conn.Link) (K.second clock.now)
+        (link_in N.Conn.Link) K.to_give
         sessions at_once rows origin served.tree workers.old.items workers.new.items served.counts) }
     ensures err { IfErr result (λ left. (workers.new.items ≡ workers.old.items) × IfSome left (λ t. StandsFor B.is T.stands t [])) }
 {
     let (shared, seats) = Shared::<T, B>::new(alloc, tree, workers.len())?;
-    match serve_seats(rt, alloc, &shared, seats, sessions, at_once, workers, clock) {
+    match serve_seats(rt, alloc, &shared, seats, sessions, at_once, workers) {
         Ok(Seated { seats, counts }) => Ok(Served {
             tree: shared.close(seats),
             counts,

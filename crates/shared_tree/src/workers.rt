@@ -13,11 +13,12 @@ use session_server::Crew;
 use std::sync::Wait;
 use turn_lock::Seat;
 
-/// One who serves links: where they come from, and a source of random bytes.
+/// One who serves links: where they come from, a source of random bytes, and a clock.
 #[derive(Drop)]
-pub struct Worker<N, E> {
+pub struct Worker<N, E, K> {
     pub listener: N,
     pub entropy: E,
+    pub clock: K,
 }
 
 // The elements in the other order.
@@ -29,12 +30,12 @@ fn turn_round<X>(all: &mut Vec<X>)
 }
 
 /// Each worker gets a client with the seat of its place.
-pub(crate) fn hire<'a, R: Wait, T: SharedTree, B: Start, N: Listener, E: Entropy>(
+pub(crate) fn hire<'a, R: Wait, T: SharedTree, B: Start, N: Listener, E: Entropy, K>(
     rt: &'a R,
     shared: &'a Shared<T, B>,
     seats: &mut Vec<Seat<Held<T, B>>>,
-    workers: &mut Vec<Worker<N, E>>,
-    crews: &mut Vec<Crew<N, Client<'a, R, T, B, E>>>,
+    workers: &mut Vec<Worker<N, E, K>>,
+    crews: &mut Vec<Crew<N, Client<'a, R, T, B, E>, K>>,
 )
     requires here { AllByRecursion (λ seat. seat.lock ≡ shared.now.id) seats.old.items }
     requires ready { AreReady B.is E.faults seats.old.items workers.old.items }
@@ -48,19 +49,23 @@ pub(crate) fn hire<'a, R: Wait, T: SharedTree, B: Start, N: Listener, E: Entropy
         let Some(worker) = workers.pop() else {
             unreachable!()
         };
-        let Worker { listener, entropy } = worker;
+        let Worker {
+            listener,
+            entropy,
+            clock,
+        } = worker;
         let client = Client::new(shared, rt, seat, entropy);
-        let crew = Crew::new(listener, client);
+        let crew = Crew::new(listener, client, clock);
         crews.push_reserved(crew);
     }
     turn_round(crews);
 }
 
 /// Each crew's client leaves, and gives its seat and its random source back.
-pub(crate) fn dismiss<'a, R: Wait, T: SharedTree, B: Start, N: Listener, E: Entropy>(
-    mut crews: Vec<Crew<N, Client<'a, R, T, B, E>>>,
+pub(crate) fn dismiss<'a, R: Wait, T: SharedTree, B: Start, N: Listener, E: Entropy, K>(
+    mut crews: Vec<Crew<N, Client<'a, R, T, B, E>, K>>,
     seats: &mut Vec<Seat<Held<T, B>>>,
-    workers: &mut Vec<Worker<N, E>>,
+    workers: &mut Vec<Worker<N, E, K>>,
 )
     requires none { (seats.old.items ≡ []) × (workers.old.items ≡ []) }
     requires room { (vec_len crews ≤ vec_capacity seats.old) × (vec_len crews ≤ vec_capacity workers.old) }
@@ -71,12 +76,17 @@ pub(crate) fn dismiss<'a, R: Wait, T: SharedTree, B: Start, N: Listener, E: Entr
         let Crew {
             listener,
             object,
+            clock,
             counts: _,
             failed: _,
         } = crew;
         let (seat, entropy) = object.leave();
         seats.push_reserved(seat);
-        workers.push_reserved(Worker { listener, entropy });
+        workers.push_reserved(Worker {
+            listener,
+            entropy,
+            clock,
+        });
     }
     crews.destroy_empty();
     turn_round(seats);

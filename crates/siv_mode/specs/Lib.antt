@@ -1,5 +1,4 @@
 pub mod Cmac
 pub mod Absorbed
 pub mod Siv
-pub mod Keys
 pub mod Counted

@@ -3,8 +3,8 @@ ghost use Rattle.aes_block.specs.Aes.{aes};
 ghost use Rattle.aes_block.specs.Bytes.{AreBytes};
 ghost use Rattle.siv_mode.specs.Siv.{siv_sealed, siv_opened};
 
-use crate::keys::VaultKeys;
 use aes_block::BlockKey;
+use vault_keys::VaultKeys;
 
 /// States what sealing and opening (RFC 5297, 2.6 and 2.7) under a vault's keys come to: a sealed
 /// text has 16 bytes more than its text, sealing bytes gives bytes, and opening accepts exactly

@@ -2,7 +2,7 @@
 //! block cipher on blocks of 16 bytes.
 //!
 //! ```
-//! let keys = VaultKeys::new(&[1; 32], &[2; 32]);
+//! let keys = vault_keys::VaultKeys::new(&[1; 32], &[2; 32]);
 //! let mut sealed = [0; TAG_LEN + 5];
 //! let (mac, ctr) = (keys.mac_lanes(), keys.encryption_lanes());
 //! seal(mac, ctr, Some(b"folder"), b"hello", &mut sealed);
@@ -16,13 +16,11 @@
 #![tactic(auto)]
 
 mod blocks;
-mod keys;
 mod keystream;
 mod laws;
 mod mac;
 mod siv;
 
-pub use keys::VaultKeys;
 pub use laws::opening_is_exact;
 pub use mac::cmac;
 pub use siv::{BadTag, TAG_LEN, open, s2v, seal};

@@ -4,11 +4,11 @@ use Rattle.outside.specs.Calls.{Changes, Told}
 use Rattle.outside.specs.Disk.{Disk}
 use Rattle.outside.specs.Images.{Log, now}
 use Rattle.outside.specs.Views.{FolderView}
-use Rattle.outside.proofs.Told.{changed_from, told_then}
+use Rattle.outside.proofs.Told.{changed_by, told_then}
 use Rattle.deeds.specs.Deeds.{PlainDeed, LogGoesOn}
-use Rattle.deeds.proofs.Growing.{grown_on, leaves_go_on}
-use Rattle.chunk_journal.specs.Journal.{AnyMoment, IsBeforeOrAfter, IsReopenable, RecoversTo}
-use Rattle.pending_files.specs.Laid.{laid}
+use Rattle.deeds.proofs.Growing.{grown_on}
+use Rattle.chunk_journal.specs.Journal.{AnyMoment, IsReopenable, RecoversTo, TidySince}
+use Rattle.chunk_journal.proofs.Tidy.{tidy_goes}
 use Rattle.pending_files.proofs.Batched.{is_repeatable}
 use Rattle.tree_model.specs.Rows.{Rows}
 use Rattle.tree_model.specs.History.{Entry, Origin, rows_at, tally_of}
@@ -18,7 +18,7 @@ use Rattle.crash_laws.specs.Stands.{IsRunning}
 use Rattle.crash_laws.proofs.Images.{rest_recovers, rest_reopens}
 use Rattle.crash_laws.proofs.Moves.{shows_all}
 use Rattle.crash_laws.proofs.Openings.{opening_recovers}
-use Rattle.crash_laws.proofs.States.{state_runs}
+use Rattle.crash_laws.proofs.States.{state_runs, state_tidy}
 use Rattle.crash_laws.proofs.Stops.{closes_broken, state_stops}
 use Rattle.store_laws.specs.Store.{StoreView, ArePlaced, ArePlacedSince, IsPlacedOn, IsSaidFrom, IsStoredIn, IsStoreOf, IsTakenBy, moment_of, shows_under}
 use Rattle.store_laws.specs.Ends.{ClosingsRecover, FailedOpeningsRecover, IsCutShort, StoresRecover, StoresAreWhole}
@@ -35,6 +35,8 @@ stores_recover found store folder rows origin history is = record {
   stops = told_then folder.log (IsStoredIn found store rows origin history) (λ log. (opened : ℕ) → IsSaidFrom found origin opened → StopsRecover (shows_under found store.keys) opened rows history log) is.stored
       (λ log stored opened from. state_stops (shows_under found store.keys) rows opened history store.waiting log (tally_of origin history).stopped (stored.state opened from));
   begun = told_then folder.log (IsStoredIn found store rows origin history) (HasBegun found store.keys rows origin) is.stored (λ log stored. stored.begun);
+  tidy = told_then folder.log (IsStoredIn found store rows origin history) (λ log. (opened : ℕ) → IsSaidFrom found origin opened → TidySince opened log) is.stored
+      (λ log stored opened from. state_tidy (shows_under found store.keys) opened rows history store.waiting log (tally_of origin history).stopped (stored.state opened from));
 }
 
 -- with nothing pending the disk shows all entries, and at rest it is its only image
@@ -63,8 +65,7 @@ stores_are_whole found store folder rows origin history is idle none =
 module _ (found : Option Log) (store : StoreView) (before after : FolderView) (rows : Rows) (origin : Origin) (history : List Entry) (is : IsStoreOf found store before rows origin history) (none : IsNone (tally_of origin history).stopped)
     (any : Changes before.log after.log (AnyMoment store.waiting)) where
   grown : Changes before.log after.log LogGoesOn
-  grown = changed_from before.log after.log (IsStoredIn found store rows origin history) (AnyMoment store.waiting) LogGoesOn
-      (λ a b stored moments. leaves_go_on a b (IsBeforeOrAfter (now a) (laid store.waiting (now a))) (moments (laid store.waiting (now a)) (stored.waits none).does)) is.stored any
+  grown = changed_by before.log after.log (AnyMoment store.waiting) LogGoesOn (λ a b moments. moments.tidy.grown) any
 
   recovers_on : (a b : Log) → IsStoredIn found store rows origin history a → AnyMoment store.waiting a b → (opened : ℕ) → IsSaidFrom found origin opened → StopsRecover (shows_under found store.keys) opened rows history b
   recovers_on a b stored moments opened from =
@@ -77,6 +78,14 @@ module _ (found : Option Log) (store : StoreView) (before after : FolderView) (r
   recovers_told None (Some b) stored moments = absurd moments
   recovers_told (Some a) None stored moments = absurd moments
   recovers_told (Some a) (Some b) stored moments = recovers_on a b stored moments
+
+  tidy_told : (a b : Option Log) → Told a (IsStoredIn found store rows origin history) → Changes a b (AnyMoment store.waiting)
+      → Told b (λ log. (opened : ℕ) → IsSaidFrom found origin opened → TidySince opened log)
+  tidy_told None None stored moments = tt
+  tidy_told None (Some b) stored moments = absurd moments
+  tidy_told (Some a) None stored moments = absurd moments
+  tidy_told (Some a) (Some b) stored moments = λ opened from.
+      tidy_goes opened a b (state_tidy (shows_under found store.keys) opened rows history store.waiting a (tally_of origin history).stopped (stored.state opened from)) moments.tidy
 
   placed_told : (a b : Option Log) → (tally_of origin history).moment ≤ moment_of a → Told a (IsStoredIn found store rows origin history) → Changes a b LogGoesOn
       → Told b (ArePlaced store.keys rows origin history) × Told b (ArePlacedSince store.keys store.live origin history)
@@ -100,7 +109,11 @@ module _ (found : Option Log) (store : StoreView) (before after : FolderView) (r
     opened = opened_goes_on origin.moment found before.log after.log (begins_low origin history (moment_of before.log) is.caused is.moment) is.opened grown;
     placed = (placed_told before.log after.log is.moment is.stored grown).0;
     placed_since = (placed_told before.log after.log is.moment is.stored grown).1;
-    recover = record { stops = recovers_told before.log after.log is.stored any; begun = begun_told before.log after.log is.moment is.stored grown };
+    recover = record {
+      stops = recovers_told before.log after.log is.stored any;
+      begun = begun_told before.log after.log is.moment is.stored grown;
+      tidy = tidy_told before.log after.log is.stored any;
+    };
     moment = omega (arith, is.moment, moments_rise before.log after.log LogGoesOn goes_later grown);
   }
 

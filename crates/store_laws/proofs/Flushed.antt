@@ -4,10 +4,10 @@ use Rattle.outside.specs.Calls.{Changes, Told}
 use Rattle.outside.specs.Disk.{Disk, Path as HostPath}
 use Rattle.outside.specs.Images.{Log, disk_in, log_at, moment, now}
 use Rattle.outside.specs.Views.{FolderView, EntropyView}
-use Rattle.outside.proofs.Told.{changed_from}
+use Rattle.outside.proofs.Told.{changed_by, changed_from}
 use Rattle.deeds.specs.Deeds.{PlainDeed, LogGoesOn}
-use Rattle.deeds.proofs.Growing.{grown_on, leaves_go_on}
-use Rattle.chunk_journal.specs.Journal.{AnyMoment, HasCommitted, IsAlike, IsBeforeOrAfter}
+use Rattle.deeds.proofs.Growing.{grown_on}
+use Rattle.chunk_journal.specs.Journal.{AnyMoment, HasCommitted, IsAlike}
 use Rattle.pending_files.specs.Laid.{CanWait, LookAlike, laid}
 use Rattle.pending_files.proofs.Batched.{is_repeatable}
 use Rattle.pending_files.proofs.Laying.{looks_alike, none_waits}
@@ -58,9 +58,6 @@ module _ (old : StoreView) (before after : FolderView) (found : Option Log) (row
   looks a b stored committed =
       looks_through (now a) (laid old.waiting (now a)) (now b) (looks_alike old.waiting (now a) (stored.waits none)) (looks_beside (laid old.waiting (now a)) (now b) (beside a b stored committed))
 
-  goes : (a b : Log) → Stored a → AnyMoment old.waiting a b → LogGoesOn a b
-  goes a b stored any = leaves_go_on a b (IsBeforeOrAfter (now a) (laid old.waiting (now a))) (any (laid old.waiting (now a)) (stored.waits none).does)
-
   flushed_on : (a b : Log) → tally.moment ≤ moment a → Stored a → HasCommitted old.waiting a b → AnyMoment old.waiting a b → IsStoredIn found idle rows origin history b
   flushed_on a b late stored committed any =
       let has : HasRows old (laid old.waiting (now a)) rows history = stored.tree none in
@@ -69,7 +66,7 @@ module _ (old : StoreView) (before after : FolderView) (found : Option Log) (row
         state = λ opened from. in_state (shows_under found old.keys) opened rows history [] b tally.stopped none
             (settles (shows_under found old.keys) opened rows (shows_blind found old.keys) history old.waiting a b (is_repeatable old.waiting waits.pending)
             (state_runs (shows_under found old.keys) opened rows history old.waiting a tally.stopped none (stored.state opened from)) any committed);
-        begun = begun_goes_on found old.keys rows origin history a b (goes a b stored any) store.caused late stored.begun;
+        begun = begun_goes_on found old.keys rows origin history a b any.tidy.grown store.caused late stored.begun;
         waits = λ _. none_waits (now b);
         within = λ _. tt;
         strays = λ _. keeps_itself (sealing_of old.keys) (now b);
@@ -80,11 +77,11 @@ module _ (old : StoreView) (before after : FolderView) (found : Option Log) (row
           stands = stands_beside (sealing_of old.keys) (laid old.waiting (now a)) (now b) old.live old.claims has.contents has.stands committed.at_rest.steady.tree (beside a b stored committed);
           current = has.current;
         };
-        since = λ _. subst (λ (d : Disk). LookAlike d (now b)) (read_then a b tally.moment (goes a b stored any) late)
+        since = λ _. subst (λ (d : Disk). LookAlike d (now b)) (read_then a b tally.moment any.tidy.grown late)
             (looks_through (now (log_at a tally.moment)) (now a) (now b) (stored.since none) (looks a b stored committed));
         answered = stored.answered;
-        placed = places_go_on (λ (o : Option ℕ). IsNone o) (IsPlacedOn old.keys) rows origin history a b (goes a b stored any) store.caused late stored.placed;
-        placed_since = places_go_on (λ (o : Option ℕ). IsSome o) (λ d r made. IsTakenBy old.keys old.live d made) rows origin history a b (goes a b stored any) store.caused late stored.placed_since;
+        placed = places_go_on (λ (o : Option ℕ). IsNone o) (IsPlacedOn old.keys) rows origin history a b any.tidy.grown store.caused late stored.placed;
+        placed_since = places_go_on (λ (o : Option ℕ). IsSome o) (λ d r made. IsTakenBy old.keys old.live d made) rows origin history a b any.tidy.grown store.caused late stored.placed_since;
         left = λ some. absurd (not_both tally.stopped none some);
         rests = λ some. absurd (not_both tally.stopped none some);
       }
@@ -99,7 +96,7 @@ module _ (old : StoreView) (before after : FolderView) (found : Option Log) (row
     flushed_told (Some a) (Some b) late stored done moments = flushed_on a b late stored done moments
 
     grown : Changes before.log after.log LogGoesOn
-    grown = changed_from before.log after.log Stored (AnyMoment old.waiting) LogGoesOn goes store.stored any
+    grown = changed_by before.log after.log (AnyMoment old.waiting) LogGoesOn (λ a b moments. moments.tidy.grown) any
 
     pub look_on : Changes before.log after.log (λ a b. LookAlike (now a) (now b))
     look_on = changed_from before.log after.log Stored (HasCommitted old.waiting) (λ a b. LookAlike (now a) (now b)) looks store.stored committed

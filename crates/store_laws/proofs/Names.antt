@@ -13,7 +13,7 @@ use Rattle.base64.proofs.RoundTrip.{length-encode_symbols}
 use Rattle.sha1.specs.Sha1.{sha1}
 use Rattle.aes_block.specs.Aes.{aes}
 use Rattle.aes_block.specs.Bytes.{AreBytes}
-use Rattle.siv_mode.specs.Keys.{KeyPair}
+use Rattle.vault_keys.specs.Keys.{KeyPair}
 use Rattle.siv_mode.specs.Siv.{s2v, counted, siv_opened, siv_sealed}
 use Rattle.tree_model.specs.Names.{not_utf8, checked_name, clear_name, form_fault, IsClearName}
 use Rattle.nfc_text.specs.Nfc.{nfc_of}

@@ -5,12 +5,13 @@ use Rattle.outside.specs.Disk.{Disk, Node as Thing, IsTree}
 use Rattle.outside.specs.Images.{Log, Synced, adds, log_at, now, moment}
 use Rattle.outside.specs.Views.{FolderView}
 use Rattle.outside.proofs.Moments.{moment_later}
-use Rattle.siv_mode.specs.Keys.{KeyPair}
+use Rattle.vault_keys.specs.Keys.{KeyPair}
 use Rattle.deeds.specs.Deeds.{PlainDeed, in_order, LogGoesOn}
 use Rattle.deeds.proofs.Amid.{tree_run}
 use Rattle.chunk_journal.specs.Journal.{IsAlike, IsQuiet, IsReopenable, RecoversTo, RecoversLike}
 use Rattle.chunk_journal.specs.Opening.{HasOpened, IsOpening, StaysOpening}
-use Rattle.chunk_journal.proofs.Found.{opening_keeps, stays_as_found, stays_found, opened_alike}
+use Rattle.chunk_journal.proofs.Found.{opening_keeps, stays_as_found, stays_found, stays_tidy, opened_alike}
+use Rattle.chunk_journal.proofs.Tidy.{steady_tidy}
 use Rattle.pending_files.specs.Laid.{CanWait, LookAlike, laid}
 use Rattle.pending_files.proofs.Laying.{none_waits}
 use Rattle.tree_model.specs.Rows.{Content, bad_size, Rows}
@@ -138,6 +139,7 @@ module _ (unlocked : ℕ) (kept : KeptTree) (store : StoreView) (live_is : store
   runs_now found log rows at_rest shows = record {
     since = omega arith;
     past = λ m since before image here. absurd (omega (arith, since, before));
+    tidy = (steady_tidy log at_rest.steady).each;
     ended = λ i x at. absurd cc;
     at_rest = at_rest;
     base = 0;
@@ -165,7 +167,12 @@ module _ (unlocked : ℕ) (kept : KeptTree) (store : StoreView) (live_is : store
   runs_on old new opened opening rows shows origin at opened_at (inr (sound, there)) =
       subst (λ (n : ℕ). IsRunning (Shows (Some old)) n rows [] [] new) (sym there)
       (begins_now (Shows (Some old)) (shows_blind (Some old) store.keys) rows opened.disk old new (stays_soundly old new (inr opening) sound)
-      (record { at_rest = opened.at_rest; since = opened_later old new opened opening sound; found = λ other recovers. opened_alike old new other opened recovers }) opened.recovers shows)
+      (record {
+        at_rest = opened.at_rest;
+        since = opened_later old new opened opening sound;
+        found = λ other recovers. opened_alike old new other opened recovers;
+        tidy = stays_tidy old new (inr opening) (reopenable (now old) sound);
+      }) opened.recovers shows)
 
   begins_on : (old new : Log) → HasOpened old new → IsOpening old new → IsKept s (now new) kept → Begins (Some old) (Some new)
   begins_on old new opened opening is =

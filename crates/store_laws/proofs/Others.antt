@@ -10,7 +10,7 @@ use Rattle.chunk_journal.specs.Journal.{IsAlike}
 use Rattle.chunk_journal.specs.Opening.{HasOpened}
 use Rattle.chunk_journal.proofs.Found.{recovered_once}
 use Rattle.chunk_journal.proofs.Gate.{recovers_applied}
-use Rattle.siv_mode.specs.Keys.{KeyPair}
+use Rattle.vault_keys.specs.Keys.{KeyPair}
 use Rattle.tree_loading.specs.Format.{sealing_of}
 use Rattle.live_tree_laws.specs.Strays.{KeepsStrays}
 use Rattle.live_tree_laws.proofs.Laws.{kept_beside_journal}

@@ -5,7 +5,7 @@ use Rattle.outside.specs.Disk.{Disk}
 use Rattle.outside.specs.Images.{Call, Log, log_at, moment, now, IsImage}
 use Rattle.outside.proofs.Moments.{at_since}
 use Rattle.deeds.specs.Deeds.{LogGoesOn}
-use Rattle.siv_mode.specs.Keys.{KeyPair}
+use Rattle.vault_keys.specs.Keys.{KeyPair}
 use Rattle.chunk_journal.specs.Opening.{HasOpened}
 use Rattle.tree_model.specs.Rows.{Rows}
 use Rattle.tree_model.specs.History.{Made, Entry, Origin, Tally, after, next, entry_at, rows_at, rows_after, tally_at, tally_of, AreCaused}

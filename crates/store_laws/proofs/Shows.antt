@@ -8,7 +8,7 @@ use Rattle.std.specs.List.Sorted.{IsStrictlySortedBy}
 use Rattle.std.specs.Map.{keys_of}
 use Rattle.outside.specs.Disk.{Disk}
 use Rattle.outside.specs.Images.{Log}
-use Rattle.siv_mode.specs.Keys.{KeyPair}
+use Rattle.vault_keys.specs.Keys.{KeyPair}
 use Rattle.tree_model.specs.Rows.{Content, Row, Rows}
 use Rattle.clear_tree.specs.Walk.{Sealing}
 use Rattle.clear_tree.specs.Queue.{In}

@@ -4,7 +4,7 @@ use Rattle.std.specs.Option.{option_and_then}
 use Rattle.std.specs.FinMap.{get}
 use Rattle.outside.specs.Disk.{Disk, Node as Thing, folder as Folder, file as Bytes, Path as HostPath}
 use Rattle.pending_files.specs.Laid.{LookAlike, outline}
-use Rattle.siv_mode.specs.Keys.{KeyPair}
+use Rattle.vault_keys.specs.Keys.{KeyPair}
 use Rattle.tree_model.specs.Names.{NameFault, clear_name}
 use Rattle.tree_model.specs.Rows.{Content, Rows}
 use Rattle.clear_tree.specs.Walk.{Sealing}

@@ -5,12 +5,11 @@ use Rattle.outside.specs.Calls.{Changes, Told}
 use Rattle.outside.specs.Disk.{Disk}
 use Rattle.outside.specs.Images.{Log, disk_in, log_at, now, moment}
 use Rattle.outside.specs.Views.{FolderView, EntropyView}
-use Rattle.outside.proofs.Moments.{moment_later}
-use Rattle.outside.proofs.Told.{changed_by, changed_from, unchanged}
-use Rattle.siv_mode.specs.Keys.{KeyPair}
+use Rattle.outside.proofs.Told.{changed_by, unchanged}
+use Rattle.vault_keys.specs.Keys.{KeyPair}
 use Rattle.deeds.specs.Deeds.{PlainDeed, LogGoesOn}
-use Rattle.deeds.proofs.Growing.{goes_nowhere, grown_on, leaves_go_on}
-use Rattle.chunk_journal.specs.Journal.{AnyMoment, IsAlike, IsBeforeOrAfter}
+use Rattle.deeds.proofs.Growing.{goes_nowhere, grown_on}
+use Rattle.chunk_journal.specs.Journal.{AnyMoment, IsAlike}
 use Rattle.pending_files.specs.Laid.{CanWait, LookAlike, laid, laid_log}
 use Rattle.pending_files.proofs.Batched.{is_repeatable}
 use Rattle.pending_files.proofs.Laying.{looks_alike, none_waits}
@@ -359,7 +358,7 @@ module _ (old new : StoreView) (before after : FolderView) (source source' : Ent
         let alike : IsAlike change.makes.after (now b) = change.committed.after change.makes.after change.makes.does in
         let stands = stands_beside s change.makes.after (now b) new.live new.claims to.contents to.stands change.committed.at_rest.steady.tree alike in
         let none : laid new.waiting (now b) ≡ now b = ap (λ (w : List PlainDeed). laid w (now b)) idle.1 in
-        let goes : LogGoesOn a b = leaves_go_on a b (IsBeforeOrAfter (now a) change.makes.after) (change.any_moment change.makes.after change.makes.does) in
+        let goes : LogGoesOn a b = change.any_moment.tidy.grown in
         runs_next b store whole at stored.answered (answered_next (now a) (subst AllowedOn (shown_idle idle.0 a) allowed) has)
         (subst (λ (w : List PlainDeed). CanWait w (now b)) (sym idle.1) (none_waits (now b))) to.contents (subst (λ (d : Disk). StandsOn s d new.live new.claims to.contents) (sym none) stands) same
         (subst AreWithin (sym idle.1) tt) (subst (λ (d : Disk). KeepsStrays s (now b) d) (sym none) (keeps_itself s (now b)))
@@ -446,7 +445,7 @@ module _ (old new : StoreView) (before after : FolderView) (source source' : Ent
         let left : KeepsFound found old.keys change.makes.after =
         keeps_done found old.keys change.deeds (now a) change.makes.after change.makes.within change.makes.strays change.makes.does (stored.others (not_stopped is.running store)) in
         let shows = shows_stepped change.makes.after has.contents to.contents has.current to.stands to.shows left in
-        broken_next a b store failed was at (leaves_go_on a b (IsBeforeOrAfter (now a) change.makes.after) (change.any_moment change.makes.after change.makes.does)) stored allowed taken
+        broken_next a b store failed was at change.any_moment.tidy.grown stored allowed taken
         (left_changed has.contents to.contents failed reply has.current to.shows)
         (λ opened from. breaks Shows opened rows (shows_blind found old.keys) history change.deeds a b entry change.makes.after change.makes.repeatable (runs_idle none a store stored opened from) change.makes.does shows at failed
         ((stable store).held (unkept reply)) change.any_moment)
@@ -504,9 +503,9 @@ module _ (old new : StoreView) (before after : FolderView) (source source' : Ent
     made_so is.is_turn,
     adds_to store
         (caused is.is_turn store drew
-        (moments_rise before.log after.log ChangedTo (λ a b change. moment_later a b (IsBeforeOrAfter (now a) change.makes.after) (change.any_moment change.makes.after change.makes.does)) is.changed)
+        (moments_rise before.log after.log ChangedTo (λ a b change. goes_later a b change.any_moment.tidy.grown) is.changed)
         (unflagged is.is_turn is.whole))
-        (changed_by before.log after.log ChangedTo LogGoesOn (λ a b change. leaves_go_on a b (IsBeforeOrAfter (now a) change.makes.after) (change.any_moment change.makes.after change.makes.does)) is.changed)
+        (changed_by before.log after.log ChangedTo LogGoesOn (λ a b change. change.any_moment.tidy.grown) is.changed)
         (changed_told is.is_turn before.log after.log store is.none is.whole is.accepted refl refl store.stored is.allowed is.is_turn.taken is.changed) (goes_on is.is_turn is.goes_on is.whole store) is.is_turn.entries,
   )
 
@@ -516,9 +515,9 @@ module _ (old new : StoreView) (before after : FolderView) (source source' : Ent
     made_so is.is_turn,
     adds_to store
         (caused is.is_turn store drew
-        (moments_rise before.log after.log MayChangeTo (λ a b change. moment_later a b (IsBeforeOrAfter (now a) change.makes.after) (change.any_moment change.makes.after change.makes.does)) is.changed)
+        (moments_rise before.log after.log MayChangeTo (λ a b change. goes_later a b change.any_moment.tidy.grown) is.changed)
         (λ failed. (is.stops.reply, is.stops.may_commit)))
-        (changed_by before.log after.log MayChangeTo LogGoesOn (λ a b change. leaves_go_on a b (IsBeforeOrAfter (now a) change.makes.after) (change.any_moment change.makes.after change.makes.does)) is.changed)
+        (changed_by before.log after.log MayChangeTo LogGoesOn (λ a b change. change.any_moment.tidy.grown) is.changed)
         (broken_told is.is_turn before.log after.log store is.none is.stops.failed is.stops.reply refl refl store.stored is.allowed is.is_turn.taken is.changed)
         (is.stops.named ∙ ap Some (store.count ∙ ap bounded (sym counted)) ∙ sym (ap (λ (o : Option ℕ). option_map bounded o) (flagged is.is_turn is.stops.failed))) is.is_turn.entries,
   )
@@ -531,7 +530,7 @@ module _ (old new : StoreView) (before after : FolderView) (source source' : Ent
     unflushed_on : (a b : Log) → Before → moment_of before.log ≡ moment a → made.moment ≡ moment b → Stored a → AllowedOn (laid old.waiting (now a)) → TakenOn (now a) → AnyMoment old.waiting a b → StoredNext b
     unflushed_on a b store was at stored allowed taken any =
         let waits : CanWait old.waiting (now a) = stored.waits (not_stopped is.is_turn.running store) in
-        broken_next is.is_turn a b store is.stops.failed was at (leaves_go_on a b (IsBeforeOrAfter (now a) (laid old.waiting (now a))) (any (laid old.waiting (now a)) waits.does)) stored allowed taken
+        broken_next is.is_turn a b store is.stops.failed was at any.tidy.grown stored allowed taken
         (left_same is.is_turn is.stops.reply is.live (laid old.waiting (now a)) (stored.tree (not_stopped is.is_turn.running store)))
         (λ opened from. stays_broken Shows opened rows origin history b entry
         (settles_broken Shows opened rows (shows_blind found old.keys) history old.waiting a b (is_repeatable old.waiting waits.pending) (runs is.is_turn a store stored opened from) any) at (same_stable is.stops.reply))
@@ -544,21 +543,16 @@ module _ (old new : StoreView) (before after : FolderView) (source source' : Ent
     unflushed_told (Some a) (Some b) store was at stored allowed taken any = unflushed_on a b store was at stored allowed taken any
 
     -- the log goes on
-    grown_so : Before → Changes before.log after.log LogGoesOn
-    grown_so store =
-        changed_from before.log after.log Stored (AnyMoment old.waiting) LogGoesOn
-        (λ a b stored any.
-        let waits : CanWait old.waiting (now a) = stored.waits (not_stopped is.is_turn.running store) in
-        leaves_go_on a b (IsBeforeOrAfter (now a) (laid old.waiting (now a))) (any (laid old.waiting (now a)) waits.does))
-        store.stored is.any_moment
+    grown_so : Changes before.log after.log LogGoesOn
+    grown_so = changed_by before.log after.log (AnyMoment old.waiting) LogGoesOn (λ a b any. any.tidy.grown) is.any_moment
 
     pub unflushed_adds : Before → tally.entropy_faults caller ≤ source.faults → Adds
     unflushed_adds store drew = (
       made,
       made_so is.is_turn,
       adds_to store
-          (caused is.is_turn store drew (moments_rise before.log after.log LogGoesOn goes_later (grown_so store)) (λ failed. (is.stops.reply, is.stops.may_commit)))
-          (grown_so store)
+          (caused is.is_turn store drew (moments_rise before.log after.log LogGoesOn goes_later grown_so) (λ failed. (is.stops.reply, is.stops.may_commit)))
+          grown_so
           (unflushed_told before.log after.log store refl refl store.stored is.allowed is.is_turn.taken is.any_moment)
           (is.stops.named ∙ ap Some (store.count ∙ ap bounded (sym counted)) ∙ sym (ap (λ (o : Option ℕ). option_map bounded o) (flagged is.is_turn is.stops.failed))) is.is_turn.entries,
     )

@@ -4,8 +4,8 @@ use Rattle.outside.specs.Calls.{Changes, Told}
 use Rattle.outside.specs.Disk.{Disk}
 use Rattle.outside.specs.Images.{Log, log_at, now}
 use Rattle.outside.specs.Views.{FolderView}
-use Rattle.siv_mode.specs.Keys.{KeyPair}
-use Rattle.chunk_journal.specs.Journal.{AnyMoment, RecoversTo, Recovered}
+use Rattle.vault_keys.specs.Keys.{KeyPair}
+use Rattle.chunk_journal.specs.Journal.{AnyMoment, RecoversTo, Recovered, TidySince}
 use Rattle.chunk_journal.specs.Opening.{HasOpened, IsOpening, StaysOpening}
 use Rattle.tree_model.specs.Rows.{Rows}
 use Rattle.tree_model.specs.Step.{node_limit}
@@ -64,10 +64,11 @@ FailedOpeningsRecover = (keys : KeyPair) (old new : Log) → StaysOpening old ne
 -- ---- at its end
 
 -- What a stop recovers to: at any moment to a prefix of the history that holds all that was synced, and up to the moment at which it begins to the
--- rows that it begins with, with what isn't the vault's own as it was found.
+-- rows that it begins with, with what isn't the vault's own as it was found; and at each moment what isn't on the disk is loose.
 pub record Recovers (found : Option Log) (keys : KeyPair) (folder : FolderView) (rows : Rows) (origin : Origin) (history : List Entry) : Type 0 where
   pub stops : Told folder.log (λ log. (opened : ℕ) → IsSaidFrom found origin opened → StopsRecover (shows_under found keys) opened rows history log)
   pub begun : Told folder.log (λ log. (opened : ℕ) → IsSaidFrom found origin opened → BeginningRecovers (shows_under found keys) opened origin.moment rows log)
+  pub tidy : Told folder.log (λ log. (opened : ℕ) → IsSaidFrom found origin opened → TidySince opened log)
 
 -- a store's history is left so, whenever it ends
 abbrev pub StoresRecover : Type 0

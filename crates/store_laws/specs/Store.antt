@@ -10,7 +10,7 @@ use Rattle.deeds.specs.Repeatable.{journal_file, new_file}
 use Rattle.chunk_journal.specs.Journal.{Recovered}
 use Rattle.chunk_journal.specs.Opening.{HasOpened}
 use Rattle.pending_files.specs.Laid.{CanWait, LookAlike, laid, laid_log}
-use Rattle.siv_mode.specs.Keys.{KeyPair}
+use Rattle.vault_keys.specs.Keys.{KeyPair}
 use Rattle.tree_model.specs.Rows.{Content, Rows}
 use Rattle.tree_model.specs.History.{Made, Entry, Origin, entry_at, rows_at, tally_at, tally_of, AreCaused, AreAnswered, rows_after}
 use Rattle.version_laws.specs.RowVersions.{wrapped}

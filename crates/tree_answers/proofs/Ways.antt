@@ -98,10 +98,10 @@ ends_whole tree from names at N k bytes qids all goes =
     subst (λ (n : ℕ). IsWay tree from names (take n qids) None) all
     (ended tree from names at (names_in (N - k) bytes) (take k qids) None goes (subst (λ (m : ℕ). IsWay tree at (names_in m bytes) [] None) none (way_none tree at)))
 
-pub goes_further : (tree : HeldTree) (from : ℕ) (names : List (List ℕ)) (at N k : ℕ) (bytes name rest : List ℕ) (qids : List Qid) (next : Result ℕ Refusal) (node : ℕ) (q : Qid)
+pub goes_further : (tree : HeldTree) (from : ℕ) (names : List (List ℕ)) (at N k : ℕ) (bytes : List ℕ) {name rest : List ℕ} (qids : List Qid) {next : Result ℕ Refusal} {node : ℕ} {q : Qid}
     → IsTree tree → k < N → k < length qids → AreNames (N - k) bytes → name ≡ first_name bytes → rest ≡ names_behind bytes → Next tree at name next → next ≡ Ok node → qid_at tree node ≡ Some q
     → GoesOn tree from names at (names_in (N - k) bytes) (take k qids) → GoesOn tree from names node (names_in (N - (k + 1)) rest) (take (k + 1) (set qids k q))
-goes_further tree from names at N k bytes name rest qids next node q good below room are first behind led is shown goes more end way =
+goes_further tree from names at N k bytes {name} {rest} qids {next} {node} {q} good below room are first behind led is shown goes more end way =
     let one : k + 1 ≡ suc k = omega arith in
     let front : take (k + 1) (set qids k q) ++ more ≡ take k qids ++ q ∷ more =
     ap (λ (n : ℕ). take n (set qids k q) ++ more) one ∙ ap (λ (qs : List Qid). qs ++ more) (take-suc-set qids k q room) ∙ append_assoc (take k qids) (q ∷ []) more in

@@ -23,11 +23,27 @@ use Rattle.tree_deed_laws.proofs.Exact.{IsPlace}
 use Rattle.tree_deed_laws.proofs.Standing.{IsNewName}
 use Rattle.tree_deed_laws.proofs.Stands.{StandsFor, stands, tree_stands}
 use Rattle.tree_deed_laws.proofs.Maps.{get_with}
-use Rattle.tree_deed_laws.proofs.Creating.{leaf_created, leaf_nodes, dir_created, dir_nodes}
+use Rattle.tree_deed_laws.proofs.Creating.{Creation, leaf_created, leaf_nodes, dir_created, dir_nodes}
 
 -- what is known of a new name
-module _ (s : Sealing) (d : Disk) (marks : Marks) (long : Path → Bool) (o : List ℕ → Path) (p : Path) (i n : List ℕ) (texts : AreTexts s) (st : StandsFor s d marks long o) (new : IsNewName s d o p i n)
-    (short_free : entry_at s d (s.folder_of i) (s.seal i n) ≡ None) (long_free : get d (host_entry (s.folder_of i) (s.long_of (s.seal i n))) ≡ None) where
+pub record NewPlace : Type 0 where
+  pub s : Sealing
+  pub d : Disk
+  pub marks : Marks
+  pub long : Path → Bool
+  pub o : List ℕ → Path
+  pub p : Path
+  pub i : List ℕ
+  pub n : List ℕ
+  pub texts : AreTexts s
+  pub st : StandsFor s d marks long o
+  pub new : IsNewName s d o p i n
+  pub short_free : entry_at s d (s.folder_of i) (s.seal i n) ≡ None
+  pub long_free : get d (host_entry (s.folder_of i) (s.long_of (s.seal i n))) ≡ None
+
+module _ (at : NewPlace) where
+  open at use {s, d, marks, long, o, p, i, n, texts, st, new, short_free, long_free}
+
   abbrev F : List ℕ
   F = s.folder_of i
 
@@ -70,10 +86,8 @@ module _ (s : Sealing) (d : Disk) (marks : Marks) (long : Path → Bool) (o : Li
     pub plain_run : StandsFor s plain_disk marks (but_at long (n ∷ p) false) o
         × ((q : Path) → node_at s (folders_of s plain_disk) o q ≡ cond (same_path (n ∷ p) q) (Some (File header)) (node_at s (folders_of s d) o q))
     plain_run = (
-      leaf_created s texts d plain_disk marks long o p i n X (Plain header) st new.parent new.free new.named tree' (inl refl) entry' inner' copies' seen' raw_free shown' (λ z. cc) at_x alone false at'
-          (File header) folders' refl refl (λ f. f),
-      leaf_nodes s texts d plain_disk marks long o p i n X (Plain header) st new.parent new.free new.named tree' (inl refl) entry' inner' copies' seen' raw_free shown' (λ z. cc) at_x alone false at'
-          (File header) folders' refl refl (λ f. f),
+      leaf_created creation (File header) folders' refl refl (λ f. f),
+      leaf_nodes creation (File header) folders' refl refl (λ f. f),
     )
       where
         tree' : IsTree plain_disk
@@ -100,9 +114,57 @@ module _ (s : Sealing) (d : Disk) (marks : Marks) (long : Path → Bool) (o : Li
         folders' : (g : List ℕ) → get plain_disk (host_folder g) ≡ get d (host_folder g)
         folders' g = get_put_other d _ (Bytes header) _ (folder_entry g F X)
 
+        creation : Creation
+        creation = record {
+          s = s;
+          texts = texts;
+          d = d;
+          d' = plain_disk;
+          marks = marks;
+          long = long;
+          o = o;
+          p = p;
+          i = i;
+          n = n;
+          e = X;
+          kk = Plain header;
+          st = st;
+          at = new.parent;
+          no_node = new.free;
+          named = new.named;
+          tree' = tree';
+          place = inl refl;
+          entry = entry';
+          inner = inner';
+          copies = copies';
+          free = seen';
+          free_entry = raw_free;
+          shown = shown';
+          good = λ z. cc;
+          at_e = at_x;
+          alone = alone;
+          b = false;
+          is_at = at';
+        }
+
   -- ---- a node folder, at either place
-  module _ (b : Bool) (d0 : Disk) (there : get d0 (host_folder F) ≡ Some Folder) (free0 : get d0 (host_entry F (entry_text s b X)) ≡ None) (none0 : (l : List ℕ) → get d0 (host_inner F (entry_text s b X) l) ≡ None)
-      (short0 : entry_at s d0 F X ≡ None) (part : b ≡ false → s.is_part X ≡ true) (kn t : List ℕ) (kk : Kind) (kind : MakesKind b kn t kk) where
+  -- its entry is made on the disk d0
+  pub record NewNode : Type 0 where
+    pub b : Bool
+    pub d0 : Disk
+    pub there : get d0 (host_folder F) ≡ Some Folder
+    pub free0 : get d0 (host_entry F (entry_text s b X)) ≡ None
+    pub none0 : (l : List ℕ) → get d0 (host_inner F (entry_text s b X) l) ≡ None
+    pub short0 : entry_at s d0 F X ≡ None
+    pub part : b ≡ false → s.is_part X ≡ true
+    pub kn : List ℕ
+    pub t : List ℕ
+    pub kk : Kind
+    pub kind : MakesKind b kn t kk
+
+  module _ (node : NewNode) where
+    open node use {b, d0, there, free0, none0, short0, part, kn, t, kk, kind}
+
     abbrev E : List ℕ
     E = entry_text s b X
 
@@ -201,12 +263,29 @@ file_short s d tree p i n header texts is new = record {
     d1 : Disk
     d1 = insert d (host_entry (s.folder_of i) (s.seal i n)) (Bytes header)
 
+    at : NewPlace
+    at = record {
+      s = s;
+      d = d;
+      marks = tree.marks;
+      long = tree.long;
+      o = is.owner;
+      p = p;
+      i = i;
+      n = n;
+      texts = texts;
+      st = sf;
+      new = name;
+      short_free = free.0;
+      long_free = free.1;
+    }
+
     does : DoesAll (create_file_deeds (place_of s i n false) (s.seal i n) header) d d1
-    does = plain_does s d tree.marks tree.long is.owner p i n texts sf name free.0 free.1 header (new.place.part refl)
+    does = plain_does at header (new.place.part refl)
 
     run : StandsFor s d1 tree.marks (but_at tree.long (n ∷ p) false) is.owner
         × ((q : Path) → node_at s (folders_of s d1) is.owner q ≡ cond (same_path (n ∷ p) q) (Some (File header)) (node_at s (folders_of s d) is.owner q))
-    run = plain_run s d tree.marks tree.long is.owner p i n texts sf name free.0 free.1 header (new.place.part refl)
+    run = plain_run at header (new.place.part refl)
 
 file_long : (s : Sealing) (d : Disk) (tree : Tree) (p : Path) (i n header : List ℕ) → AreTexts s → IsTreeOf s d tree → IsNew s d tree p i n true None
     → Leads s d (create_file_deeds (place_of s i n true) (s.seal i n) header) (with_node tree (n ∷ p) (File header) true)
@@ -255,23 +334,55 @@ file_long s d tree p i n header texts is new = record {
     kind : MakesKind true text_contents header (Plain header)
     kind = inr (inr (refl, refl, refl))
 
+    at : NewPlace
+    at = record {
+      s = s;
+      d = d;
+      marks = tree.marks;
+      long = tree.long;
+      o = o;
+      p = p;
+      i = i;
+      n = n;
+      texts = texts;
+      st = sf;
+      new = name;
+      short_free = free.0;
+      long_free = free.1;
+    }
+
+    node : NewNode at
+    node = record {
+      b = true;
+      d0 = d;
+      there = here;
+      free0 = free.1;
+      none0 = none;
+      short0 = free.0;
+      part = new.place.part;
+      kn = text_contents;
+      t = header;
+      kk = Plain header;
+      kind = kind;
+    }
+
     d2 : Disk
-    d2 = node_disk s d tree.marks tree.long o p i n texts sf name free.0 free.1 true d here free.1 none free.0 new.place.part text_contents header (Plain header) kind
+    d2 = node_disk at node
 
     does : DoesAll (create_file_at true F E X header) d d2
-    does = node_does s d tree.marks tree.long o p i n texts sf name free.0 free.1 true d here free.1 none free.0 new.place.part text_contents header (Plain header) kind
+    does = node_does at node
 
     it : IsNodeFolder s d2 F X true text_contents header (Plain header)
-    it = is_node s d tree.marks tree.long o p i n texts sf name free.0 free.1 true d here free.1 none free.0 new.place.part text_contents header (Plain header) kind
+    it = is_node at node
 
     shown : (seen_at s d2 F X ≡ Some (Plain header)) × (entry_of s d2 F X ≡ E) × (known_at d2 F E ≡ text_contents)
     shown = node_shown s d2 F X true text_contents header (Plain header) text it
 
     entry : (g u : List ℕ) → (g ≡ F → u ≡ E → ⊥) → get d2 (host_entry g u) ≡ get d (host_entry g u)
-    entry = off_entry s d tree.marks tree.long o p i n texts sf name free.0 free.1 true d here free.1 none free.0 new.place.part text_contents header (Plain header) kind
+    entry = off_entry at node
 
     inner' : (g u l : List ℕ) → (g ≡ F → u ≡ E → ⊥) → get d2 (host_inner g u l) ≡ get d (host_inner g u l)
-    inner' = off_inner s d tree.marks tree.long o p i n texts sf name free.0 free.1 true d here free.1 none free.0 new.place.part text_contents header (Plain header) kind
+    inner' = off_inner at node
 
     place : IsPlace s d d2 F X E
     place = at_place s d d2 F X true (λ z. holds_none X _ (none text_name)) (λ z. holds_it X _ (it.name refl))
@@ -289,15 +400,46 @@ file_long s d tree p i n header texts is new = record {
     at' = folder_at s d2 F X true text_contents header (Plain header) it
 
     folders' : (g : List ℕ) → get d2 (host_folder g) ≡ get d (host_folder g)
-    folders' = off_folder s d tree.marks tree.long o p i n texts sf name free.0 free.1 true d here free.1 none free.0 new.place.part text_contents header (Plain header) kind
+    folders' = off_folder at node
+
+    creation : Creation
+    creation = record {
+      s = s;
+      texts = texts;
+      d = d;
+      d' = d2;
+      marks = tree.marks;
+      long = tree.long;
+      o = o;
+      p = p;
+      i = i;
+      n = n;
+      e = E;
+      kk = Plain header;
+      st = sf;
+      at = name.parent;
+      no_node = name.free;
+      named = name.named;
+      tree' = tree';
+      place = place;
+      entry = λ g u nd h. entry g u h;
+      inner = inner';
+      copies = copies;
+      free = free_seen s d F X sf.tree text free.0 free.1;
+      free_entry = free.1;
+      shown = shown.0;
+      good = λ z. cc;
+      at_e = shown.1;
+      alone = alone;
+      b = true;
+      is_at = at';
+    }
 
     done : StandsFor s d2 tree.marks (but_at tree.long (n ∷ p) true) o
-    done = leaf_created s texts d d2 tree.marks tree.long o p i n E (Plain header) sf name.parent name.free name.named tree' place (λ g u nd h. entry g u h) inner' copies
-        (free_seen s d F X sf.tree text free.0 free.1) free.1 shown.0 (λ z. cc) shown.1 alone true at' (File header) folders' refl refl (λ f. f)
+    done = leaf_created creation (File header) folders' refl refl (λ f. f)
 
     nodes' : (q : Path) → node_at s (folders_of s d2) o q ≡ cond (same_path (n ∷ p) q) (Some (File header)) (node_at s (folders_of s d) o q)
-    nodes' = leaf_nodes s texts d d2 tree.marks tree.long o p i n E (Plain header) sf name.parent name.free name.named tree' place (λ g u nd h. entry g u h) inner' copies
-        (free_seen s d F X sf.tree text free.0 free.1) free.1 shown.0 (λ z. cc) shown.1 alone true at' (File header) folders' refl refl (λ f. f)
+    nodes' = leaf_nodes creation (File header) folders' refl refl (λ f. f)
 
 pub creates_file : CreatesFile
 creates_file s d tree p i n header false texts is new = file_short s d tree p i n header texts is new
@@ -404,26 +546,58 @@ creates_directory s d tree p i n t b texts is new valid = record {
     kind : MakesKind b text_dir t (Named t)
     kind = inl (refl, refl)
 
+    at : NewPlace
+    at = record {
+      s = s;
+      d = d;
+      marks = tree.marks;
+      long = tree.long;
+      o = o;
+      p = p;
+      i = i;
+      n = n;
+      texts = texts;
+      st = sf;
+      new = name;
+      short_free = free'.0;
+      long_free = free'.1;
+    }
+
+    node : NewNode at
+    node = record {
+      b = b;
+      d0 = d2;
+      there = there2;
+      free0 = free2;
+      none0 = none2;
+      short0 = short2;
+      part = new.place.part;
+      kn = text_dir;
+      t = t;
+      kk = Named t;
+      kind = kind;
+    }
+
     d4 : Disk
-    d4 = node_disk s d tree.marks tree.long o p i n texts sf name free'.0 free'.1 b d2 there2 free2 none2 short2 new.place.part text_dir t (Named t) kind
+    d4 = node_disk at node
 
     does : DoesAll (makes_dir b F E X G t) d d4
-    does = (d1, inr (can_two, refl), (d2, inr (can_folder, refl), node_does s d tree.marks tree.long o p i n texts sf name free'.0 free'.1 b d2 there2 free2 none2 short2 new.place.part text_dir t (Named t) kind))
+    does = (d1, inr (can_two, refl), (d2, inr (can_folder, refl), node_does at node))
 
     it : IsNodeFolder s d4 F X b text_dir t (Named t)
-    it = is_node s d tree.marks tree.long o p i n texts sf name free'.0 free'.1 b d2 there2 free2 none2 short2 new.place.part text_dir t (Named t) kind
+    it = is_node at node
 
     shown : (seen_at s d4 F X ≡ Some (Named t)) × (entry_of s d4 F X ≡ E) × (known_at d4 F E ≡ text_dir)
     shown = node_shown s d4 F X b text_dir t (Named t) text it
 
     entry : (g u : List ℕ) → (g ≡ F → u ≡ E → ⊥) → get d4 (host_entry g u) ≡ get d (host_entry g u)
-    entry g u h = off_entry s d tree.marks tree.long o p i n texts sf name free'.0 free'.1 b d2 there2 free2 none2 short2 new.place.part text_dir t (Named t) kind g u h ∙ entry2 g u
+    entry g u h = off_entry at node g u h ∙ entry2 g u
 
     inner : (g u l : List ℕ) → (g ≡ F → u ≡ E → ⊥) → get d4 (host_inner g u l) ≡ get d (host_inner g u l)
-    inner g u l h = off_inner s d tree.marks tree.long o p i n texts sf name free'.0 free'.1 b d2 there2 free2 none2 short2 new.place.part text_dir t (Named t) kind g u l h ∙ inner2 g u l
+    inner g u l h = off_inner at node g u l h ∙ inner2 g u l
 
     folder : (g : List ℕ) → get d4 (host_folder g) ≡ get d2 (host_folder g)
-    folder = off_folder s d tree.marks tree.long o p i n texts sf name free'.0 free'.1 b d2 there2 free2 none2 short2 new.place.part text_dir t (Named t) kind
+    folder = off_folder at node
 
     none_in : (u : List ℕ) → get d (host_entry G u) ≡ None
     none_in u = nothing _ (λ y e. some_there _ _ (sf.tree.parents (host_entry G u) (subst IsSome (sym e) refl)) ident.0)
@@ -456,10 +630,41 @@ creates_directory s d tree p i n t b texts is new valid = record {
     hollow' : (u l : List ℕ) → get d4 (host_inner G u l) ≡ None
     hollow' u l = inner G u l (λ a z. not_same (sym a)) ∙ none_below d sf.tree G u l (none_in u)
 
+    creation : Creation
+    creation = record {
+      s = s;
+      texts = texts;
+      d = d;
+      d' = d4;
+      marks = tree.marks;
+      long = tree.long;
+      o = o;
+      p = p;
+      i = i;
+      n = n;
+      e = E;
+      kk = Named t;
+      st = sf;
+      at = name.parent;
+      no_node = name.free;
+      named = name.named;
+      tree' = tree';
+      place = place;
+      entry = λ g u nd h. entry g u h;
+      inner = inner;
+      copies = copies;
+      free = free_seen s d F X sf.tree text free'.0 free'.1;
+      free_entry = free;
+      shown = shown.0;
+      good = λ z. cc;
+      at_e = shown.1;
+      alone = alone;
+      b = b;
+      is_at = at';
+    }
+
     done : StandsFor s d4 tree.marks (but_at tree.long (n ∷ p) b) (new_owner o G (n ∷ p))
-    done = dir_created s texts d d4 tree.marks tree.long o p i n E (Named t) sf name.parent name.free name.named tree' place (λ g u nd h. entry g u h) inner copies (free_seen s d F X sf.tree text free'.0 free'.1) free shown.0 (λ z. cc) shown.1 alone b at'
-        t refl valid folders' made' ident.0 empty' hollow' ident.2
+    done = dir_created creation t refl valid folders' made' ident.0 empty' hollow' ident.2
 
     nodes' : (q : Path) → node_at s (folders_of s d4) (new_owner o G (n ∷ p)) q ≡ cond (same_path (n ∷ p) q) (Some (Dir t)) (node_at s (folders_of s d) o q)
-    nodes' = dir_nodes s texts d d4 tree.marks tree.long o p i n E (Named t) sf name.parent name.free name.named tree' place (λ g u nd h. entry g u h) inner copies (free_seen s d F X sf.tree text free'.0 free'.1) free shown.0 (λ z. cc) shown.1 alone b at'
-        t refl valid folders' made' ident.0 empty' hollow' ident.2
+    nodes' = dir_nodes creation t refl valid folders' made' ident.0 empty' hollow' ident.2

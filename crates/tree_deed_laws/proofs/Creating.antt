@@ -15,22 +15,44 @@ use Rattle.tree_deed_laws.proofs.Seeing.{some_there, look_seen}
 use Rattle.tree_deed_laws.proofs.Exact as exact
 use Rattle.tree_deed_laws.proofs.Exact.{through, neither, SameForeign, foreign_to, foreign_from, IsPlace, has_foreign, is_shadowed_in, never_seen}
 use Rattle.tree_deed_laws.proofs.OneEntry as one
-use Rattle.tree_deed_laws.proofs.OneEntry.{child_cases}
+use Rattle.tree_deed_laws.proofs.OneEntry.{OneEntry, child_cases}
 use Rattle.tree_deed_laws.proofs.Stands.{StandsFor}
 
 -- one more node, at an entry that was free, so that nothing else has changed in what nodes and marks ask
-module _ (s : Sealing) (texts : AreTexts s) (d d' : Disk) (marks : Marks) (long : Path → Bool) (o : List ℕ → Path)
-    (p : Path) (i n e : List ℕ) (kk : Kind)
-    (st : StandsFor s d marks long o) (at : node_at s (folders_of s d) o p ≡ Some (Dir i)) (no_node : node_at s (folders_of s d) o (n ∷ p) ≡ None)
-    (named : is_name n (s.open_name i (s.seal i n)) ≡ true) (tree' : IsTree d')
-    (place : IsPlace s d d' (s.folder_of i) (s.seal i n) e)
-    (entry : (g u : List ℕ) → u ≢ text_dirid → (g ≡ s.folder_of i → u ≡ e → ⊥) → get d' (host_entry g u) ≡ get d (host_entry g u))
-    (inner : (g u l : List ℕ) → (g ≡ s.folder_of i → u ≡ e → ⊥) → get d' (host_inner g u l) ≡ get d (host_inner g u l))
-    (copies : (g : List ℕ) → get d' (host_entry g text_dirid) ≡ get d (host_entry g text_dirid))
-    (free : (folders_of s d).seen (s.folder_of i) (s.seal i n) ≡ None) (free_entry : get d (host_entry (s.folder_of i) e) ≡ None)
-    (shown : (folders_of s d').seen (s.folder_of i) (s.seal i n) ≡ Some kk) (good : kk ≢ Bare)
-    (at_e : entry_of s d' (s.folder_of i) (s.seal i n) ≡ e)
-    (alone : IsShadowed s d' i n → ⊥) (b : Bool) (is_at : IsTrue b ↔ (entry_at s d' (s.folder_of i) (s.seal i n) ≡ None)) where
+pub record Creation : Type 0 where
+  pub s : Sealing
+  pub texts : AreTexts s
+  pub d : Disk
+  pub d' : Disk
+  pub marks : Marks
+  pub long : Path → Bool
+  pub o : List ℕ → Path
+  pub p : Path
+  pub i : List ℕ
+  pub n : List ℕ
+  pub e : List ℕ
+  pub kk : Kind
+  pub st : StandsFor s d marks long o
+  pub at : node_at s (folders_of s d) o p ≡ Some (Dir i)
+  pub no_node : node_at s (folders_of s d) o (n ∷ p) ≡ None
+  pub named : is_name n (s.open_name i (s.seal i n)) ≡ true
+  pub tree' : IsTree d'
+  pub place : IsPlace s d d' (s.folder_of i) (s.seal i n) e
+  pub entry : (g u : List ℕ) → u ≢ text_dirid → (g ≡ s.folder_of i → u ≡ e → ⊥) → get d' (host_entry g u) ≡ get d (host_entry g u)
+  pub inner : (g u l : List ℕ) → (g ≡ s.folder_of i → u ≡ e → ⊥) → get d' (host_inner g u l) ≡ get d (host_inner g u l)
+  pub copies : (g : List ℕ) → get d' (host_entry g text_dirid) ≡ get d (host_entry g text_dirid)
+  pub free : (folders_of s d).seen (s.folder_of i) (s.seal i n) ≡ None
+  pub free_entry : get d (host_entry (s.folder_of i) e) ≡ None
+  pub shown : (folders_of s d').seen (s.folder_of i) (s.seal i n) ≡ Some kk
+  pub good : kk ≢ Bare
+  pub at_e : entry_of s d' (s.folder_of i) (s.seal i n) ≡ e
+  pub alone : IsShadowed s d' i n → ⊥
+  pub b : Bool
+  pub is_at : IsTrue b ↔ (entry_at s d' (s.folder_of i) (s.seal i n) ≡ None)
+
+module _ (creation : Creation) where
+  open creation use {s, texts, d, d', marks, long, o, p, i, n, e, kk, st, at, no_node, named, tree', place, entry, inner, copies, free, free_entry, shown, good, at_e, alone, b, is_at}
+
   abbrev v : Folders
   v = folders_of s d
 
@@ -40,8 +62,28 @@ module _ (s : Sealing) (texts : AreTexts s) (d d' : Disk) (marks : Marks) (long 
   abbrev own : IsOwner s v o
   own = st.first
 
+  -- the entry that has changed
+  abbrev entry_of_it : OneEntry
+  entry_of_it = record {
+    s = s;
+    texts = texts;
+    d = d;
+    d' = d';
+    o = o;
+    n = n;
+    i = i;
+    p = p;
+    e = e;
+    own = own;
+    at = at;
+    named = named;
+    place = place;
+    entry = entry;
+    inner = inner;
+  }
+
   changed : ChangedAt v v' (s.folder_of i) (s.seal i n)
-  changed = one.changed s texts d d' o n i p e own at named place entry inner
+  changed = one.changed entry_of_it
 
   look_new : look s v' i n ≡ Some kk
   look_new = look_seen s v' i n named ∙ shown
@@ -57,7 +99,7 @@ module _ (s : Sealing) (texts : AreTexts s) (d d' : Disk) (marks : Marks) (long 
   at_n w (inr h) x l b = ap (λ (y : Disk). entry_of s y (s.folder_of i) (s.seal i n)) h ∙ at_e
 
   foreign_same : (q : Path) (j : List ℕ) → node_at s v o q ≡ Some (Dir j) → SameForeign s d d' j
-  foreign_same q j hq = one.same_foreign s texts d d' o n i p e own at named place entry inner q j hq (copies (s.folder_of j)) at_n clean
+  foreign_same q j hq = one.same_foreign entry_of_it q j hq (copies (s.folder_of j)) at_n clean
 
   -- ---- with the node x
   module _ (o' : List ℕ → Path) (x : Node) (root' : get d' (host_folder (s.folder_of [])) ≡ Some Folder) (first' : IsOwner s v' o')
@@ -98,7 +140,7 @@ module _ (s : Sealing) (texts : AreTexts s) (d d' : Disk) (marks : Marks) (long 
             (subst (λ (z : Option Node). IsShadowedIn s d' z l (Some x)) dir (subst (λ (z : Option Node). IsShadowedIn s d' (node_at s v' o' q) l z) new f))))
         go (inr h) = through _ _ _ (st.marked.shadowed l q) (is_shadowed_in s d d' (node_at s v o q) (node_at s v' o' q) (node_at s v o (l ∷ q)) (node_at s v' o' (l ∷ q)) l
             (other (l ∷ q) h) (λ y hy. other q (parent_other q l y hy))
-            (λ j y hj hy. one.same_shadow s texts d d' o n i p e own at named place entry inner q j hj l y hy h))
+            (λ j y hj hy. one.same_shadow entry_of_it q j hj l y hy h))
 
     placed' : (l : List ℕ) (q : Path) (j : List ℕ) (y : Node) → node_at s v' o' q ≡ Some (Dir j) → node_at s v' o' (l ∷ q) ≡ Some y
         → IsTrue (but_at long (n ∷ p) b (l ∷ q)) ↔ (entry_at s d' (s.folder_of j) (s.seal j l) ≡ None)
@@ -115,7 +157,7 @@ module _ (s : Sealing) (texts : AreTexts s) (d d' : Disk) (marks : Marks) (long 
         go (inr h) =
             let oldl : node_at s v o (l ∷ q) ≡ Some y = sym (other (l ∷ q) h) ∙ hl in
             let oldq : node_at s v o q ≡ Some (Dir j) = sym (other q (parent_other q l y oldl)) ∙ hq in
-            let same = one.entry_at_kept s texts d d' o n i p e own at named place entry inner q j oldq l y oldl h in
+            let same = one.entry_at_kept entry_of_it q j oldq l y oldl h in
             subst (λ (z : Bool). IsTrue z ↔ (entry_at s d' (s.folder_of j) (s.seal j l) ≡ None))
             (sym (cond-false (same_path (n ∷ p) (l ∷ q)) _ _ (same_path-apart (n ∷ p) (l ∷ q) h)))
             (through _ _ _ (st.placed l q j y oldq oldl) ((λ z. same ∙ z), (λ z. sym same ∙ z)))

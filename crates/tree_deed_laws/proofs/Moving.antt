@@ -8,10 +8,10 @@ use Rattle.clear_tree.specs.Places.{entry_at, folders_of, host_folder, host_entr
 use Rattle.clear_tree.specs.Marks.{Marks, HasForeign, IsShadowedIn, IsShadowed, IsForeign}
 use Rattle.clear_tree.proofs.Paths.{same_path-from, same_path-apart}
 use Rattle.tree_deed_laws.specs.Trees.{AreTexts, swapped, but_at}
-use Rattle.tree_deed_laws.proofs.Rename.{which, stays_other, swapped_twice, swapped-new, swapped-old, swapped-other, swapped-parent, swapped-root, renamed, renamed_owner, renamed_leaf_owner}
+use Rattle.tree_deed_laws.proofs.Rename.{ShownMoved, which, stays_other, swapped_twice, swapped-new, swapped-old, swapped-other, swapped-parent, swapped-root, renamed, renamed_owner, renamed_leaf_owner}
 use Rattle.tree_deed_laws.proofs.Seeing.{some_there, looked, look_seen, node_kind}
 use Rattle.tree_deed_laws.proofs.Exact as exact
-use Rattle.tree_deed_laws.proofs.Exact.{through, neither, SameForeign, foreign_to, foreign_from, IsPlace, name_there, same_twice, has_foreign, is_shadowed_in}
+use Rattle.tree_deed_laws.proofs.Exact.{through, neither, SameForeign, foreign_to, foreign_from, IsPlace, TwoEntries, name_there, same_twice, has_foreign, is_shadowed_in}
 use Rattle.tree_deed_laws.proofs.Stands.{StandsFor}
 
 -- the marks, places and nodes of another disk, with one name changed in the directory at p
@@ -22,21 +22,52 @@ Moves s d d' marks long o n k p b =
     (but_at (λ q. long (swapped (n ∷ p) (k ∷ p) q)) (k ∷ p) b) (λ f. swapped (n ∷ p) (k ∷ p) (o f))
     × ((q : Path) → node_at s (folders_of s d') (λ f. swapped (n ∷ p) (k ∷ p) (o f)) q ≡ node_at s (folders_of s d) o (swapped (n ∷ p) (k ∷ p) q))
 
-module _ (s : Sealing) (texts : AreTexts s) (d d' : Disk) (marks : Marks) (long : Path → Bool) (o : List ℕ → Path)
-    (p : Path) (i n k e e' : List ℕ) (x : Node) (kk : Kind)
-    (st : StandsFor s d marks long o) (at : node_at s (folders_of s d) o p ≡ Some (Dir i)) (is_node : node_at s (folders_of s d) o (n ∷ p) ≡ Some x)
-    (no_node : node_at s (folders_of s d) o (k ∷ p) ≡ None) (named_k : is_name k (s.open_name i (s.seal i k)) ≡ true)
-    (unmarked : IsShadowed s d i n → ⊥) (tree' : IsTree d')
-    (place_n : IsPlace s d d' (s.folder_of i) (s.seal i n) e) (place_k : IsPlace s d d' (s.folder_of i) (s.seal i k) e')
-    (entry : (g u : List ℕ) → u ≢ text_dirid → (g ≡ s.folder_of i → u ≡ e → ⊥) → (g ≡ s.folder_of i → u ≡ e' → ⊥) → get d' (host_entry g u) ≡ get d (host_entry g u))
-    (inner : (g u l : List ℕ) → (g ≡ s.folder_of i → u ≡ e → ⊥) → (g ≡ s.folder_of i → u ≡ e' → ⊥) → get d' (host_inner g u l) ≡ get d (host_inner g u l))
-    (copies : (g : List ℕ) → get d' (host_entry g text_dirid) ≡ get d (host_entry g text_dirid))
-    (folders : (g : List ℕ) → get d' (host_folder g) ≡ get d (host_folder g))
-    (shown : (folders_of s d).seen (s.folder_of i) (s.seal i n) ≡ Some kk) (good : kk ≢ Bare) (at_e : entry_of s d (s.folder_of i) (s.seal i n) ≡ e)
-    (free : (folders_of s d).seen (s.folder_of i) (s.seal i k) ≡ None) (free_entry : get d (host_entry (s.folder_of i) e') ≡ None)
-    (gone : (folders_of s d').seen (s.folder_of i) (s.seal i n) ≡ None) (gone_entry : get d' (host_entry (s.folder_of i) e) ≡ None)
-    (moved : (folders_of s d').seen (s.folder_of i) (s.seal i k) ≡ Some kk) (at_e' : entry_of s d' (s.folder_of i) (s.seal i k) ≡ e')
-    (alone : IsShadowed s d' i k → ⊥) (b : Bool) (is_at : IsTrue b ↔ (entry_at s d' (s.folder_of i) (s.seal i k) ≡ None)) where
+-- a node is at another entry of its directory, under another name
+pub record Move : Type 0 where
+  pub s : Sealing
+  pub texts : AreTexts s
+  pub d : Disk
+  pub d' : Disk
+  pub marks : Marks
+  pub long : Path → Bool
+  pub o : List ℕ → Path
+  pub p : Path
+  pub i : List ℕ
+  pub n : List ℕ
+  pub k : List ℕ
+  pub e : List ℕ
+  pub e' : List ℕ
+  pub x : Node
+  pub kk : Kind
+  pub st : StandsFor s d marks long o
+  pub at : node_at s (folders_of s d) o p ≡ Some (Dir i)
+  pub is_node : node_at s (folders_of s d) o (n ∷ p) ≡ Some x
+  pub no_node : node_at s (folders_of s d) o (k ∷ p) ≡ None
+  pub named_k : is_name k (s.open_name i (s.seal i k)) ≡ true
+  pub unmarked : IsShadowed s d i n → ⊥
+  pub tree' : IsTree d'
+  pub place_n : IsPlace s d d' (s.folder_of i) (s.seal i n) e
+  pub place_k : IsPlace s d d' (s.folder_of i) (s.seal i k) e'
+  pub entry : (g u : List ℕ) → u ≢ text_dirid → (g ≡ s.folder_of i → u ≡ e → ⊥) → (g ≡ s.folder_of i → u ≡ e' → ⊥) → get d' (host_entry g u) ≡ get d (host_entry g u)
+  pub inner : (g u l : List ℕ) → (g ≡ s.folder_of i → u ≡ e → ⊥) → (g ≡ s.folder_of i → u ≡ e' → ⊥) → get d' (host_inner g u l) ≡ get d (host_inner g u l)
+  pub copies : (g : List ℕ) → get d' (host_entry g text_dirid) ≡ get d (host_entry g text_dirid)
+  pub folders : (g : List ℕ) → get d' (host_folder g) ≡ get d (host_folder g)
+  pub shown : (folders_of s d).seen (s.folder_of i) (s.seal i n) ≡ Some kk
+  pub good : kk ≢ Bare
+  pub at_e : entry_of s d (s.folder_of i) (s.seal i n) ≡ e
+  pub free : (folders_of s d).seen (s.folder_of i) (s.seal i k) ≡ None
+  pub free_entry : get d (host_entry (s.folder_of i) e') ≡ None
+  pub gone : (folders_of s d').seen (s.folder_of i) (s.seal i n) ≡ None
+  pub gone_entry : get d' (host_entry (s.folder_of i) e) ≡ None
+  pub moved : (folders_of s d').seen (s.folder_of i) (s.seal i k) ≡ Some kk
+  pub at_e' : entry_of s d' (s.folder_of i) (s.seal i k) ≡ e'
+  pub alone : IsShadowed s d' i k → ⊥
+  pub b : Bool
+  pub is_at : IsTrue b ↔ (entry_at s d' (s.folder_of i) (s.seal i k) ≡ None)
+
+module _ (move : Move) where
+  open move use {s, texts, d, d', marks, long, o, p, i, n, k, e, e', x, kk, st, at, is_node, no_node, named_k, unmarked, tree', place_n, place_k, entry, inner, copies, folders, shown, good, at_e, free, free_entry, gone, gone_entry, moved, at_e', alone, b, is_at}
+
   abbrev v : Folders
   v = folders_of s d
 
@@ -52,8 +83,32 @@ module _ (s : Sealing) (texts : AreTexts s) (d d' : Disk) (marks : Marks) (long 
   named : is_name n (s.open_name i (s.seal i n)) ≡ true
   named = name_there s v o p n i x at is_node
 
+  -- the two entries that have changed
+  abbrev entries : TwoEntries
+  entries = record {
+    s = s;
+    texts = texts;
+    d = d;
+    d' = d';
+    o = o;
+    n = n;
+    k = k;
+    i = i;
+    p = p;
+    e = e;
+    e' = e';
+    own = own;
+    at_p = at;
+    named_n = named;
+    named_k = named_k;
+    place_n = place_n;
+    place_k = place_k;
+    entry = entry;
+    inner = inner;
+  }
+
   changed : ChangedTwo v v' (s.folder_of i) (s.seal i n) (s.seal i k)
-  changed = record { others = exact.others s texts d d' o n k i p e e' own at named named_k place_n place_k entry inner }
+  changed = record { others = exact.others entries }
 
   clean : (w : Disk) → (w ≡ d) ⊎ (w ≡ d') → (IsForeign s w i e → ⊥) × (IsForeign s w i e' → ⊥)
   clean w (inl h) = (
@@ -78,13 +133,32 @@ module _ (s : Sealing) (texts : AreTexts s) (d d' : Disk) (marks : Marks) (long 
   at_k w (inr h) y l q = ap (λ (u : Disk). entry_of s u (s.folder_of i) (s.seal i k)) h ∙ at_e'
 
   foreign_same : (q : Path) (j : List ℕ) → node_at s v o q ≡ Some (Dir j) → SameForeign s d d' j
-  foreign_same q j hq = exact.same_foreign s texts d d' o n k i p e e' own at named named_k place_n place_k entry inner q j hq (copies (s.folder_of j)) at_n at_k clean
+  foreign_same q j hq = exact.same_foreign entries q j hq (copies (s.folder_of j)) at_n at_k clean
 
   present_same : (g : List ℕ) → v'.present g ≡ v.present g
   present_same g = ap is_folder (folders g)
 
   same_seen : v'.seen (s.folder_of i) (s.seal i k) ≡ v.seen (s.folder_of i) (s.seal i n)
   same_seen = moved ∙ sym shown
+
+  -- what is shown under the two names
+  abbrev shown_moved : ShownMoved n k p apart
+  shown_moved = record {
+    s = s;
+    v = v;
+    v' = v';
+    o = o;
+    i = i;
+    own = own;
+    at_p = at;
+    named_old = named;
+    named_new = named_k;
+    changed = changed;
+    folders = present_same;
+    free = free;
+    gone = gone;
+    moved = same_seen;
+  }
 
   abbrev sw : Path → Path
   sw = swapped (n ∷ p) (k ∷ p)
@@ -93,7 +167,7 @@ module _ (s : Sealing) (texts : AreTexts s) (d d' : Disk) (marks : Marks) (long 
   o' f = sw (o f)
 
   pub nodes' : (q : Path) → node_at s v' o' q ≡ node_at s v o (sw q)
-  nodes' q = renamed n k p apart s v v' o i own at named named_k changed present_same free gone same_seen q
+  nodes' q = renamed n k p apart shown_moved q
 
   abbrev moved_marks : Marks
   moved_marks = record { foreign = λ q. marks.foreign (sw q); shadowed = λ q. marks.shadowed (sw q); twice = marks.twice }
@@ -144,8 +218,8 @@ module _ (s : Sealing) (texts : AreTexts s) (d d' : Disk) (marks : Marks) (long 
           let its = name_there s v o (sw q) l j y hj hy in
           let nk = node_kind s v o (sw q) j l y hj hy in
           let sn = (looked s v j l nk.0 nk.1).1 in (
-            exact.shadow_to s texts d d' o n k i p e e' own at named named_k place_n place_k entry inner (sw q) j hj l its (λ w. far.0 (sym w)) (λ w. far.1 (sym w)) nk.0 sn,
-            exact.shadow_from s texts d d' o n k i p e e' own at named named_k place_n place_k entry inner (sw q) j hj l its (λ w. far.0 (sym w)) (λ w. far.1 (sym w)) nk.0 sn,
+            exact.shadow_to entries (sw q) j hj l its (λ w. far.0 (sym w)) (λ w. far.1 (sym w)) nk.0 sn,
+            exact.shadow_from entries (sw q) j hj l its (λ w. far.0 (sym w)) (λ w. far.1 (sym w)) nk.0 sn,
           ))))
 
   abbrev long' : Path → Bool
@@ -171,7 +245,7 @@ module _ (s : Sealing) (texts : AreTexts s) (d d' : Disk) (marks : Marks) (long 
           let to : sw (l ∷ q) ≡ l ∷ sw q = swapped-other n k p apart l q z.0 z.1 in
           let oldq : node_at s v o (sw q) ≡ Some (Dir j) = sym (nodes' q) ∙ hq in
           let oldl : node_at s v o (l ∷ sw q) ≡ Some y = ap (node_at s v o) (sym to) ∙ sym (nodes' (l ∷ q)) ∙ hl in
-          let same = exact.entry_at_kept s texts d d' o n k i p e e' own at named named_k place_n place_k entry inner (sw q) j oldq l
+          let same = exact.entry_at_kept entries (sw q) j oldq l
           (name_there s v o (sw q) l j y oldq oldl) (λ w. far.0 (sym w)) (λ w. far.1 (sym w)) in
           subst (λ (w : Bool). IsTrue w ↔ (entry_at s d' (s.folder_of j) (s.seal j l) ≡ None))
           (ap long (sym to) ∙ sym (cond-false (same_path (k ∷ p) (l ∷ q)) _ _ (same_path-apart (k ∷ p) (l ∷ q) z.1)))
@@ -196,7 +270,7 @@ module _ (s : Sealing) (texts : AreTexts s) (d d' : Disk) (marks : Marks) (long 
 
   pub leaf_moved : claimed s (Some x) ≡ None → Moves s d d' marks long o n k p b
   leaf_moved none_named =
-      (renamed_all (renamed_leaf_owner n k p apart s v v' o i own at named named_k changed present_same free gone same_seen (ap (claimed s) is_node ∙ none_named)), nodes')
+      (renamed_all (renamed_leaf_owner n k p apart shown_moved (ap (claimed s) is_node ∙ none_named)), nodes')
 
   pub dir_moved : NamedOnce s v o → Moves s d d' marks long o n k p b
-  dir_moved once = (renamed_all (renamed_owner n k p apart s v v' o i own at named named_k changed present_same free gone same_seen once), nodes')
+  dir_moved once = (renamed_all (renamed_owner n k p apart shown_moved once), nodes')

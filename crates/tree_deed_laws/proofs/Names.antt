@@ -22,12 +22,32 @@ use Rattle.tree_deed_laws.proofs.Standing.{IsPlain, IsNewName, node_has, as_plai
 use Rattle.tree_deed_laws.proofs.Exact.{name_there}
 use Rattle.tree_deed_laws.proofs.Stands.{StandsFor}
 use Rattle.tree_deed_laws.proofs.Removes.{cleared, cleared_entry, cleared_inner, cleared_folder, cleared_seen}
-use Rattle.tree_deed_laws.proofs.Moving.{Moves, leaf_moved, dir_moved}
+use Rattle.tree_deed_laws.proofs.Moving.{Moves, Move, leaf_moved, dir_moved}
 
-module _ (s : Sealing) (d : Disk) (marks : Marks) (long : Path → Bool) (o : List ℕ → Path) (p : Path) (i n k : List ℕ) (x : Node) (b : Bool)
-    (texts : AreTexts s) (st : StandsFor s d marks long o) (plain : IsPlain s d o p i n x) (new : IsNewName s d o p i k)
-    (short_free : entry_at s d (s.folder_of i) (s.seal i k) ≡ None) (long_free : get d (host_entry (s.folder_of i) (s.long_of (s.seal i k))) ≡ None)
-    (is_at : IsAt s d (s.folder_of i) (s.seal i n) b) where
+-- a node gets another name, for which there is room
+pub record NameChange : Type 0 where
+  pub s : Sealing
+  pub d : Disk
+  pub marks : Marks
+  pub long : Path → Bool
+  pub o : List ℕ → Path
+  pub p : Path
+  pub i : List ℕ
+  pub n : List ℕ
+  pub k : List ℕ
+  pub x : Node
+  pub b : Bool
+  pub texts : AreTexts s
+  pub st : StandsFor s d marks long o
+  pub plain : IsPlain s d o p i n x
+  pub new : IsNewName s d o p i k
+  pub short_free : entry_at s d (s.folder_of i) (s.seal i k) ≡ None
+  pub long_free : get d (host_entry (s.folder_of i) (s.long_of (s.seal i k))) ≡ None
+  pub is_at : IsAt s d (s.folder_of i) (s.seal i n) b
+
+module _ (change : NameChange) where
+  open change use {s, d, marks, long, o, p, i, n, k, x, b, texts, st, plain, new, short_free, long_free, is_at}
+
   abbrev F : List ℕ
   F = s.folder_of i
 
@@ -207,21 +227,53 @@ module _ (s : Sealing) (d : Disk) (marks : Marks) (long : Path → Bool) (o : Li
             after : (seen_at s node_disk F Y ≡ Some has.0) × (entry_of s node_disk F Y ≡ E') × (known_at node_disk F E' ≡ kn)
             after = node_shown s node_disk F Y e kn t has.0 text_y new3
 
+            move : Move
+            move = record {
+              s = s;
+              texts = texts;
+              d = d;
+              d' = node_disk;
+              marks = marks;
+              long = long;
+              o = o;
+              p = p;
+              i = i;
+              n = n;
+              k = k;
+              e = E;
+              e' = E';
+              x = x;
+              kk = has.0;
+              st = st;
+              at = plain.parent;
+              is_node = plain.there;
+              no_node = new.free;
+              named_k = new.named;
+              unmarked = plain.unmarked;
+              tree' = tree_run (rename_node_at b e F E E' Y kn) d node_disk st.tree node_does;
+              place_n = at_place s d node_disk F X b (λ z. holds_it X _ (old.name z)) (λ z. holds_none X _ ((cleared s texts d2 F X b text_x there2 bare2 name2).1.none text_name));
+              place_k = at_place s d node_disk F Y e (λ z. holds_none Y _ (none' text_name)) (λ z. holds_it Y _ (new3.name z));
+              entry = λ g u nd h1 h2. entry3 g u h1 h2;
+              inner = inner3;
+              copies = λ g. entry3 g text_dirid (λ u z. no_copy s texts b X text_x (sym z)) (λ u z. no_copy s texts e Y text_y (sym z));
+              folders = λ g. cleared_folder s texts d2 F X b text_x there2 bare2 name2 g ∙ get_put_other w _ (Bytes t) _ (folder_inner g F E' kn) ∙ get_gone_other made.0 _ _ (folder_inner g F E kn) ∙ made_folder g;
+              shown = before.0;
+              good = kind_good b kn t has.0 kind;
+              at_e = before.1;
+              free = free_seen s d F Y st.tree text_y short_free long_free;
+              free_entry = free';
+              gone = gone3;
+              gone_entry = (cleared s texts d2 F X b text_x there2 bare2 name2).1.entry;
+              moved = after.0;
+              at_e' = after.1;
+              alone = alone3;
+              b = e;
+              is_at = folder_at s node_disk F Y e kn t has.0 new3;
+            }
+
             go : (claimed s (Some x) ≡ None) ⊎ NamedOnce s (folders_of s d) o → Moves s d node_disk marks long o n k p e
-            go (inl leaf) = leaf_moved s texts d node_disk marks long o p i n k E E' x has.0 st plain.parent plain.there new.free new.named plain.unmarked (tree_run (rename_node_at b e F E E' Y kn) d node_disk st.tree node_does)
-                (at_place s d node_disk F X b (λ z. holds_it X _ (old.name z)) (λ z. holds_none X _ ((cleared s texts d2 F X b text_x there2 bare2 name2).1.none text_name)))
-                (at_place s d node_disk F Y e (λ z. holds_none Y _ (none' text_name)) (λ z. holds_it Y _ (new3.name z)))
-                (λ g u nd h1 h2. entry3 g u h1 h2) inner3 (λ g. entry3 g text_dirid (λ u z. no_copy s texts b X text_x (sym z)) (λ u z. no_copy s texts e Y text_y (sym z)))
-                (λ g. cleared_folder s texts d2 F X b text_x there2 bare2 name2 g ∙ get_put_other w _ (Bytes t) _ (folder_inner g F E' kn) ∙ get_gone_other made.0 _ _ (folder_inner g F E kn) ∙ made_folder g)
-                before.0 (kind_good b kn t has.0 kind) before.1 (free_seen s d F Y st.tree text_y short_free long_free) free' gone3
-                (cleared s texts d2 F X b text_x there2 bare2 name2).1.entry after.0 after.1 alone3 e (folder_at s node_disk F Y e kn t has.0 new3) leaf
-            go (inr ones) = dir_moved s texts d node_disk marks long o p i n k E E' x has.0 st plain.parent plain.there new.free new.named plain.unmarked (tree_run (rename_node_at b e F E E' Y kn) d node_disk st.tree node_does)
-                (at_place s d node_disk F X b (λ z. holds_it X _ (old.name z)) (λ z. holds_none X _ ((cleared s texts d2 F X b text_x there2 bare2 name2).1.none text_name)))
-                (at_place s d node_disk F Y e (λ z. holds_none Y _ (none' text_name)) (λ z. holds_it Y _ (new3.name z)))
-                (λ g u nd h1 h2. entry3 g u h1 h2) inner3 (λ g. entry3 g text_dirid (λ u z. no_copy s texts b X text_x (sym z)) (λ u z. no_copy s texts e Y text_y (sym z)))
-                (λ g. cleared_folder s texts d2 F X b text_x there2 bare2 name2 g ∙ get_put_other w _ (Bytes t) _ (folder_inner g F E' kn) ∙ get_gone_other made.0 _ _ (folder_inner g F E kn) ∙ made_folder g)
-                before.0 (kind_good b kn t has.0 kind) before.1 (free_seen s d F Y st.tree text_y short_free long_free) free' gone3
-                (cleared s texts d2 F X b text_x there2 bare2 name2).1.entry after.0 after.1 alone3 e (folder_at s node_disk F Y e kn t has.0 new3) ones
+            go (inl leaf) = leaf_moved move leaf
+            go (inr ones) = dir_moved move ones
 
       pub node_entries : E ≢ E'
       node_entries = entries
@@ -277,13 +329,50 @@ module _ (s : Sealing) (d : Disk) (marks : Marks) (long : Path → Bool) (o : Li
       p_alone (inr z) = some_there _ _ z.long (p_inner F (s.long_of Y) text_name ∙ none_below d st.tree F (s.long_of Y) text_name long_free)
 
       pub plain_stands : claimed s (Some x) ≡ None → Moves s d plain_disk marks long o n k p false
-      plain_stands leaf = leaf_moved s texts d plain_disk marks long o p i n k X Y x has.0 st plain.parent plain.there new.free new.named plain.unmarked (tree_run (rename_file_at false false F X Y Y) d plain_disk st.tree plain_does)
-          (inl refl) (inl refl) (λ g u nd h1 h2. p_entry g u h1 h2) (λ g u l h1 h2. p_inner g u l)
-          (λ g. p_entry g text_dirid (λ u z. no_copy s texts false X text_x (sym z)) (λ u z. no_copy s texts false Y text_y (sym z)))
-          (λ g. get_put_other away _ (Bytes y) _ (folder_entry g F Y) ∙ get_gone_other d _ _ (folder_entry g F X))
-          shown_it good_it at_it (free_seen s d F Y st.tree text_y short_free long_free) raw_y
-          (none_shown s plain_disk F X text_x (entry_none s plain_disk F X p_gone) (λ z. no_twin (record { short = some_there _ _ it_at; long = sym (p_inner F (s.long_of X) text_name) ∙ z }))) p_gone
-          (plain_shown s plain_disk F Y y text_y (entry_part s plain_disk F Y part_y ∙ p_it) ∙ ap (λ (z : Kind). Some z) (sym ky)) p_at p_alone false (file_at s plain_disk F Y y (entry_part s plain_disk F Y part_y ∙ p_it)) leaf
+      plain_stands leaf =
+          let move : Move = record {
+            s = s;
+            texts = texts;
+            d = d;
+            d' = plain_disk;
+            marks = marks;
+            long = long;
+            o = o;
+            p = p;
+            i = i;
+            n = n;
+            k = k;
+            e = X;
+            e' = Y;
+            x = x;
+            kk = has.0;
+            st = st;
+            at = plain.parent;
+            is_node = plain.there;
+            no_node = new.free;
+            named_k = new.named;
+            unmarked = plain.unmarked;
+            tree' = tree_run (rename_file_at false false F X Y Y) d plain_disk st.tree plain_does;
+            place_n = inl refl;
+            place_k = inl refl;
+            entry = λ g u nd h1 h2. p_entry g u h1 h2;
+            inner = λ g u l h1 h2. p_inner g u l;
+            copies = λ g. p_entry g text_dirid (λ u z. no_copy s texts false X text_x (sym z)) (λ u z. no_copy s texts false Y text_y (sym z));
+            folders = λ g. get_put_other away _ (Bytes y) _ (folder_entry g F Y) ∙ get_gone_other d _ _ (folder_entry g F X);
+            shown = shown_it;
+            good = good_it;
+            at_e = at_it;
+            free = free_seen s d F Y st.tree text_y short_free long_free;
+            free_entry = raw_y;
+            gone = none_shown s plain_disk F X text_x (entry_none s plain_disk F X p_gone) (λ z. no_twin (record { short = some_there _ _ it_at; long = sym (p_inner F (s.long_of X) text_name) ∙ z }));
+            gone_entry = p_gone;
+            moved = plain_shown s plain_disk F Y y text_y (entry_part s plain_disk F Y part_y ∙ p_it) ∙ ap (λ (z : Kind). Some z) (sym ky);
+            at_e' = p_at;
+            alone = p_alone;
+            b = false;
+            is_at = file_at s plain_disk F Y y (entry_part s plain_disk F Y part_y ∙ p_it);
+          } in
+          leaf_moved move leaf
 
     -- to a long place
     pub not_short : true ≡ false → s.is_part Y ≡ true
@@ -336,14 +425,49 @@ module _ (s : Sealing) (d : Disk) (marks : Marks) (long : Path → Bool) (o : Li
     pub long_stands : claimed s (Some x) ≡ None → Moves s d long_disk marks long o n k p true
     long_stands leaf =
         let after = node_shown s long_disk F Y true text_contents y has.0 text_y l_new in
-        leaf_moved s texts d long_disk marks long o p i n k X L x has.0 st plain.parent plain.there new.free new.named plain.unmarked (tree_run (rename_file_at false true F X L Y) d long_disk st.tree long_does)
-        (inl refl) (at_place s d long_disk F Y true (λ z. holds_none Y _ (none' true not_short text_name)) (λ z. holds_it Y _ (l_new.name z)))
-        (λ g u nd h1 h2. l_entry g u h1 h2) (λ g u l h1 h2. l_inner g u l h2)
-        (λ g. l_entry g text_dirid (λ u z. no_copy s texts false X text_x (sym z)) (λ u z. no_copy s texts true Y text_y (sym z)))
-        (λ g. get_put_other left _ (Bytes y) _ (folder_inner g F L text_contents) ∙ get_gone_other made_long.0 _ _ (folder_entry g F X) ∙ made_folder true not_short g)
-        shown_it good_it at_it (free_seen s d F Y st.tree text_y short_free long_free) long_free
-        (none_shown s long_disk F X text_x (entry_none s long_disk F X l_gone) (long_x true not_short long_disk (λ l q. l_inner F (s.long_of X) l (λ u z. q z)) l_new.name (some_there _ _ it_at))) l_gone
-        after.0 after.1 (no_mark_at s long_disk i k true text_contents y has.0 text_y l_new (λ z. absurd (true≢false z))) true (folder_at s long_disk F Y true text_contents y has.0 l_new) leaf
+        let move : Move = record {
+          s = s;
+          texts = texts;
+          d = d;
+          d' = long_disk;
+          marks = marks;
+          long = long;
+          o = o;
+          p = p;
+          i = i;
+          n = n;
+          k = k;
+          e = X;
+          e' = L;
+          x = x;
+          kk = has.0;
+          st = st;
+          at = plain.parent;
+          is_node = plain.there;
+          no_node = new.free;
+          named_k = new.named;
+          unmarked = plain.unmarked;
+          tree' = tree_run (rename_file_at false true F X L Y) d long_disk st.tree long_does;
+          place_n = inl refl;
+          place_k = at_place s d long_disk F Y true (λ z. holds_none Y _ (none' true not_short text_name)) (λ z. holds_it Y _ (l_new.name z));
+          entry = λ g u nd h1 h2. l_entry g u h1 h2;
+          inner = λ g u l h1 h2. l_inner g u l h2;
+          copies = λ g. l_entry g text_dirid (λ u z. no_copy s texts false X text_x (sym z)) (λ u z. no_copy s texts true Y text_y (sym z));
+          folders = λ g. get_put_other left _ (Bytes y) _ (folder_inner g F L text_contents) ∙ get_gone_other made_long.0 _ _ (folder_entry g F X) ∙ made_folder true not_short g;
+          shown = shown_it;
+          good = good_it;
+          at_e = at_it;
+          free = free_seen s d F Y st.tree text_y short_free long_free;
+          free_entry = long_free;
+          gone = none_shown s long_disk F X text_x (entry_none s long_disk F X l_gone) (long_x true not_short long_disk (λ l q. l_inner F (s.long_of X) l (λ u z. q z)) l_new.name (some_there _ _ it_at));
+          gone_entry = l_gone;
+          moved = after.0;
+          at_e' = after.1;
+          alone = no_mark_at s long_disk i k true text_contents y has.0 text_y l_new (λ z. absurd (true≢false z));
+          b = true;
+          is_at = folder_at s long_disk F Y true text_contents y has.0 l_new;
+        } in
+        leaf_moved move leaf
 
   -- ---- from a long place to a host file
   module _ (t : List ℕ) (kt : has.0 ≡ Plain t) (eb : b ≡ true) (part_y : s.is_part Y ≡ true) where
@@ -423,16 +547,49 @@ module _ (s : Sealing) (d : Disk) (marks : Marks) (long : Path → Bool) (o : Li
     pub short_stands : claimed s (Some x) ≡ None → Moves s d short_disk marks long o n k p false
     short_stands leaf =
         let before = node_shown s d F X b text_contents t has.0 text_x was in
-        leaf_moved s texts d short_disk marks long o p i n k E Y x has.0 st plain.parent plain.there new.free new.named plain.unmarked
-        (tree_run (Renaming (host_inner F E text_contents) (host_entry F Y) ∷ clear_node b F E) d short_disk st.tree short_does)
-        (at_place s d short_disk F X b (λ z. holds_it X _ (was.name z)) (λ z. holds_none X _ (z_none text_name))) (inl refl)
-        (λ g u nd h1 h2. z_entry g u h1 h2) (λ g u l h1 h2. z_inner g u l h1)
-        (λ g. z_entry g text_dirid (λ u z. no_copy s texts b X text_x (sym z)) (λ u z. no_copy s texts false Y text_y (sym z)))
-        (λ g. cleared_folder s texts put_in F X b text_x s_there s_bare s_name g ∙ get_put_other taken_out _ (Bytes t) _ (folder_entry g F Y) ∙ get_gone_other d _ _ (folder_inner g F E text_contents))
-        before.0 (kind_good b text_contents t has.0 kind_t) before.1 (free_seen s d F Y st.tree text_y short_free long_free) raw_free
-        (cleared_seen s texts put_in F X b text_x s_there s_bare s_name (λ h. entry_same s d put_in F X (s_entry F X (λ u z. differ z)) ∙ was.short h) (λ h. absurd (true≢false (sym eb ∙ h))))
-        (cleared s texts put_in F X b text_x s_there s_bare s_name).1.entry
-        (plain_shown s short_disk F Y t text_y (entry_part s short_disk F Y part_y ∙ z_it) ∙ ap (λ (z : Kind). Some z) (sym kt)) z_at z_alone false (file_at s short_disk F Y t (entry_part s short_disk F Y part_y ∙ z_it)) leaf
+        let move : Move = record {
+          s = s;
+          texts = texts;
+          d = d;
+          d' = short_disk;
+          marks = marks;
+          long = long;
+          o = o;
+          p = p;
+          i = i;
+          n = n;
+          k = k;
+          e = E;
+          e' = Y;
+          x = x;
+          kk = has.0;
+          st = st;
+          at = plain.parent;
+          is_node = plain.there;
+          no_node = new.free;
+          named_k = new.named;
+          unmarked = plain.unmarked;
+          tree' = tree_run (Renaming (host_inner F E text_contents) (host_entry F Y) ∷ clear_node b F E) d short_disk st.tree short_does;
+          place_n = at_place s d short_disk F X b (λ z. holds_it X _ (was.name z)) (λ z. holds_none X _ (z_none text_name));
+          place_k = inl refl;
+          entry = λ g u nd h1 h2. z_entry g u h1 h2;
+          inner = λ g u l h1 h2. z_inner g u l h1;
+          copies = λ g. z_entry g text_dirid (λ u z. no_copy s texts b X text_x (sym z)) (λ u z. no_copy s texts false Y text_y (sym z));
+          folders = λ g. cleared_folder s texts put_in F X b text_x s_there s_bare s_name g ∙ get_put_other taken_out _ (Bytes t) _ (folder_entry g F Y) ∙ get_gone_other d _ _ (folder_inner g F E text_contents);
+          shown = before.0;
+          good = kind_good b text_contents t has.0 kind_t;
+          at_e = before.1;
+          free = free_seen s d F Y st.tree text_y short_free long_free;
+          free_entry = raw_free;
+          gone = cleared_seen s texts put_in F X b text_x s_there s_bare s_name (λ h. entry_same s d put_in F X (s_entry F X (λ u z. differ z)) ∙ was.short h) (λ h. absurd (true≢false (sym eb ∙ h)));
+          gone_entry = (cleared s texts put_in F X b text_x s_there s_bare s_name).1.entry;
+          moved = plain_shown s short_disk F Y t text_y (entry_part s short_disk F Y part_y ∙ z_it) ∙ ap (λ (z : Kind). Some z) (sym kt);
+          at_e' = z_at;
+          alone = z_alone;
+          b = false;
+          is_at = file_at s short_disk F Y t (entry_part s short_disk F Y part_y ∙ z_it);
+        } in
+        leaf_moved move leaf
 
 module _ (F E E' Y kn : List ℕ) (far : kn ≢ text_name) where
   pub node_ordered : (b e : Bool) → in_order (rename_node_at b e F E E' Y kn) ≡ rename_node_at b e F E E' Y kn

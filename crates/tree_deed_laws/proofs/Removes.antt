@@ -23,7 +23,7 @@ use Rattle.tree_deed_laws.proofs.Standing.{IsPlain, kind_of_file, kind_of_link, 
 use Rattle.tree_deed_laws.proofs.Exact.{IsPlace, unset, named_once}
 use Rattle.tree_deed_laws.proofs.Stands.{StandsFor, stands}
 use Rattle.tree_deed_laws.proofs.Held.{plain, now_at, without_it, none_below}
-use Rattle.tree_deed_laws.proofs.Removing.{leaf_removed, leaf_nodes, dir_removed, dir_nodes}
+use Rattle.tree_deed_laws.proofs.Removing.{NodeGone, leaf_removed, leaf_nodes, dir_removed, dir_nodes}
 
 -- ---- a node folder without its known file, which is gone from w, is cleared away
 module _ (s : Sealing) (texts : AreTexts s) (w : Disk) (F X : List ℕ) (b : Bool) (text : s.is_text X ≡ true)
@@ -127,10 +127,29 @@ module _ (F E kn : List ℕ) (far : kn ≢ text_name) where
   node_repeatable b = record { apart = node_apart b; beside_journal = beside_journal b; beside_new = beside_new b }
 
 -- ---- a node folder that names no directory: a link, or a file at its long place
-module _ (s : Sealing) (d : Disk) (tree : Tree) (p : Path) (i n : List ℕ) (x : Node) (b : Bool) (kn t : List ℕ) (texts : AreTexts s) (is : IsTreeOf s d tree)
-    (held : IsHeldByNone tree p i n x) (at_b : IsAt s d (s.folder_of i) (s.seal i n) b)
-    (kind : MakesKind b kn t (node_has s d tree.marks tree.long is.owner p i n x b texts (stands s d tree is) (plain s d tree p i n x is held) at_b).0)
-    (none_named : claimed s (Some x) ≡ None) (no_foreign : HasForeign s d (Some x) → ⊥) where
+-- a node in a folder of its own, which names no folder and holds nothing foreign
+pub record RemovedNode : Type 0 where
+  pub s : Sealing
+  pub d : Disk
+  pub tree : Tree
+  pub p : Path
+  pub i : List ℕ
+  pub n : List ℕ
+  pub x : Node
+  pub b : Bool
+  pub kn : List ℕ
+  pub t : List ℕ
+  pub texts : AreTexts s
+  pub is : IsTreeOf s d tree
+  pub held : IsHeldByNone tree p i n x
+  pub at_b : IsAt s d (s.folder_of i) (s.seal i n) b
+  pub kind : MakesKind b kn t (node_has s d tree.marks tree.long is.owner p i n x b texts (stands s d tree is) (plain s d tree p i n x is held) at_b).0
+  pub none_named : claimed s (Some x) ≡ None
+  pub no_foreign : HasForeign s d (Some x) → ⊥
+
+module _ (gone_node : RemovedNode) where
+  open gone_node use {s, d, tree, p, i, n, x, b, kn, t, texts, is, held, at_b, kind, none_named, no_foreign}
+
   abbrev o : List ℕ → Path
   o = is.owner
 
@@ -188,15 +207,44 @@ module _ (s : Sealing) (d : Disk) (tree : Tree) (p : Path) (i n : List ℕ) (x :
   gone : seen_at s d' F X ≡ None
   gone = gone_seen s texts d F X b kn t kk its_text folder (λ z. it.unmarked (inr z))
 
+  abbrev removal : NodeGone
+  removal = record {
+    s = s;
+    texts = texts;
+    d = d;
+    d' = d';
+    marks = tree.marks;
+    long = tree.long;
+    o = o;
+    p = p;
+    i = i;
+    n = n;
+    e = E';
+    x = x;
+    kk = kk;
+    st = st;
+    at = it.parent;
+    is_node = it.there;
+    leaf = none_below s d tree p i n x is held none_named;
+    unmarked = it.unmarked;
+    no_foreign = no_foreign;
+    tree' = tree';
+    place = place;
+    entry = λ g u nd h. entry g u h;
+    inner = inner;
+    copies = copies;
+    shown = shown.0;
+    good = kind_good b kn t kk kind;
+    at_e = shown.1;
+    gone_entry = gone_entry s texts d F X b kn t kk its_text folder;
+    gone = gone;
+  }
+
   done : StandsFor s d' tree.marks tree.long o
-  done = leaf_removed s texts d d' tree.marks tree.long o p i n E' x kk st it.parent it.there (none_below s d tree p i n x is held none_named) it.unmarked no_foreign tree'
-      place (λ g u nd h. entry g u h) inner copies shown.0 (kind_good b kn t kk kind) shown.1 (gone_entry s texts d F X b kn t kk its_text folder) gone
-      (off_folder s texts d F X b kn t kk its_text folder) none_named
+  done = leaf_removed removal (off_folder s texts d F X b kn t kk its_text folder) none_named
 
   nodes' : (q : Path) → node_at s (folders_of s d') o q ≡ cond (same_path (n ∷ p) q) None (node_at s (folders_of s d) o q)
-  nodes' = leaf_nodes s texts d d' tree.marks tree.long o p i n E' x kk st it.parent it.there (none_below s d tree p i n x is held none_named) it.unmarked no_foreign tree'
-      place (λ g u nd h. entry g u h) inner copies shown.0 (kind_good b kn t kk kind) shown.1 (gone_entry s texts d F X b kn t kk its_text folder) gone
-      (off_folder s texts d F X b kn t kk its_text folder) none_named
+  nodes' = leaf_nodes removal (off_folder s texts d F X b kn t kk its_text folder) none_named
 
   pub removes_node : Leads s d (remove_node_at b F E' kn) (without_node tree (n ∷ p))
   removes_node = record {
@@ -209,22 +257,62 @@ module _ (s : Sealing) (d : Disk) (tree : Tree) (p : Path) (i n : List ℕ) (x :
 
 pub removes_link : RemovesLink
 removes_link s d tree p i n x texts is held =
-    removes_node s d tree p i n (Link x) (tree.long (n ∷ p)) text_symlink x texts is held (now_at s d tree p i n (Link x) is held)
-    (inr (inl (refl, kind_of_link s (folders_of s d) is.owner (n ∷ p) has.0 x has.3))) refl (λ f. f)
+    removes_node link
   where
     has : (kk : Kind) × (look s (folders_of s d) i n ≡ Some kk) × (kk ≢ Bare) × (node s (folders_of s d) is.owner (n ∷ p) (Some kk) ≡ Some (Link x))
     has = node_has s d tree.marks tree.long is.owner p i n (Link x) (tree.long (n ∷ p)) texts (stands s d tree is) (plain s d tree p i n (Link x) is held) (now_at s d tree p i n (Link x) is held)
+
+    link : RemovedNode
+    link = record {
+      s = s;
+      d = d;
+      tree = tree;
+      p = p;
+      i = i;
+      n = n;
+      x = Link x;
+      b = tree.long (n ∷ p);
+      kn = text_symlink;
+      t = x;
+      texts = texts;
+      is = is;
+      held = held;
+      at_b = now_at s d tree p i n (Link x) is held;
+      kind = inr (inl (refl, kind_of_link s (folders_of s d) is.owner (n ∷ p) has.0 x has.3));
+      none_named = refl;
+      no_foreign = λ f. f;
+    }
 
 -- ---- a file
 
 file_long : (s : Sealing) (d : Disk) (tree : Tree) (p : Path) (i n x : List ℕ) → AreTexts s → IsTreeOf s d tree → IsHeldByNone tree p i n (File x)
     → IsAt s d (s.folder_of i) (s.seal i n) true → Leads s d (remove_file_at true (s.folder_of i) (entry_text s true (s.seal i n))) (without_node tree (n ∷ p))
 file_long s d tree p i n x texts is held at_b =
-    removes_node s d tree p i n (File x) true text_contents x texts is held at_b
-    (inr (inr (refl, kind_of_file s (folders_of s d) is.owner (n ∷ p) has.0 x has.3, refl))) refl (λ f. f)
+    removes_node file
   where
     has : (kk : Kind) × (look s (folders_of s d) i n ≡ Some kk) × (kk ≢ Bare) × (node s (folders_of s d) is.owner (n ∷ p) (Some kk) ≡ Some (File x))
     has = node_has s d tree.marks tree.long is.owner p i n (File x) true texts (stands s d tree is) (plain s d tree p i n (File x) is held) at_b
+
+    file : RemovedNode
+    file = record {
+      s = s;
+      d = d;
+      tree = tree;
+      p = p;
+      i = i;
+      n = n;
+      x = File x;
+      b = true;
+      kn = text_contents;
+      t = x;
+      texts = texts;
+      is = is;
+      held = held;
+      at_b = at_b;
+      kind = inr (inr (refl, kind_of_file s (folders_of s d) is.owner (n ∷ p) has.0 x has.3, refl));
+      none_named = refl;
+      no_foreign = λ f. f;
+    }
 
 file_short : (s : Sealing) (d : Disk) (tree : Tree) (p : Path) (i n x : List ℕ) → AreTexts s → IsTreeOf s d tree → IsHeldByNone tree p i n (File x)
     → IsAt s d (s.folder_of i) (s.seal i n) false → Leads s d (remove_file_at false (s.folder_of i) (entry_text s false (s.seal i n))) (without_node tree (n ∷ p))
@@ -291,15 +379,44 @@ file_short s d tree p i n x texts is held at_b = record {
     folders' : (g : List ℕ) → get d' (host_folder g) ≡ get d (host_folder g)
     folders' g = get_gone_other d _ (host_folder g) (folder_entry g F X)
 
+    removal : NodeGone
+    removal = record {
+      s = s;
+      texts = texts;
+      d = d;
+      d' = d';
+      marks = tree.marks;
+      long = tree.long;
+      o = o;
+      p = p;
+      i = i;
+      n = n;
+      e = X;
+      x = File x;
+      kk = Plain x;
+      st = st;
+      at = it.parent;
+      is_node = it.there;
+      leaf = none_below s d tree p i n (File x) is held refl;
+      unmarked = it.unmarked;
+      no_foreign = λ f. f;
+      tree' = tree';
+      place = inl refl;
+      entry = entry;
+      inner = λ g u l h. inner g u l;
+      copies = copies;
+      shown = plain_shown s d F X x its_text at_it;
+      good = λ z. cc;
+      at_e = ap (λ (w : Option Thing). entry_where w X (s.long_of X)) at_it;
+      gone_entry = get_gone d (host_entry F X);
+      gone = gone;
+    }
+
     done : StandsFor s d' tree.marks tree.long o
-    done = leaf_removed s texts d d' tree.marks tree.long o p i n X (File x) (Plain x) st it.parent it.there (none_below s d tree p i n (File x) is held refl) it.unmarked (λ f. f) tree'
-        (inl refl) entry (λ g u l h. inner g u l) copies (plain_shown s d F X x its_text at_it) (λ z. cc) (ap (λ (w : Option Thing). entry_where w X (s.long_of X)) at_it)
-        (get_gone d (host_entry F X)) gone folders' refl
+    done = leaf_removed removal folders' refl
 
     nodes' : (q : Path) → node_at s (folders_of s d') o q ≡ cond (same_path (n ∷ p) q) None (node_at s (folders_of s d) o q)
-    nodes' = leaf_nodes s texts d d' tree.marks tree.long o p i n X (File x) (Plain x) st it.parent it.there (none_below s d tree p i n (File x) is held refl) it.unmarked (λ f. f) tree'
-        (inl refl) entry (λ g u l h. inner g u l) copies (plain_shown s d F X x its_text at_it) (λ z. cc) (ap (λ (w : Option Thing). entry_where w X (s.long_of X)) at_it)
-        (get_gone d (host_entry F X)) gone folders' refl
+    nodes' = leaf_nodes removal folders' refl
 
 file_at : (s : Sealing) (d : Disk) (tree : Tree) (p : Path) (i n x : List ℕ) (b : Bool) → AreTexts s → IsTreeOf s d tree → IsHeldByNone tree p i n (File x)
     → IsAt s d (s.folder_of i) (s.seal i n) b → Leads s d (remove_file_at b (s.folder_of i) (entry_text s b (s.seal i n))) (without_node tree (n ∷ p))
@@ -481,10 +598,41 @@ removes_directory s d tree p i n t texts is held emptied = record {
     folders' g ne = get_gone_other d3 _ (host_folder g) (λ z. ne (folder_is g G z)) ∙ get_gone_other d2 _ (host_folder g) (folder_entry g G text_dirid)
         ∙ off_folder s texts d F X b text_dir t kk its_text node_is g
 
+    removal : NodeGone
+    removal = record {
+      s = s;
+      texts = texts;
+      d = d;
+      d' = d4;
+      marks = tree.marks;
+      long = tree.long;
+      o = o;
+      p = p;
+      i = i;
+      n = n;
+      e = E;
+      x = Dir t;
+      kk = kk;
+      st = st;
+      at = it.parent;
+      is_node = it.there;
+      leaf = none_in;
+      unmarked = it.unmarked;
+      no_foreign = clean;
+      tree' = tree';
+      place = place;
+      entry = λ g u nd h. entry4 g u (λ a z. nd z) ∙ entry2 g u h;
+      inner = inner';
+      copies = copies;
+      shown = shown.0;
+      good = kind_good b text_dir t kk kind;
+      at_e = shown.1;
+      gone_entry = gone_entry';
+      gone = seen4;
+    }
+
     done : StandsFor s d4 tree.marks tree.long o
-    done = dir_removed s texts d d4 tree.marks tree.long o p i n E (Dir t) kk st it.parent it.there none_in it.unmarked clean tree' place
-        (λ g u nd h. entry4 g u (λ a z. nd z) ∙ entry2 g u h) inner' copies shown.0 (kind_good b text_dir t kk kind) shown.1 gone_entry' seen4 t refl folders' once
+    done = dir_removed removal t refl folders' once
 
     nodes' : (q : Path) → node_at s (folders_of s d4) o q ≡ cond (same_path (n ∷ p) q) None (node_at s (folders_of s d) o q)
-    nodes' = dir_nodes s texts d d4 tree.marks tree.long o p i n E (Dir t) kk st it.parent it.there none_in it.unmarked clean tree' place
-        (λ g u nd h. entry4 g u (λ a z. nd z) ∙ entry2 g u h) inner' copies shown.0 (kind_good b text_dir t kk kind) shown.1 gone_entry' seen4 t refl folders' once
+    nodes' = dir_nodes removal t refl folders' once

@@ -15,20 +15,44 @@ use Rattle.tree_deed_laws.proofs.Seeing.{some_there, look_seen}
 use Rattle.tree_deed_laws.proofs.Exact as exact
 use Rattle.tree_deed_laws.proofs.Exact.{through, neither, SameForeign, foreign_to, foreign_from, IsPlace, name_there, has_foreign, is_shadowed_in}
 use Rattle.tree_deed_laws.proofs.OneEntry as one
-use Rattle.tree_deed_laws.proofs.OneEntry.{child_cases}
+use Rattle.tree_deed_laws.proofs.OneEntry.{OneEntry, child_cases}
 use Rattle.tree_deed_laws.proofs.Stands.{StandsFor}
 
-module _ (s : Sealing) (texts : AreTexts s) (d d' : Disk) (marks : Marks) (long : Path → Bool) (o : List ℕ → Path)
-    (p : Path) (i n e : List ℕ) (x : Node) (kk : Kind)
-    (st : StandsFor s d marks long o) (at : node_at s (folders_of s d) o p ≡ Some (Dir i)) (is_node : node_at s (folders_of s d) o (n ∷ p) ≡ Some x)
-    (leaf : (l : List ℕ) → node_at s (folders_of s d) o (l ∷ n ∷ p) ≡ None)
-    (unmarked : IsShadowed s d i n → ⊥) (no_foreign : HasForeign s d (Some x) → ⊥) (tree' : IsTree d')
-    (place : IsPlace s d d' (s.folder_of i) (s.seal i n) e)
-    (entry : (g u : List ℕ) → u ≢ text_dirid → (g ≡ s.folder_of i → u ≡ e → ⊥) → get d' (host_entry g u) ≡ get d (host_entry g u))
-    (inner : (g u l : List ℕ) → (g ≡ s.folder_of i → u ≡ e → ⊥) → get d' (host_inner g u l) ≡ get d (host_inner g u l))
-    (copies : (q : Path) (j : List ℕ) → node_at s (folders_of s d) o q ≡ Some (Dir j) → n ∷ p ≢ q → get d' (host_entry (s.folder_of j) text_dirid) ≡ get d (host_entry (s.folder_of j) text_dirid))
-    (shown : (folders_of s d).seen (s.folder_of i) (s.seal i n) ≡ Some kk) (good : kk ≢ Bare) (at_e : entry_of s d (s.folder_of i) (s.seal i n) ≡ e)
-    (gone_entry : get d' (host_entry (s.folder_of i) e) ≡ None) (gone : (folders_of s d').seen (s.folder_of i) (s.seal i n) ≡ None) where
+-- a node without nodes below it is gone, and so is its entry
+pub record NodeGone : Type 0 where
+  pub s : Sealing
+  pub texts : AreTexts s
+  pub d : Disk
+  pub d' : Disk
+  pub marks : Marks
+  pub long : Path → Bool
+  pub o : List ℕ → Path
+  pub p : Path
+  pub i : List ℕ
+  pub n : List ℕ
+  pub e : List ℕ
+  pub x : Node
+  pub kk : Kind
+  pub st : StandsFor s d marks long o
+  pub at : node_at s (folders_of s d) o p ≡ Some (Dir i)
+  pub is_node : node_at s (folders_of s d) o (n ∷ p) ≡ Some x
+  pub leaf : (l : List ℕ) → node_at s (folders_of s d) o (l ∷ n ∷ p) ≡ None
+  pub unmarked : IsShadowed s d i n → ⊥
+  pub no_foreign : HasForeign s d (Some x) → ⊥
+  pub tree' : IsTree d'
+  pub place : IsPlace s d d' (s.folder_of i) (s.seal i n) e
+  pub entry : (g u : List ℕ) → u ≢ text_dirid → (g ≡ s.folder_of i → u ≡ e → ⊥) → get d' (host_entry g u) ≡ get d (host_entry g u)
+  pub inner : (g u l : List ℕ) → (g ≡ s.folder_of i → u ≡ e → ⊥) → get d' (host_inner g u l) ≡ get d (host_inner g u l)
+  pub copies : (q : Path) (j : List ℕ) → node_at s (folders_of s d) o q ≡ Some (Dir j) → n ∷ p ≢ q → get d' (host_entry (s.folder_of j) text_dirid) ≡ get d (host_entry (s.folder_of j) text_dirid)
+  pub shown : (folders_of s d).seen (s.folder_of i) (s.seal i n) ≡ Some kk
+  pub good : kk ≢ Bare
+  pub at_e : entry_of s d (s.folder_of i) (s.seal i n) ≡ e
+  pub gone_entry : get d' (host_entry (s.folder_of i) e) ≡ None
+  pub gone : (folders_of s d').seen (s.folder_of i) (s.seal i n) ≡ None
+
+module _ (removal : NodeGone) where
+  open removal use {s, texts, d, d', marks, long, o, p, i, n, e, x, kk, st, at, is_node, leaf, unmarked, no_foreign, tree', place, entry, inner, copies, shown, good, at_e, gone_entry, gone}
+
   abbrev v : Folders
   v = folders_of s d
 
@@ -41,8 +65,28 @@ module _ (s : Sealing) (texts : AreTexts s) (d d' : Disk) (marks : Marks) (long 
   named : is_name n (s.open_name i (s.seal i n)) ≡ true
   named = name_there s v o p n i x at is_node
 
+  -- the entry that has changed
+  abbrev entry_of_it : OneEntry
+  entry_of_it = record {
+    s = s;
+    texts = texts;
+    d = d;
+    d' = d';
+    o = o;
+    n = n;
+    i = i;
+    p = p;
+    e = e;
+    own = own;
+    at = at;
+    named = named;
+    place = place;
+    entry = entry;
+    inner = inner;
+  }
+
   changed : ChangedAt v v' (s.folder_of i) (s.seal i n)
-  changed = one.changed s texts d d' o n i p e own at named place entry inner
+  changed = one.changed entry_of_it
 
   look_old : look s v i n ≡ Some kk
   look_old = look_seen s v i n named ∙ shown
@@ -58,7 +102,7 @@ module _ (s : Sealing) (texts : AreTexts s) (d d' : Disk) (marks : Marks) (long 
   at_n w (inl h) y l b = ap (λ (u : Disk). entry_of s u (s.folder_of i) (s.seal i n)) h ∙ at_e
 
   foreign_same : (q : Path) (j : List ℕ) → node_at s v o q ≡ Some (Dir j) → n ∷ p ≢ q → SameForeign s d d' j
-  foreign_same q j hq ne = one.same_foreign s texts d d' o n i p e own at named place entry inner q j hq (copies q j hq ne) at_n clean
+  foreign_same q j hq ne = one.same_foreign entry_of_it q j hq (copies q j hq ne) at_n clean
 
   module _ (root' : get d' (host_folder (s.folder_of [])) ≡ Some Folder) (first' : IsOwner s v' o)
       (nodes' : (q : Path) → node_at s v' o q ≡ update same_path (node_at s v o) (n ∷ p) None q)
@@ -96,7 +140,7 @@ module _ (s : Sealing) (texts : AreTexts s) (d d' : Disk) (marks : Marks) (long 
             (λ f. subst (λ (z : Option Node). IsShadowedIn s d' (node_at s v' o q) l z) now f)
         go (inr h) = through _ _ _ (st.marked.shadowed l q) (is_shadowed_in s d d' (node_at s v o q) (node_at s v' o q) (node_at s v o (l ∷ q)) (node_at s v' o (l ∷ q)) l
             (other (l ∷ q) h) (λ y hy. other q (parent_other q l y hy))
-            (λ j y hj hy. one.same_shadow s texts d d' o n i p e own at named place entry inner q j hj l y hy h))
+            (λ j y hj hy. one.same_shadow entry_of_it q j hj l y hy h))
 
     placed' : (l : List ℕ) (q : Path) (j : List ℕ) (y : Node) → node_at s v' o q ≡ Some (Dir j) → node_at s v' o (l ∷ q) ≡ Some y
         → IsTrue (long (l ∷ q)) ↔ (entry_at s d' (s.folder_of j) (s.seal j l) ≡ None)
@@ -104,7 +148,7 @@ module _ (s : Sealing) (texts : AreTexts s) (d d' : Disk) (marks : Marks) (long 
         let h : n ∷ p ≢ l ∷ q = λ z. some_there _ _ hl (here (l ∷ q) z) in
         let oldl : node_at s v o (l ∷ q) ≡ Some y = sym (other (l ∷ q) h) ∙ hl in
         let oldq : node_at s v o q ≡ Some (Dir j) = sym (other q (parent_other q l y oldl)) ∙ hq in
-        let same = one.entry_at_kept s texts d d' o n i p e own at named place entry inner q j oldq l y oldl h in
+        let same = one.entry_at_kept entry_of_it q j oldq l y oldl h in
         through _ _ _ (st.placed l q j y oldq oldl) ((λ z. same ∙ z), (λ z. sym same ∙ z))
 
     at_other : (q : Path) → n ∷ p ≢ q → claimed s (node_at s v' o q) ≡ claimed s (node_at s v o q)

@@ -77,12 +77,26 @@ module _ (n k : List ℕ) (p : Path) (apart : n ≢ k) where
       go (inl (t, e)) = same_path-from (sw a) b (ap sw e ∙ swapped_twice b) ∙ sym t
       go (inr (f, ne)) = same_path-apart (sw a) b (λ e. ne (sym (swapped_twice a) ∙ ap sw e)) ∙ sym f
 
-  module _ (s : Sealing) (v v' : Folders) (o : List ℕ → Path) (i : List ℕ)
-      (own : IsOwner s v o) (at_p : node_at s v o p ≡ Some (Dir i))
-      (named_old : is_name n (s.open_name i (s.seal i n)) ≡ true) (named_new : is_name k (s.open_name i (s.seal i k)) ≡ true)
-      (changed : ChangedTwo v v' (s.folder_of i) (s.seal i n) (s.seal i k)) (folders : (g : List ℕ) → v'.present g ≡ v.present g)
-      (free : v.seen (s.folder_of i) (s.seal i k) ≡ None) (gone : v'.seen (s.folder_of i) (s.seal i n) ≡ None)
-      (moved : v'.seen (s.folder_of i) (s.seal i k) ≡ v.seen (s.folder_of i) (s.seal i n)) where
+  -- the kind that was shown under the one name is shown under the other
+  pub record ShownMoved : Type 0 where
+    pub s : Sealing
+    pub v : Folders
+    pub v' : Folders
+    pub o : List ℕ → Path
+    pub i : List ℕ
+    pub own : IsOwner s v o
+    pub at_p : node_at s v o p ≡ Some (Dir i)
+    pub named_old : is_name n (s.open_name i (s.seal i n)) ≡ true
+    pub named_new : is_name k (s.open_name i (s.seal i k)) ≡ true
+    pub changed : ChangedTwo v v' (s.folder_of i) (s.seal i n) (s.seal i k)
+    pub folders : (g : List ℕ) → v'.present g ≡ v.present g
+    pub free : v.seen (s.folder_of i) (s.seal i k) ≡ None
+    pub gone : v'.seen (s.folder_of i) (s.seal i n) ≡ None
+    pub moved : v'.seen (s.folder_of i) (s.seal i k) ≡ v.seen (s.folder_of i) (s.seal i n)
+
+  module _ (shown : ShownMoved) where
+    open shown use {s, v, v', o, i, own, at_p, named_old, named_new, changed, folders, free, gone, moved}
+
     abbrev moved_owner : List ℕ → Path
     moved_owner f = sw (o f)
 

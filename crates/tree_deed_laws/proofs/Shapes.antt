@@ -41,10 +41,35 @@ like_shown s tree tree' q y a b marks like shown = record {
 }
 
 -- ---- one more
-module _ (s : Sealing) (d : Disk) (tree : Tree) (rows : Rows) (parent new : Row) (p : Path) (n : List ℕ) (x : Node) (long : Bool) (now : ℕ)
-    (is : IsTreeOf s d tree) (shape : HasShape s tree rows) (at_p : IsRowAt rows p parent) (free : child_of rows parent.number n ≡ None) (none : get tree.nodes (n ∷ p) ≡ None)
-    (number : new.number ≡ rows.next) (inside : new.parent ≡ parent.number) (named : new.name ≡ n)
-    (kind : new.kind ≡ kind_of x) (content : new.content ≡ content_in s x) (foreign : new.foreign ≡ false) (shadowed : new.shadowed ≡ false) where
+-- a row more, of a node that was not there
+pub record AddedRow : Type 0 where
+  pub s : Sealing
+  pub d : Disk
+  pub tree : Tree
+  pub rows : Rows
+  pub parent : Row
+  pub new : Row
+  pub p : Path
+  pub n : List ℕ
+  pub x : Node
+  pub long : Bool
+  pub now : ℕ
+  pub is : IsTreeOf s d tree
+  pub shape : HasShape s tree rows
+  pub at_p : IsRowAt rows p parent
+  pub free : child_of rows parent.number n ≡ None
+  pub none : get tree.nodes (n ∷ p) ≡ None
+  pub number : new.number ≡ rows.next
+  pub inside : new.parent ≡ parent.number
+  pub named : new.name ≡ n
+  pub kind : new.kind ≡ kind_of x
+  pub content : new.content ≡ content_in s x
+  pub foreign : new.foreign ≡ false
+  pub shadowed : new.shadowed ≡ false
+
+module _ (added : AddedRow) where
+  open added use {s, d, tree, rows, parent, new, p, n, x, long, now, is, shape, at_p, free, none, number, inside, named, kind, content, foreign, shadowed}
+
   abbrev tree' : Tree
   tree' = with_node tree (n ∷ p) x long
 
@@ -148,10 +173,33 @@ module _ (s : Sealing) (tree : Tree) (rows : Rows) (old : Row) (p : Path) (n : L
   }
 
 -- ---- one renamed
-module _ (s : Sealing) (tree : Tree) (rows : Rows) (old new : Row) (p : Path) (n k : List ℕ) (long : Bool) (now : ℕ) (apart : n ≢ k)
-    (shape : HasShape s tree rows) (at_it : IsRowAt rows (n ∷ p) old) (free : child_of rows old.parent k ≡ None)
-    (number : new.number ≡ old.number) (inside : new.parent ≡ old.parent) (named : new.name ≡ k)
-    (kind : new.kind ≡ old.kind) (content : new.content ≡ old.content) (foreign : new.foreign ≡ old.foreign) (shadowed : new.shadowed ≡ old.shadowed) where
+-- a row under another name
+pub record MovedRow : Type 0 where
+  pub s : Sealing
+  pub tree : Tree
+  pub rows : Rows
+  pub old : Row
+  pub new : Row
+  pub p : Path
+  pub n : List ℕ
+  pub k : List ℕ
+  pub long : Bool
+  pub now : ℕ
+  pub apart : n ≢ k
+  pub shape : HasShape s tree rows
+  pub at_it : IsRowAt rows (n ∷ p) old
+  pub free : child_of rows old.parent k ≡ None
+  pub number : new.number ≡ old.number
+  pub inside : new.parent ≡ old.parent
+  pub named : new.name ≡ k
+  pub kind : new.kind ≡ old.kind
+  pub content : new.content ≡ old.content
+  pub foreign : new.foreign ≡ old.foreign
+  pub shadowed : new.shadowed ≡ old.shadowed
+
+module _ (moved : MovedRow) where
+  open moved use {s, tree, rows, old, new, p, n, k, long, now, apart, shape, at_it, free, number, inside, named, kind, content, foreign, shadowed}
+
   abbrev moved_tree : Tree
   moved_tree = with_name tree (n ∷ p) (k ∷ p) long
 
@@ -224,15 +272,69 @@ pub file_follows : FileFollows
 file_follows s d tree rows parent p i n header long now texts is shape at_p dir_at free place empty = record {
   tree = with_node tree (n ∷ p) (File header) long;
   leads = creates_file s d tree p i n header long texts is (record { parent = dir_at; free = no_node_of s tree rows parent p n shape at_p free; place = place });
-  shape = shape_more s d tree rows parent (new_row rows parent n false now) p n (File header) long now is shape at_p free (no_node_of s tree rows parent p n shape at_p free) refl refl refl refl (sym empty) refl refl;
+  shape = shape_more added;
 }
+  where
+    added : AddedRow
+    added = record {
+      s = s;
+      d = d;
+      tree = tree;
+      rows = rows;
+      parent = parent;
+      new = new_row rows parent n false now;
+      p = p;
+      n = n;
+      x = File header;
+      long = long;
+      now = now;
+      is = is;
+      shape = shape;
+      at_p = at_p;
+      free = free;
+      none = no_node_of s tree rows parent p n shape at_p free;
+      number = refl;
+      inside = refl;
+      named = refl;
+      kind = refl;
+      content = sym empty;
+      foreign = refl;
+      shadowed = refl;
+    }
 
 pub directory_follows : DirectoryFollows
 directory_follows s d tree rows parent p i n t long now texts is shape at_p dir_at free place valid = record {
   tree = with_node tree (n ∷ p) (Dir t) long;
   leads = creates_directory s d tree p i n t long texts is (record { parent = dir_at; free = no_node_of s tree rows parent p n shape at_p free; place = place }) valid;
-  shape = shape_more s d tree rows parent (new_row rows parent n true now) p n (Dir t) long now is shape at_p free (no_node_of s tree rows parent p n shape at_p free) refl refl refl refl refl refl refl;
+  shape = shape_more added;
 }
+  where
+    added : AddedRow
+    added = record {
+      s = s;
+      d = d;
+      tree = tree;
+      rows = rows;
+      parent = parent;
+      new = new_row rows parent n true now;
+      p = p;
+      n = n;
+      x = Dir t;
+      long = long;
+      now = now;
+      is = is;
+      shape = shape;
+      at_p = at_p;
+      free = free;
+      none = no_node_of s tree rows parent p n shape at_p free;
+      number = refl;
+      inside = refl;
+      named = refl;
+      kind = refl;
+      content = refl;
+      foreign = refl;
+      shadowed = refl;
+    }
 
 -- ---- removing
 
@@ -248,8 +350,26 @@ passes_to : (b : Bool) (r : Refusal) (rest : Option Refusal) → cond b (Some r)
 passes_to false r rest e = (refl, e)
 passes_to true r rest e = absurd (cc)
 
-module _ (s : Sealing) (d : Disk) (tree : Tree) (rows : Rows) (row : Row) (p : Path) (i n : List ℕ) (now : ℕ) (texts : AreTexts s) (is : IsTreeOf s d tree) (shape : HasShape s tree rows)
-    (at_it : IsRowAt rows (n ∷ p) row) (at_p : get tree.nodes p ≡ Some (Dir i)) where
+-- the row of a node, in a directory of the tree
+pub record HeldRow : Type 0 where
+  pub s : Sealing
+  pub d : Disk
+  pub tree : Tree
+  pub rows : Rows
+  pub row : Row
+  pub p : Path
+  pub i : List ℕ
+  pub n : List ℕ
+  pub now : ℕ
+  pub texts : AreTexts s
+  pub is : IsTreeOf s d tree
+  pub shape : HasShape s tree rows
+  pub at_it : IsRowAt rows (n ∷ p) row
+  pub at_p : get tree.nodes p ≡ Some (Dir i)
+
+module _ (held_row : HeldRow) where
+  open held_row use {s, d, tree, rows, row, p, i, n, now, texts, is, shape, at_it, at_p}
+
   -- the row shows its node
   shows : (x : Node) → get tree.nodes (n ∷ p) ≡ Some x → IsShown s tree (n ∷ p) x row
   shows x e =
@@ -333,7 +453,32 @@ module _ (s : Sealing) (d : Disk) (tree : Tree) (rows : Rows) (row : Row) (p : P
 
     shaped : (x : Node) → get tree.nodes (n ∷ p) ≡ Some x
         → HasShape s (with_name tree (n ∷ p) (k ∷ p) long) (set_row (change_dir rows row.parent now) (with_mtime c (record row { name = k })))
-    shaped x e = shape_moved s tree rows row (with_mtime c (record row { name = k })) p n k long now (apart x e) shape at_it free refl refl refl refl refl refl refl
+    shaped x e = shape_moved renamed
+      where
+        renamed : MovedRow
+        renamed = record {
+          s = s;
+          tree = tree;
+          rows = rows;
+          old = row;
+          new = with_mtime c (record row { name = k });
+          p = p;
+          n = n;
+          k = k;
+          long = long;
+          now = now;
+          apart = apart x e;
+          shape = shape;
+          at_it = at_it;
+          free = free;
+          number = refl;
+          inside = refl;
+          named = refl;
+          kind = refl;
+          content = refl;
+          foreign = refl;
+          shadowed = refl;
+        }
 
     pub named_so : (x : Node) → get tree.nodes (n ∷ p) ≡ Some x → ((t : List ℕ) → x ≢ Bad t)
         → Follows s d (rename_deeds (place_of s i n (tree.long (n ∷ p))) (place_of s i k long) (s.seal i k) (what_of s x))
@@ -356,8 +501,44 @@ module _ (s : Sealing) (d : Disk) (tree : Tree) (rows : Rows) (row : Row) (p : P
     named_so (Bad t) e good = absurd (good t refl)
 
 pub removal_follows : RemovalFollows
-removal_follows s d tree rows row p i n x now texts is shape at_it at_p there none = removed s d tree rows row p i n now texts is shape at_it at_p x there none
+removal_follows s d tree rows row p i n x now texts is shape at_it at_p there none = removed held_row x there none
+  where
+    held_row : HeldRow
+    held_row = record {
+      s = s;
+      d = d;
+      tree = tree;
+      rows = rows;
+      row = row;
+      p = p;
+      i = i;
+      n = n;
+      now = now;
+      texts = texts;
+      is = is;
+      shape = shape;
+      at_it = at_it;
+      at_p = at_p;
+    }
 
 pub rename_follows : RenameFollows
 rename_follows s d tree rows row p i n k x long c now texts is shape at_it at_p there good free held' place =
-    named_so s d tree rows row p i n now texts is shape at_it at_p k long c free held' place x there good
+    named_so held_row k long c free held' place x there good
+  where
+    held_row : HeldRow
+    held_row = record {
+      s = s;
+      d = d;
+      tree = tree;
+      rows = rows;
+      row = row;
+      p = p;
+      i = i;
+      n = n;
+      now = now;
+      texts = texts;
+      is = is;
+      shape = shape;
+      at_it = at_it;
+      at_p = at_p;
+    }

@@ -17,7 +17,7 @@ use Rattle.std.proofs.lemmas.Option.{slice_get_within}
 use Rattle.outside.specs.Disk.{Disk}
 use Rattle.outside.specs.Calls.{Told}
 use Rattle.outside.proofs.Told.{told_both}
-use Rattle.siv_mode.specs.Keys.{KeyPair}
+use Rattle.vault_keys.specs.Keys.{KeyPair}
 use Rattle.clear_tree.specs.Walk.{Dir}
 use Rattle.clear_tree.specs.Places.{folders_of}
 use Rattle.clear_tree.specs.Kept.{KeptNode, KeptTree, folder_in, node_of}

@@ -9,9 +9,9 @@ use Rattle.std.proofs.lemmas.Map.Text.{is_eq-slice_cmp}
 use Rattle.outside.specs.Disk.{Disk, Node as Thing, folder as Folder, file as Bytes, node_at}
 use Rattle.outside.specs.Calls.{Told}
 use Rattle.outside.proofs.Told.{told_both}
-use Rattle.siv_mode.specs.Keys.{KeyPair}
-use Rattle.vault_names.specs.Folder.{folder_of}
-use Rattle.clear_tree.specs.Places.{is_folder}
+use Rattle.vault_keys.specs.Keys.{KeyPair}
+use Rattle.vault_names.specs.Folder.{base32, folder_of, hash_of}
+use Rattle.clear_tree.specs.Places.{host_folder, is_folder}
 use Rattle.clear_tree.specs.Kept.{KeptTree, KeptDir, IsKept}
 use Rattle.clear_tree.specs.Built.{root_alone, root_node}
 use Rattle.clear_tree.specs.Loading.{IsLoading, HasNodes}
@@ -23,7 +23,6 @@ use Rattle.tree_loading.specs.declared.nodes.Loading.{Loading}
 use Rattle.tree_loading.specs.Clear.{HasTooMany}
 use Rattle.tree_loading.specs.Under.{is_claimed, HasFolder}
 use Rattle.tree_loading.specs.Turned.{HasRoot, GoesOn, FindsTooMany}
-use Rattle.tree_loading.proofs.Digits.{host_folder-digits}
 
 cond_is : (b : Bool) → cond b true false ≡ b
 cond_is true = refl
@@ -61,8 +60,13 @@ folder_there (Some Folder) h = refl
 folder_there (Some (Bytes b)) h = absurd (cc)
 folder_there None h = absurd (cc)
 
+-- one path by both definitions
+host_folder_of : (keys : KeyPair) (identifier : List ℕ) → folder_of keys identifier ≡ host_folder (base32 (hash_of keys identifier))
+unfolding folder_of
+host_folder_of keys identifier = refl
+
 has_root : (keys : KeyPair) (d : Disk) (path : List (List ℕ)) (there : Bool) → path ≡ folder_of keys [] → there ≡ true → there ≡ is_folder (node_at d path) → HasRoot keys d
-has_root keys d path there at yes' seen = folder_there _ (ap (λ (p : List (List ℕ)). is_folder (node_at d p)) (sym (at ∙ host_folder-digits keys [])) ∙ sym seen ∙ yes')
+has_root keys d path there at yes' seen = folder_there _ (ap (λ (p : List (List ℕ)). is_folder (node_at d p)) (sym (at ∙ host_folder_of keys [])) ∙ sym seen ∙ yes')
 
 module _ (contents now : Option Disk) (keys : KeyPair) (path : List (List ℕ)) (there : Bool) (old : Loading) (at : path ≡ folder_of keys []) (is_there : there ≡ true) (same : now ≡ contents)
     (seen : Told contents (λ d. there ≡ is_folder (node_at d path))) (first : (d : Disk) → IsLoading (sealing_of keys) d 0 old.tree (is_claimed old.claims)) where

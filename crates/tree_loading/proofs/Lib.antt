@@ -5,7 +5,6 @@ pub mod Cases
 pub mod Names
 pub mod Gathering
 pub mod Listing
-pub mod Digits
 pub mod Settling
 pub mod Adding
 pub mod Turning

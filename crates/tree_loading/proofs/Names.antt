@@ -5,7 +5,7 @@ use Rattle.std.specs.FinMap.{get}
 use Rattle.std.proofs.lemmas.List.{take_all, take_at, length-take}
 use Rattle.outside.specs.declared.folder.Kind.TheVariants.{File as FileKind}
 use Rattle.outside.specs.Disk.{Disk, Path, Node as Thing, folder as Folder, file as Bytes, kind_of, kind_at, parent, IsFile, IsTree}
-use Rattle.siv_mode.specs.Keys.{KeyPair}
+use Rattle.vault_keys.specs.Keys.{KeyPair}
 use Rattle.vault_names.specs.Sealed.{opened_name, IsSealedName}
 use Rattle.vault_names.specs.Places.{ReadsLong}
 use Rattle.vault_names.specs.Folder.{base32, hash_of}

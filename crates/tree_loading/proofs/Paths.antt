@@ -3,7 +3,7 @@ use Rattle.std.proofs.Common.{◌≡◌, ℕ, ◌≤◌, true, List, [], ◌∷�
 use Rattle.std.proofs.lemmas.Bool.Decides.{nat_tests}
 use Rattle.std.proofs.lemmas.List.Folds.{list_all-append}
 use Rattle.vault_path.specs.Parts.{is_part, is_path}
-use Rattle.siv_mode.specs.Keys.{KeyPair}
+use Rattle.vault_keys.specs.Keys.{KeyPair}
 use Rattle.vault_names.specs.Folder.{base32, hash_of}
 use Rattle.vault_names.proofs.PartLemmas.{is_path-digits}
 use Rattle.clear_tree.specs.Places.{host_folder}
@@ -24,4 +24,4 @@ nodes_of parts three path = record {
 
 -- the folder of a directory, by its 32 characters
 pub CanHoldNodes-host_folder : (keys : KeyPair) (identifier : List ℕ) → CanHoldNodes (host_folder (base32 (hash_of keys identifier)))
-CanHoldNodes-host_folder keys identifier = nodes_of (host_folder (base32 (hash_of keys identifier))) refl (is_path-digits (hash_of keys identifier)).1
+CanHoldNodes-host_folder keys identifier = nodes_of (host_folder (base32 (hash_of keys identifier))) refl (is_path-digits (hash_of keys identifier))

@@ -16,7 +16,7 @@ use Rattle.base64.proofs.RoundTrip.{length-encode_symbols}
 use Rattle.sha1.specs.Sha1.{sha1, digest_bytes, hash_after, padded_message}
 use Rattle.aes_block.specs.Aes.{aes}
 use Rattle.aes_block.specs.Bytes.{AreBytes}
-use Rattle.siv_mode.specs.Keys.{KeyPair}
+use Rattle.vault_keys.specs.Keys.{KeyPair}
 use Rattle.siv_mode.specs.Siv.{siv_sealed, siv_opened}
 use Rattle.vault_path.specs.Parts.{is_part, is_part_byte}
 use Rattle.tree_model.specs.Names.{NameFault, empty, too_long, name_limit, form_fault, checked_name, clear_name, IsClearName}

@@ -10,7 +10,7 @@ use Rattle.outside.specs.declared.folder.Kind.TheVariants as host
 use Rattle.outside.specs.Disk.{Disk, Node as Thing, folder as Folder, file as Bytes, kind_of, kind_at, node_at}
 use Rattle.outside.specs.Calls.{Told}
 use Rattle.outside.proofs.Told.{told_then}
-use Rattle.siv_mode.specs.Keys.{KeyPair}
+use Rattle.vault_keys.specs.Keys.{KeyPair}
 use Rattle.clear_tree.specs.Places.{host_folder, is_folder}
 use Rattle.clear_tree.specs.declared.node.What.TheVariants as what
 use Rattle.clear_tree.specs.Kept.{KeptDir, KeptBad}

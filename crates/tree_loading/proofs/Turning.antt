@@ -4,7 +4,7 @@ use Rattle.std.proofs.lemmas.List.{length-map}
 use Rattle.outside.specs.Disk.{Disk, IsFolder}
 use Rattle.outside.specs.Calls.{Told}
 use Rattle.outside.proofs.Told.{told_then, told_both, told_always}
-use Rattle.siv_mode.specs.Keys.{KeyPair}
+use Rattle.vault_keys.specs.Keys.{KeyPair}
 use Rattle.clear_tree.specs.Walk.{Node, File, Link, Dir, Bad}
 use Rattle.clear_tree.specs.Places.{folders_of, host_folder}
 use Rattle.clear_tree.specs.Marks.{HasForeign}

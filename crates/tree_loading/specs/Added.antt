@@ -1,7 +1,7 @@
 -- What one node more leaves of a tree under way, and all of a directory.
 use Rattle.std.specs.Prelude.{◌≡◌, ℕ, List, [], ◌∷◌, ◌++◌, Some, Contains, slice_get}
 use Rattle.outside.specs.Disk.{Disk}
-use Rattle.siv_mode.specs.Keys.{KeyPair}
+use Rattle.vault_keys.specs.Keys.{KeyPair}
 use Rattle.clear_tree.specs.Walk.{Path, Dir}
 use Rattle.clear_tree.specs.Places.{folders_of}
 use Rattle.clear_tree.specs.Queue.{Row}

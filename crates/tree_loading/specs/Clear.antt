@@ -2,7 +2,7 @@
 use Rattle.std.specs.Prelude.{◌≡◌, ℕ, List, [], Option}
 use Rattle.outside.specs.Disk.{Disk}
 use Rattle.outside.specs.Calls.{Told}
-use Rattle.siv_mode.specs.Keys.{KeyPair}
+use Rattle.vault_keys.specs.Keys.{KeyPair}
 use Rattle.tree_model.specs.Rows.{Rows}
 use Rattle.vault_names.specs.Folder.{folder_of}
 use Rattle.clear_tree.specs.Rows.{IsClear as IsClearUnder}

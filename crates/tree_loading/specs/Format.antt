@@ -1,9 +1,10 @@
 -- The clear tree of a vault under its keys: the definitions of `clear_tree` at the format's own functions (Cryptomator's vault format 8).
 use Rattle.std.specs.Prelude.{ℕ, ◌-◌, List, length, drop, Bool, ◌&&◌, nat_le}
 use Rattle.std.specs.Str.{bytes_eq, is_utf8}
+use Rattle.vault_layout.specs.Limits.{identifier_limit}
 use Rattle.vault_path.specs.Parts.{is_part}
 use Rattle.outside.specs.Disk.{Disk}
-use Rattle.siv_mode.specs.Keys.{KeyPair}
+use Rattle.vault_keys.specs.Keys.{KeyPair}
 use Rattle.tree_model.specs.Rows.{Rows}
 use Rattle.vault_names.specs.Sealed.{sealed_name, opened_name, suffix}
 use Rattle.vault_names.specs.Folder.{base32, hash_of}
@@ -12,11 +13,7 @@ use Rattle.file_chunks.specs.File.{content_of}
 use Rattle.clear_tree.specs.Walk.{Sealing}
 use Rattle.clear_tree.specs.Rows.{IsClear}
 
--- the longest identifier, in bytes
-abbrev pub identifier_limit : ℕ
-identifier_limit = 1000
-
--- the identifier of a directory below the root: 1 to 1,000 bytes of UTF-8
+-- the identifier of a directory below the root: 1 byte up to the limit, of UTF-8
 abbrev pub is_identifier : List ℕ → Bool
 is_identifier bytes = nat_le 1 (length bytes) && nat_le (length bytes) identifier_limit && is_utf8 bytes
 

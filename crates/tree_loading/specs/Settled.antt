@@ -2,7 +2,7 @@
 use Rattle.std.specs.Prelude.{◌≡◌, ℕ, List}
 use Rattle.std.specs.BTreeSet.{BTreeSet}
 use Rattle.outside.specs.Disk.{Disk}
-use Rattle.siv_mode.specs.Keys.{KeyPair}
+use Rattle.vault_keys.specs.Keys.{KeyPair}
 use Rattle.clear_tree.specs.Places.{folders_of}
 use Rattle.clear_tree.specs.Built.{kept_what}
 use Rattle.clear_tree.specs.Scan.{Shown}

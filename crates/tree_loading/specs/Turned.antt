@@ -2,7 +2,7 @@
 use Rattle.std.specs.Prelude.{◌≡◌, ℕ, suc, List, [], Option, None, Some}
 use Rattle.outside.specs.Disk.{Disk, IsFolder}
 use Rattle.outside.specs.Calls.{Told}
-use Rattle.siv_mode.specs.Keys.{KeyPair}
+use Rattle.vault_keys.specs.Keys.{KeyPair}
 use Rattle.clear_tree.specs.Places.{host_folder}
 use Rattle.clear_tree.specs.Kept.{KeptDir, KeptNode, KeptTree, folder_in, node_of}
 use Rattle.clear_tree.specs.Scan.{IsScanned}

@@ -3,7 +3,7 @@
 use Rattle.std.specs.Prelude.{◌≡◌, ◌≢◌, ⊤, ℕ, false, IsTrue}
 use Rattle.std.specs.List.{AllByRecursion}
 use Rattle.outside.specs.Disk.{Disk}
-use Rattle.siv_mode.specs.Keys.{KeyPair}
+use Rattle.vault_keys.specs.Keys.{KeyPair}
 use Rattle.tree_model.specs.declared.refusal.Refusal.TheVariants as refusals
 use Rattle.tree_model.specs.Rows.{Cell, good, damaged, Content, bad_size, chunks, Row, Rows, bad}
 use Rattle.tree_model.specs.Asked.{read}

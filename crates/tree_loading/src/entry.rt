@@ -14,13 +14,11 @@ use crate::place::{long_place, short_place};
 use crate::reading::{has_twin, is_there, name_in};
 use crate::scan_fault::ScanErr;
 use outside::{Kind, Reads};
-use siv_mode::VaultKeys;
 use std::alloc::Global;
+use vault_keys::VaultKeys;
+use vault_layout::IDENTIFIER_COPY;
 use vault_names::{Name, open_name, reads_long};
 use vault_path::{Text, VaultPath};
-
-// The host file that keeps a copy of its directory's identifier. It is never an entry.
-const IDENTIFIER_COPY: &str = "dirid.c9r";
 
 const LONG_SUFFIX: &str = ".c9s";
 
@@ -54,7 +52,7 @@ pub(crate) fn entry_of<R: Reads>(
     let Ok(path) = folder.join(entry.as_bytes()) else {
         return Ok(Entry::Foreign);
     };
-    if entry.as_bytes() == IDENTIFIER_COPY.as_bytes() {
+    if entry.as_bytes() == IDENTIFIER_COPY {
         identifier_copy(from, keys, identifier, entry, &path)
     } else if is_long_entry(entry.as_bytes()) {
         long_entry(alloc, from, keys, identifier, folder, entry, &path)
@@ -70,7 +68,7 @@ fn is_long_entry(entry: &[u8]) -> bool
     entry.strip_suffix(LONG_SUFFIX.as_bytes()).is_some()
 }
 
-// What an entry `dirid.c9r` is.
+// What an entry of the name of such a copy is. It is never a node.
 fn identifier_copy<R: Reads>(
     from: &mut R,
     keys: &VaultKeys,

@@ -1,7 +1,7 @@
 ghost use Rattle.tree_loading.specs.Format.{sealing_of};
 ghost use Rattle.tree_loading.specs.Ciphers.{AreCiphers};
 
-use siv_mode::VaultKeys;
+use vault_keys::VaultKeys;
 
 /// The format's functions under a vault's keys are such that an entry of a folder stands for one node at most: texts open
 /// to the names that they were sealed from, long places are no texts. It does nothing.

@@ -17,9 +17,8 @@
 //! The clear tree of a vault's folder, loaded into memory.
 //!
 //! ```
-//! let tree = load(alloc, &mut folder, &keys, 220)?;
-//! let number = tree.look(0, b"notes")?;
-//! let path = tree.path(number)?;
+//! let tree = load(alloc, &mut folder, &keys, DEFAULT_THRESHOLD)?;
+//! let path = tree.path(1)?;
 //! ```
 #![tactic(auto)]
 
@@ -42,6 +41,7 @@ pub use found::{FoundNode, Shown};
 pub use laws::are_ciphers;
 pub use load_fault::LoadErr;
 pub use loading::{load, loading_is_clear, undamaged_is_read};
+pub use naming::is_identifier;
 pub use scan_fault::ScanErr;
 pub use scanned::Scanned;
 pub use scanning::scan;

@@ -1,4 +1,5 @@
 ghost use Rattle.std.specs.Prelude.{◌≡◌, ◌≤◌, ◌<◌, ℕ, length, OnOk, IfOk, IsErrOf};
+ghost use Rattle.vault_layout.specs.Limits.{max_threshold};
 ghost use Rattle.outside.specs.Disk.{Disk, IsFolder};
 ghost use Rattle.outside.specs.Calls.{HasCause, Told};
 ghost use Rattle.outside.specs.Images.{disk_in};
@@ -18,9 +19,9 @@ use crate::nodes::Loading;
 use crate::turns::turn;
 use clear_tree::Tree;
 use outside::Reads;
-use siv_mode::VaultKeys;
 use std::alloc::Global;
 use std::collections::BTreeSet;
+use vault_keys::VaultKeys;
 use vault_names::folder_of;
 
 /// Loads the tree of a vault's folder: each directory by its identifier from the root on, breadth first, in O(n log n) for
@@ -32,7 +33,7 @@ pub fn load<R: Reads>(
     keys: &VaultKeys,
     threshold: u32,
 ) -> Result<Tree, LoadErr>
-    requires { (1 ≤ threshold) × (threshold ≤ 250) }
+    requires { (1 ≤ threshold) × (threshold ≤ max_threshold) }
     ensures loaded { IfOk result (λ t. Told (disk_in (R.log from.old)) (λ d. IsKept (sealing_of keys.now) d t)) }
     ensures few { IfOk result (λ t. length t.nodes ≤ node_limit) }
     ensures no_root { IsErrOf result LoadErr.NoRoot

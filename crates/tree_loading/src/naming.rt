@@ -16,9 +16,9 @@ use crate::found::Shown;
 use crate::load_fault::LoadErr;
 use clear_tree::{What, host_folder};
 use outside::{Kind, Reads};
-use siv_mode::VaultKeys;
 use std::collections::BTreeSet;
-use vault_names::IDENTIFIER_LIMIT;
+use vault_keys::VaultKeys;
+use vault_layout::IDENTIFIER_LIMIT;
 use vault_path::{Text, VaultPath};
 
 /// What a node is, and whether it names a folder that is named already.
@@ -115,8 +115,8 @@ pub(crate) fn is_there<R: Reads>(from: &mut R, path: &VaultPath) -> Result<bool,
     }
 }
 
-// Whether bytes are the identifier of a directory below the root.
-fn is_identifier(bytes: &[u8]) -> bool
+/// Whether bytes are the identifier of a directory below the root.
+pub fn is_identifier(bytes: &[u8]) -> bool
     ensures { result ≡ is_identifier bytes.now }
 {
     !bytes.is_empty() && bytes.len() <= IDENTIFIER_LIMIT && is_text(bytes)

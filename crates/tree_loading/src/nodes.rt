@@ -15,8 +15,8 @@ use crate::load_fault::LoadErr;
 use crate::naming::{Settled, settle};
 use clear_tree::{Node, Tree};
 use outside::Reads;
-use siv_mode::VaultKeys;
 use std::collections::BTreeSet;
+use vault_keys::VaultKeys;
 use vault_names::Name;
 
 /// A tree under way, and the folders that its nodes name.

@@ -6,21 +6,15 @@ ghost use Rattle.tree_loading.specs.Reading.{CanHoldParts, HoldsFurther, Shows, 
 ghost use Rattle.tree_loading.specs.Showing.{IsPlace};
 
 use crate::found::Shown;
-use crate::reading::{NAME_FILE, inner, size_at, text_at};
+use crate::reading::{inner, size_at, text_at};
 use crate::scan_fault::ScanErr;
 use outside::{Kind, Reads};
 use std::alloc::Global;
+use vault_layout::{CONTENTS_FILE, DIRECTORY_FILE, IDENTIFIER_LIMIT, LINK_FILE, NAME_FILE};
 use vault_path::VaultPath;
 
-// The known files of a node folder.
-const DIRECTORY_FILE: &str = "dir.c9r";
-
-const LINK_FILE: &str = "symlink.c9r";
-
-const CONTENTS_FILE: &str = "contents.c9r";
-
-// No more of a `dir.c9r` is kept than shows whether it is an identifier, which has at most 1,000 bytes.
-const TEXT_LIMIT: usize = 1001;
+// No more of a `dir.c9r` is kept than shows whether it is an identifier.
+const TEXT_LIMIT: usize = IDENTIFIER_LIMIT + 1;
 
 /// What an entry shows where it is, and whether its folder has further entries.
 #[derive(Drop)]
@@ -113,10 +107,10 @@ fn short_shown<R: Reads>(
     ensures changes { R.changes from.new ≡ R.changes from.old }
     ensures cause { HasCause (R.faults from.old) (R.faults from.new) (IsErrOf result ScanErr.Device) }
 {
-    let directory = inner(node, DIRECTORY_FILE.as_bytes());
+    let directory = inner(node, DIRECTORY_FILE);
     match text_at(alloc, from, &directory, TEXT_LIMIT)? {
         Some(text) => Ok(Some(Shown::Directory(text))),
-        None => match size_at(from, &inner(node, LINK_FILE.as_bytes()))? {
+        None => match size_at(from, &inner(node, LINK_FILE))? {
             Some(size) => Ok(Some(Shown::Link(size))),
             None => Ok(None),
         },
@@ -137,7 +131,7 @@ fn long_shown<R: Reads>(
 {
     match short_shown(alloc, from, node)? {
         Some(shown) => Ok(Some(shown)),
-        None => match size_at(from, &inner(node, CONTENTS_FILE.as_bytes()))? {
+        None => match size_at(from, &inner(node, CONTENTS_FILE))? {
             Some(size) => Ok(Some(Shown::File(size))),
             None => Ok(None),
         },
@@ -173,14 +167,14 @@ fn known_file(shown: &Shown) -> &'static [u8]
     ensures { result.now ≡ known_file shown.now }
 {
     match shown {
-        Shown::File(_) => CONTENTS_FILE.as_bytes(),
-        Shown::Link(_) => LINK_FILE.as_bytes(),
-        Shown::Directory(_) => DIRECTORY_FILE.as_bytes(),
+        Shown::File(_) => CONTENTS_FILE,
+        Shown::Link(_) => LINK_FILE,
+        Shown::Directory(_) => DIRECTORY_FILE,
     }
 }
 
 fn is_further(known: &[u8], long: bool, entry: &[u8]) -> bool
     ensures { result ≡ is_further known.now long entry.now }
 {
-    entry != known && !(long && entry == NAME_FILE.as_bytes())
+    entry != known && !(long && entry == NAME_FILE)
 }

@@ -10,11 +10,9 @@ ghost use Rattle.tree_loading.specs.Reading.{CanHoldNodes, CanHoldParts, entry_i
 use crate::scan_fault::ScanErr;
 use outside::{Kind, Reads};
 use std::alloc::Global;
+use vault_layout::NAME_FILE;
 use vault_names::{LONGEST_TEXT, long_folder};
 use vault_path::{Text, VaultPath};
-
-/// The file of a node folder at a long place that holds the text.
-pub(crate) const NAME_FILE: &str = "name.c9s";
 
 // No more of a `name.c9s` is read than shows whether it holds the text of a name.
 const NAME_LIMIT: usize = LONGEST_TEXT + 1;
@@ -99,7 +97,7 @@ pub(crate) fn name_in<R: Reads>(
     ensures changes { R.changes from.new ≡ R.changes from.old }
     ensures cause { HasCause (R.faults from.old) (R.faults from.new) (IsErrOf result ScanErr.Device) }
 {
-    text_at(alloc, from, &inner(node, NAME_FILE.as_bytes()), NAME_LIMIT)
+    text_at(alloc, from, &inner(node, NAME_FILE), NAME_LIMIT)
 }
 
 /// Whether the folder of a text at its long place holds that text.

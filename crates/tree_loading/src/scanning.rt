@@ -17,9 +17,9 @@ use crate::laws::are_ciphers;
 use crate::scan_fault::ScanErr;
 use crate::scanned::Scanned;
 use outside::{Kind, Reads};
-use siv_mode::VaultKeys;
 use std::alloc::{AllocError, Global};
 use std::collections::BTreeMap;
+use vault_keys::VaultKeys;
 use vault_names::Name;
 use vault_path::{Text, VaultPath};
 

@@ -14,8 +14,8 @@ use crate::scanned::Scanned;
 use crate::scanning::scan;
 use clear_tree::{Tree, What, host_folder};
 use outside::Reads;
-use siv_mode::VaultKeys;
 use std::alloc::Global;
+use vault_keys::VaultKeys;
 
 // The most nodes that a tree may have.
 const NODE_LIMIT: usize = 1_048_576;

@@ -11,7 +11,7 @@ use Rattle.atomic_table.proofs.Lists.{at_set, at_longer, set_here, set_else, set
 use Rattle.turn_lock.specs.declared.history.Ended.{Ended}
 use Rattle.turn_lock.specs.declared.rule.Met.{Met}
 use Rattle.turn_lock.specs.declared.rule.View.{View}
-use Rattle.turn_lock.specs.declared.TheConstants.{TURN_LIMIT}
+use Rattle.turn_lock.specs.Limits.{turn_limit}
 use Rattle.turn_lock.specs.Turns.{turns_by}
 use Rattle.turn_lock.specs.Views.{number_or, is_late, has_turn, ended_by, with_ticket, in_turn, after_turn, made_one, newcomer, later}
 use Rattle.turn_lock.specs.Rule.{Owns, total, parts_of, drawn_of, unspent_of, turns_of, Fits, Distinct, Numbered, Making, Placed, Kept}
@@ -171,27 +171,27 @@ module _ {S E : Type 0} (stands : S → List (Ended E) → Type 0) where
       inr (b.0, all_set (λ i u. u.took ≡ false) s.views id w free' (λ j u other e. b.1 j u e)))
       p
 
-  fits_drawn : (log : List (Ended E)) (x : ℕ) (v : View E) (n : ℕ) → Fits log x v → v.number ≡ Some n → 0 < v.parts → v.took ≡ false → (x < TURN_LIMIT → length log ≤ x) → Fits log (x + 1) (with_ticket x v)
+  fits_drawn : (log : List (Ended E)) (x : ℕ) (v : View E) (n : ℕ) → Fits log x v → v.number ≡ Some n → 0 < v.parts → v.took ≡ false → (x < turn_limit → length log ≤ x) → Fits log (x + 1) (with_ticket x v)
   fits_drawn log x v n f is some_part free later = record {
     starts = f.starts;
     owns = f.owns;
     met = f.met;
-    drew = λ t e. let same : x ≡ t = cc in (omega arith, (λ (l : t < TURN_LIMIT). let l' : x < TURN_LIMIT = omega arith in let m = later l' in omega arith), some_part, λ _. (n, is));
+    drew = λ t e. let same : x ≡ t = cc in (omega arith, (λ (l : t < turn_limit). let l' : x < turn_limit = omega arith in let m = later l' in omega arith), some_part, λ _. (n, is));
     took = λ e. absurd (true≢false (sym e ∙ free));
     idle = λ z. absurd (omega arith);
     mine = f.mine;
   }
 
-  turns_new : (x : ℕ) → Dec (x < TURN_LIMIT) → (x < TURN_LIMIT → has_turn (Some x) ≡ 1) × (TURN_LIMIT ≤ x → has_turn (Some x) ≡ 0)
+  turns_new : (x : ℕ) → Dec (x < turn_limit) → (x < turn_limit → has_turn (Some x) ≡ 1) × (turn_limit ≤ x → has_turn (Some x) ≡ 0)
   turns_new x d = ((λ l. grind (arith, nat_tests)), λ l. grind (arith, nat_tests))
 
-  late_new : (x : ℕ) → (x < TURN_LIMIT → is_late (Some x) ≡ false) × (TURN_LIMIT ≤ x → is_late (Some x) ≡ true)
+  late_new : (x : ℕ) → (x < turn_limit → is_late (Some x) ≡ false) × (turn_limit ≤ x → is_late (Some x) ≡ true)
   late_new x = ((λ l. grind (arith, nat_tests)), λ l. grind (arith, nat_tests))
 
   -- the counts after a ticket was drawn
   counts_drawn : (seats x len : ℕ) (views : List (View E)) (id : ℕ) (v : View E) → get_elem? views id ≡ some v → 0 < v.parts → v.ticket ≡ None → total parts_of views ≡ seats
-      → x + total unspent_of views ≤ TURN_LIMIT + seats → total turns_of views + len ≡ min x TURN_LIMIT
-      → (x + 1 + total unspent_of (set views id (with_ticket x v)) ≤ TURN_LIMIT + seats) × (total turns_of (set views id (with_ticket x v)) + len ≡ min (x + 1) TURN_LIMIT)
+      → x + total unspent_of views ≤ turn_limit + seats → total turns_of views + len ≡ min x turn_limit
+      → (x + 1 + total unspent_of (set views id (with_ticket x v)) ≤ turn_limit + seats) × (total turns_of (set views id (with_ticket x v)) + len ≡ min (x + 1) turn_limit)
   counts_drawn seats x len views id v at some_part none_yet parts bounded waiting =
       let w : View E = with_ticket x v in
       let vs : List (View E) = set views id w in
@@ -201,12 +201,12 @@ module _ {S E : Type 0} (stands : S → List (Ended E) → Type 0) where
       let low = unspent_le vs in
       let u0 : unspent_of v ≡ v.parts = ap (λ z. if is_late z then 0 else v.parts) none_yet in
       let t0 : turns_of v ≡ 0 = ap has_turn none_yet in
-      dite (dec_lt x TURN_LIMIT)
-      (λ l. let tw : turns_of w ≡ 1 = (turns_new x (dec_lt x TURN_LIMIT)).0 l in (omega arith, omega arith))
-      (λ more. let le : TURN_LIMIT ≤ x = omega arith in let tw : turns_of w ≡ 0 = (turns_new x (dec_lt x TURN_LIMIT)).1 le in
+      dite (dec_lt x turn_limit)
+      (λ l. let tw : turns_of w ≡ 1 = (turns_new x (dec_lt x turn_limit)).0 l in (omega arith, omega arith))
+      (λ more. let le : turn_limit ≤ x = omega arith in let tw : turns_of w ≡ 0 = (turns_new x (dec_lt x turn_limit)).1 le in
       let uw : unspent_of w ≡ 0 = ap (λ (b : Bool). if b then 0 else v.parts) ((late_new x).1 le) in (omega arith, omega arith))
 
-  waiting_le : (log : List (Ended E)) (x turns : ℕ) → turns + length log ≡ min x TURN_LIMIT → length log ≤ x
+  waiting_le : (log : List (Ended E)) (x turns : ℕ) → turns + length log ≡ min x turn_limit → length log ≤ x
   waiting_le log x turns e = omega arith
 
   drawn_state : (seats slots id : ℕ) (v : View E) (n : ℕ) (s : St) → v.number ≡ Some n → 0 < v.parts → v.ticket ≡ None → v.took ≡ false → (k : Kept stands seats s) → get_elem? s.views id ≡ some v
@@ -236,8 +236,8 @@ module _ {S E : Type 0} (stands : S → List (Ended E) → Type 0) where
         numbered = numbered_set k.next id s.views v w at refl refl refl k.numbered;
         parts = omega arith;
         drawn = subst (λ (z : ℕ). total drawn_of (set s.views id w) ≡ z) (sym now) (omega arith);
-        bounded = subst (λ (z : ℕ). z + total unspent_of (set s.views id w) ≤ TURN_LIMIT + seats) (sym now) counts.0;
-        waiting = subst (λ (z : ℕ). total turns_of (set s.views id w) + length k.log ≡ min z TURN_LIMIT) (sym now) counts.1;
+        bounded = subst (λ (z : ℕ). z + total unspent_of (set s.views id w) ≤ turn_limit + seats) (sym now) counts.0;
+        waiting = subst (λ (z : ℕ). total turns_of (set s.views id w) + length k.log ≡ min z turn_limit) (sym now) counts.1;
         placed = placed_set k.log id s v w at free free k.placed;
       }
 
@@ -257,7 +257,7 @@ module _ {S E : Type 0} (stands : S → List (Ended E) → Type 0) where
       )
 
   -- while this view waits for its turn, and the turn has come, the value is at home
-  at_home : (seats t id : ℕ) (v : View E) (s : St) (k : Kept stands seats s) → get_elem? s.views id ≡ some v → v.ticket ≡ Some t → t < TURN_LIMIT → v.took ≡ false → t ≡ length k.log
+  at_home : (seats t id : ℕ) (v : View E) (s : St) (k : Kept stands seats s) → get_elem? s.views id ≡ some v → v.ticket ≡ Some t → t < turn_limit → v.took ≡ false → t ≡ length k.log
       → (y : S) × (get_elem? s.homes 0 ≡ some (some (Some y))) × stands y k.log
   at_home seats t id v s k at has lt free is = ⊎_elim
       (λ (a : (i : ℕ) × (u : View E) × (get_elem? s.views i ≡ some u) × (u.took ≡ true)).
@@ -268,7 +268,7 @@ module _ {S E : Type 0} (stands : S → List (Ended E) → Type 0) where
       (λ (b : ((y : S) × (get_elem? s.homes 0 ≡ some (some (Some y))) × stands y k.log) × ((i : ℕ) (u : View E) → get_elem? s.views i ≡ some u → u.took ≡ false)). b.0)
       k.placed
 
-  taken_state : (seats t id : ℕ) (v : View E) (s : St) (k : Kept stands seats s) → get_elem? s.views id ≡ some v → v.ticket ≡ Some t → t < TURN_LIMIT → v.took ≡ false → t ≡ length k.log
+  taken_state : (seats t id : ℕ) (v : View E) (s : St) (k : Kept stands seats s) → get_elem? s.views id ≡ some v → v.ticket ≡ Some t → t < turn_limit → v.took ≡ false → t ≡ length k.log
       → Kept stands seats record { words = s.words; homes = set s.homes 0 none; views = set s.views id (in_turn v k.log) }
   taken_state seats t id v s k at has lt free is =
       let w : View E = in_turn v k.log in
@@ -294,13 +294,13 @@ module _ {S E : Type 0} (stands : S → List (Ended E) → Type 0) where
         numbered = numbered_set k.next id s.views v w at refl refl refl k.numbered;
         parts = total_same parts_of s.views id v w at refl ∙ k.parts;
         drawn = total_same drawn_of s.views id v w at refl ∙ k.drawn;
-        bounded = subst (λ (z : ℕ). tickets s + z ≤ TURN_LIMIT + seats) (sym (total_same unspent_of s.views id v w at refl)) k.bounded;
-        waiting = subst (λ (z : ℕ). z + length k.log ≡ min (tickets s) TURN_LIMIT) (sym (total_same turns_of s.views id v w at refl)) k.waiting;
+        bounded = subst (λ (z : ℕ). tickets s + z ≤ turn_limit + seats) (sym (total_same unspent_of s.views id v w at refl)) k.bounded;
+        waiting = subst (λ (z : ℕ). z + length k.log ≡ min (tickets s) turn_limit) (sym (total_same turns_of s.views id v w at refl)) k.waiting;
         placed = inl (id, w, set_here s.views id w (in_range s.views id v at), refl);
       }
 
   -- the count of turns is found, and if it is the ticket, the slot is taken
-  pub looks : (seats slots id : ℕ) (v : View E) (c : List (ℕ × Option S)) (t : ℕ) → v.ticket ≡ Some t → t < TURN_LIMIT → v.took ≡ false
+  pub looks : (seats slots id : ℕ) (v : View E) (c : List (ℕ × Option S)) (t : ℕ) → v.ticket ≡ Some t → t < turn_limit → v.took ≡ false
       → Allows (Kept stands seats) slots id (v, c) 1 (λ x. x) (looked stands (step slots 1 0 0 none) (v, c))
   looks seats slots id v c t has lt free s k _ at _ =
       let x : ℕ = get_or s.words 1 0 in
@@ -323,7 +323,7 @@ module _ {S E : Type 0} (stands : S → List (Ended E) → Type 0) where
         ((λ e. let same : Some t ≡ Some x = sym has ∙ e in let same' : t ≡ x = cc in absurd (other same')), λ _. refl),
       ))
 
-  fits_ended : (log : List (Ended E)) (x id j : ℕ) (v u : View E) (e : Ended E) → Fits log x u → v.ticket ≡ Some (length log) → length log < TURN_LIMIT
+  fits_ended : (log : List (Ended E)) (x id j : ℕ) (v u : View E) (e : Ended E) → Fits log x u → v.ticket ≡ Some (length log) → length log < turn_limit
       → (u.ticket ≡ Some (length log) → ⊥) → ((k : ℕ) → u.number ≡ Some k → e.by ≢ k) → ((i k : ℕ) (m : Met E) → get_elem? u.met i ≡ some m → m.by ≡ Some k → e.by ≢ k) → Fits (log ++ e ∷ []) x u
   fits_ended log x id j v u e f has lt apart other met_other = record {
     starts = starts_more log u.seen e f.starts;
@@ -351,18 +351,18 @@ module _ {S E : Type 0} (stands : S → List (Ended E) → Type 0) where
     mine = λ n is. ap (λ (k : ℕ). turns_by k (log ++ e ∷ [])) (sym (ap number_or is));
   }
 
-  done_counts : (seats x len : ℕ) (views : List (View E)) (id : ℕ) (v : View E) (log : List (Ended E)) → get_elem? views id ≡ some v → v.ticket ≡ Some len → len < TURN_LIMIT
-      → x + total unspent_of views ≤ TURN_LIMIT + seats → total turns_of views + len ≡ min x TURN_LIMIT
-      → (x + total unspent_of (set views id (after_turn v log)) ≤ TURN_LIMIT + seats) × (total turns_of (set views id (after_turn v log)) + (len + 1) ≡ min x TURN_LIMIT)
+  done_counts : (seats x len : ℕ) (views : List (View E)) (id : ℕ) (v : View E) (log : List (Ended E)) → get_elem? views id ≡ some v → v.ticket ≡ Some len → len < turn_limit
+      → x + total unspent_of views ≤ turn_limit + seats → total turns_of views + len ≡ min x turn_limit
+      → (x + total unspent_of (set views id (after_turn v log)) ≤ turn_limit + seats) × (total turns_of (set views id (after_turn v log)) + (len + 1) ≡ min x turn_limit)
   done_counts seats x len views id v log at has lt bounded waiting =
       let w : View E = after_turn v log in
       let u = total_set unspent_of views id v w at in
       let t = total_set turns_of views id v w at in
-      let tv : turns_of v ≡ 1 = ap has_turn has ∙ (turns_new len (dec_lt len TURN_LIMIT)).0 lt in
+      let tv : turns_of v ≡ 1 = ap has_turn has ∙ (turns_new len (dec_lt len turn_limit)).0 lt in
       let uv : unspent_of v ≡ v.parts = ap (λ z. if is_late z then 0 else v.parts) has ∙ ap (λ (b : Bool). if b then 0 else v.parts) ((late_new len).0 lt) in
       (omega arith, omega arith)
 
-  given_state : (seats id : ℕ) (v : View E) (y : S) (e : Option E) (s : St) (k : Kept stands seats s) → get_elem? s.views id ≡ some v → 0 < length s.homes → v.ticket ≡ Some (length k.log) → length k.log < TURN_LIMIT
+  given_state : (seats id : ℕ) (v : View E) (y : S) (e : Option E) (s : St) (k : Kept stands seats s) → get_elem? s.views id ≡ some v → 0 < length s.homes → v.ticket ≡ Some (length k.log) → length k.log < turn_limit
       → (n : ℕ) → v.number ≡ Some n → stands y (k.log ++ ended_by v e ∷ [])
       → Kept stands seats record { words = set s.words 1 (length k.log + 1); homes = set s.homes 0 (some (Some y)); views = set s.views id (after_turn v (k.log ++ ended_by v e ∷ [])) }
   given_state seats id v y e s k at slot has lt n is right =
@@ -395,8 +395,8 @@ module _ {S E : Type 0} (stands : S → List (Ended E) → Type 0) where
         numbered = numbered_set k.next id s.views v w at refl refl refl k.numbered;
         parts = total_same parts_of s.views id v w at refl ∙ k.parts;
         drawn = total_same drawn_of s.views id v w at refl ∙ (k.drawn ∙ sym x_is);
-        bounded = subst (λ (z : ℕ). z + total unspent_of (set s.views id w) ≤ TURN_LIMIT + seats) (sym x_is) counts.0;
-        waiting = subst (λ (z : ℕ). total turns_of (set s.views id w) + length log' ≡ min z TURN_LIMIT) (sym x_is) (subst (λ (z : ℕ). total turns_of (set s.views id w) + z ≡ min x TURN_LIMIT) (sym len) counts.1);
+        bounded = subst (λ (z : ℕ). z + total unspent_of (set s.views id w) ≤ turn_limit + seats) (sym x_is) counts.0;
+        waiting = subst (λ (z : ℕ). total turns_of (set s.views id w) + length log' ≡ min z turn_limit) (sym x_is) (subst (λ (z : ℕ). total turns_of (set s.views id w) + z ≡ min x turn_limit) (sym len) counts.1);
         placed = inr (
           (y, set_here s.homes 0 (some (Some y)) slot, right),
           all_set (λ j u. u.took ≡ false) s.views id w refl
@@ -427,10 +427,10 @@ module _ {S E : Type 0} (stands : S → List (Ended E) → Type 0) where
       )
 
   -- a view is added that can do nothing, or that has the next number
-  pub arrived : (seats next : ℕ) (s : St) (r : View E) (log : List (Ended E)) → seats < TURN_LIMIT → next ≤ seats → Making seats s.views → (r.number ≡ Some 0 → ⊥) → length s.words ≡ 2 → ((n : ℕ) → next ≤ n → turns_by n log ≡ []) → get_or s.words 1 0 ≡ length log
+  pub arrived : (seats next : ℕ) (s : St) (r : View E) (log : List (Ended E)) → seats < turn_limit → next ≤ seats → Making seats s.views → (r.number ≡ Some 0 → ⊥) → length s.words ≡ 2 → ((n : ℕ) → next ≤ n → turns_by n log ≡ []) → get_or s.words 1 0 ≡ length log
       → ((j : ℕ) (v : View E) → get_elem? s.views j ≡ some v → Fits log (tickets s) v) → Fits log (tickets s) r → Distinct s.views → r.ticket ≡ None → Numbered next (s.views ++ r ∷ [])
-      → total parts_of s.views + r.parts ≡ seats → total drawn_of s.views + r.drawn ≡ tickets s → tickets s + (total unspent_of s.views + r.parts) ≤ TURN_LIMIT + seats
-      → total turns_of s.views + length log ≡ min (tickets s) TURN_LIMIT → Placed stands log s.homes s.views → r.took ≡ false
+      → total parts_of s.views + r.parts ≡ seats → total drawn_of s.views + r.drawn ≡ tickets s → tickets s + (total unspent_of s.views + r.parts) ≤ turn_limit + seats
+      → total turns_of s.views + length log ≡ min (tickets s) turn_limit → Placed stands log s.homes s.views → r.took ≡ false
       → Kept stands seats record { words = s.words; homes = s.homes; views = s.views ++ r ∷ [] }
   arrived seats next s r log few low making no_maker wide strangers ended each mine distinct none_yet numbered parts drawn bounded waiting placed free =
       let p = total_snoc parts_of s.views r in
@@ -512,5 +512,5 @@ module _ {S E : Type 0} (stands : S → List (Ended E) → Type 0) where
       ))
       numbered)
       (omega arith) (let d = total_same drawn_of s.views id v w at refl in let d' = k.drawn in omega arith) (omega arith)
-      (subst (λ (z : ℕ). z + length k.log ≡ min x TURN_LIMIT) (sym (total_same turns_of s.views id v w at refl)) k.waiting)
+      (subst (λ (z : ℕ). z + length k.log ≡ min x turn_limit) (sym (total_same turns_of s.views id v w at refl)) k.waiting)
       (placed_set k.log id s v w at free free k.placed) refl

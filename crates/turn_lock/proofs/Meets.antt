@@ -11,7 +11,7 @@ use Rattle.atomic_table.proofs.Lists.{set_here, set_else, set_again}
 use Rattle.turn_lock.specs.declared.history.Ended.{Ended}
 use Rattle.turn_lock.specs.declared.rule.Met.{Met}
 use Rattle.turn_lock.specs.declared.rule.View.{View}
-use Rattle.turn_lock.specs.declared.TheConstants.{TURN_LIMIT}
+use Rattle.turn_lock.specs.Limits.{turn_limit}
 use Rattle.turn_lock.specs.Turns.{StartsWith, turns_by, longer}
 use Rattle.turn_lock.specs.Views.{Sat, is_late, has_turn, witness, spent_view, later, meeting, joined, forgot, saw}
 use Rattle.turn_lock.specs.Rule.{Owns, parts_of, drawn_of, unspent_of, turns_of, Fits, Distinct, Numbered, Placed, Kept}
@@ -31,15 +31,15 @@ later_is (Some s) (Some t) z e =
     elim (ltb s t) as (λ (b : Bool). (if b then (Some t) else (Some s)) ≡ Some z → (Some s ≡ Some z) ⊎ (Some t ≡ Some z)) [ true ↦ (λ h. inr h) | false ↦ (λ h. inl h) ] e
 
 -- a ticket past the last turn has none
-pub turnless : (ticket : Option ℕ) → ((t : ℕ) → ticket ≡ Some t → TURN_LIMIT ≤ t) → has_turn ticket ≡ 0
+pub turnless : (ticket : Option ℕ) → ((t : ℕ) → ticket ≡ Some t → turn_limit ≤ t) → has_turn ticket ≡ 0
 turnless None late = refl
 turnless (Some t) late = let l = late t refl in grind (arith, nat_tests)
 
-unspent_late : (t parts : ℕ) → TURN_LIMIT ≤ t → (if is_late (Some t) then 0 else parts) ≡ 0
+unspent_late : (t parts : ℕ) → turn_limit ≤ t → (if is_late (Some t) then 0 else parts) ≡ 0
 unspent_late t parts l = grind (arith, nat_tests)
 
 -- a right to draw comes from one of the two
-unspent_joined : (s t : Option ℕ) (a b : ℕ) → ((z : ℕ) → s ≡ Some z → TURN_LIMIT ≤ z) → ((z : ℕ) → t ≡ Some z → TURN_LIMIT ≤ z)
+unspent_joined : (s t : Option ℕ) (a b : ℕ) → ((z : ℕ) → s ≡ Some z → turn_limit ≤ z) → ((z : ℕ) → t ≡ Some z → turn_limit ≤ z)
     → (if is_late (later s t) then 0 else (a + b)) ≤ (if is_late s then 0 else a) + (if is_late t then 0 else b)
 unspent_joined None None a b late late' = omega arith
 unspent_joined None (Some t) a b late late' = let e = unspent_late t (a + b) (late' t refl) in omega arith
@@ -53,7 +53,7 @@ later_none None = refl
 later_none (Some t) = refl
 
 module _ {E : Type 0} where
-  distinct_late : (id : ℕ) (views : List (View E)) (w : View E) → ((t : ℕ) → w.ticket ≡ Some t → TURN_LIMIT ≤ t) → Distinct views → Distinct (set views id w)
+  distinct_late : (id : ℕ) (views : List (View E)) (w : View E) → ((t : ℕ) → w.ticket ≡ Some t → turn_limit ≤ t) → Distinct views → Distinct (set views id w)
   distinct_late id views w late h i j t u y e f p q lt =
       let back : (k : ℕ) (z : View E) → get_elem? (set views id w) k ≡ some z → z.ticket ≡ Some t → get_elem? views k ≡ some z
       = all_set (λ k z. z.ticket ≡ Some t → get_elem? views k ≡ some z) views id w (λ g. let l = late t g in absurd (omega arith)) (λ k z other g _. g) in
@@ -76,7 +76,7 @@ module _ {E : Type 0} where
       (λ (a : (longer v.seen w.seen ≡ v.seen) × (length w.seen ≤ length v.seen)). f.owns m e ∙ ap (turns_by m) (sym a.0)) (longer_cases v.seen w.seen)
 
   fits_joined : (log : List (Ended E)) (x : ℕ) (v w : View E) → Fits log x v → Fits log x w → v.took ≡ false
-      → ((t : ℕ) → v.ticket ≡ Some t → TURN_LIMIT ≤ t) → ((t : ℕ) → w.ticket ≡ Some t → TURN_LIMIT ≤ t) → Fits log x (joined v w)
+      → ((t : ℕ) → v.ticket ≡ Some t → turn_limit ≤ t) → ((t : ℕ) → w.ticket ≡ Some t → turn_limit ≤ t) → Fits log x (joined v w)
   fits_joined log x v w f g free late late' = record {
     starts = ⊎_elim (λ (a : (longer v.seen w.seen ≡ w.seen) × (length v.seen < length w.seen)). subst (StartsWith log) (sym a.0) g.starts)
         (λ (a : (longer v.seen w.seen ≡ v.seen) × (length w.seen ≤ length v.seen)). subst (StartsWith log) (sym a.0) f.starts) (longer_cases v.seen w.seen);
@@ -169,14 +169,14 @@ module _ {S E : Type 0} (stands : S → List (Ended E) → Type 0) where
       (let p = k.parts in omega arith) (let p = k.drawn in omega arith) (let p = k.bounded in omega arith) k.waiting k.placed refl)
 
   -- two tokens are joined
-  pub joins : (seats id other : ℕ) (v w : View E) → (v.number ≡ Some 0 → w.parts ≡ 0) → v.took ≡ false → w.took ≡ false → ((t : ℕ) → v.ticket ≡ Some t → TURN_LIMIT ≤ t) → ((t : ℕ) → w.ticket ≡ Some t → TURN_LIMIT ≤ t)
+  pub joins : (seats id other : ℕ) (v w : View E) → (v.number ≡ Some 0 → w.parts ≡ 0) → v.took ≡ false → w.took ≡ false → ((t : ℕ) → v.ticket ≡ Some t → turn_limit ≤ t) → ((t : ℕ) → w.ticket ≡ Some t → turn_limit ≤ t)
       → Joins (Kept stands seats) id v other w (joined v w) spent_view
   joins seats id other v w no_parts free free' late late' s k at apart there =
       let b : View E = joined v w in
       let x : ℕ = tickets stands s in
       let vs : List (View E) = set s.views id b in
       let at' : get_elem? s.views other ≡ some w = sym (set_else s.views id other b apart) ∙ there in
-      let late_b : (t : ℕ) → b.ticket ≡ Some t → TURN_LIMIT ≤ t = λ t e. ⊎_elim (late t) (late' t) (later_is v.ticket w.ticket t e) in
+      let late_b : (t : ℕ) → b.ticket ≡ Some t → turn_limit ≤ t = λ t e. ⊎_elim (late t) (late' t) (later_is v.ticket w.ticket t e) in
       let p = total_set parts_of s.views id v b at in
       let p' = total_set parts_of vs other w spent_view there in
       let d = total_set drawn_of s.views id v b at in
@@ -253,8 +253,8 @@ module _ {S E : Type 0} (stands : S → List (Ended E) → Type 0) where
           numbered = numbered_forgot k.next id s.views v at k.numbered;
           parts = total_same parts_of s.views id v w at refl ∙ k.parts;
           drawn = total_same drawn_of s.views id v w at refl ∙ k.drawn;
-          bounded = subst (λ (z : ℕ). tickets stands s + z ≤ TURN_LIMIT + seats) (sym (total_same unspent_of s.views id v w at refl)) k.bounded;
-          waiting = subst (λ (z : ℕ). z + length k.log ≡ min (tickets stands s) TURN_LIMIT) (sym (total_same turns_of s.views id v w at refl)) k.waiting;
+          bounded = subst (λ (z : ℕ). tickets stands s + z ≤ turn_limit + seats) (sym (total_same unspent_of s.views id v w at refl)) k.bounded;
+          waiting = subst (λ (z : ℕ). z + length k.log ≡ min (tickets stands s) turn_limit) (sym (total_same turns_of s.views id v w at refl)) k.waiting;
           placed = placed_forgot k.log id s v at k.placed;
         },
         (refl, λ i m e. let h = f.met i m e in shorter_begins_longer k.log m.seen v.seen h.0 f.starts h.2, f.mine),

@@ -5,7 +5,7 @@ use lib.ListN.{get_elem?}
 use Rattle.atomic_table.specs.Table.{opening}
 use Rattle.turn_lock.specs.declared.history.Ended.{Ended}
 use Rattle.turn_lock.specs.declared.rule.View.{View}
-use Rattle.turn_lock.specs.declared.TheConstants.{TURN_LIMIT}
+use Rattle.turn_lock.specs.Limits.{turn_limit}
 use Rattle.turn_lock.specs.Views.{first_view}
 use Rattle.turn_lock.specs.Rule.{Fits, Kept}
 use Rattle.turn_lock.proofs.Keeps.{All}
@@ -20,7 +20,7 @@ module _ {E : Type 0} where
 
 module _ {S E : Type 0} (stands : S → List (Ended E) → Type 0) where
   -- a new table keeps the rule
-  pub opens : (seats : ℕ) (y : S) → 0 < seats → seats < TURN_LIMIT → stands y [] → Kept stands seats (opening (0 ∷ 0 ∷ []) (Some y ∷ []) (first_view seats))
+  pub opens : (seats : ℕ) (y : S) → 0 < seats → seats < turn_limit → stands y [] → Kept stands seats (opening (0 ∷ 0 ∷ []) (Some y ∷ []) (first_view seats))
   opens seats y some_seat few right =
       let v : View E = first_view seats in
       let is : (j : ℕ) (u : View E) → get_elem? (v ∷ []) j ≡ some u → (j ≡ 0) × (v ≡ u) = λ j u e. single v u j e in record {

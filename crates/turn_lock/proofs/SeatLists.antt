@@ -6,7 +6,7 @@ use Rattle.std.proofs.lemmas.List.Sums.{sum_by-cons}
 use mathlib.Core.Option.{some, some-ne-none, some-injective}
 use lib.ListN.{get_elem?, length-map}
 use Rattle.atomic_table.specs.Seated.{TableId}
-use Rattle.turn_lock.specs.declared.TheConstants.{TURN_LIMIT}
+use Rattle.turn_lock.specs.Limits.{turn_limit}
 use Rattle.turn_lock.specs.declared.history.Ended.{Ended}
 use Rattle.turn_lock.specs.declared.rule.View.{View}
 use Rattle.turn_lock.specs.SeatView.{SeatView}
@@ -87,7 +87,7 @@ module _ {E : Type 0} where
   }
 
   -- once none is to come, all were gathered
-  pub gathered_all : (z : TableId) (seats : ℕ) (all : List (SeatView E)) (v : View E) (ws : List (View E)) → AreGathered z all [] v ws → seats ≡ length all → ((t : ℕ) → v.ticket ≡ Some t → TURN_LIMIT ≤ t)
+  pub gathered_all : (z : TableId) (seats : ℕ) (all : List (SeatView E)) (v : View E) (ws : List (View E)) → AreGathered z all [] v ws → seats ≡ length all → ((t : ℕ) → v.ticket ≡ Some t → turn_limit ≤ t)
       → AreViews z all ws × IsAll seats v ws
   gathered_all z seats all v ws h count past = (
     record { same = h.split; numbered = h.numbered },
@@ -118,7 +118,7 @@ module _ {E : Type 0} where
               ticket = λ t has. subst (λ (n : ℕ). t < n) sum (end.tickets k t w at has);
             }));
         no_others = λ n past. end.no_others n (omega arith);
-        counted = subst (λ (n : ℕ). length end.history ≡ min n TURN_LIMIT) sum end.counted;
+        counted = subst (λ (n : ℕ). length end.history ≡ min n turn_limit) sum end.counted;
       }
 
 module _ {S E : Type 0} where

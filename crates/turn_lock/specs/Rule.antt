@@ -5,7 +5,7 @@ use mathlib.Core.Option.{some}
 use mathlib.Core.Option as maybe
 use lib.ListN.{get_elem?}
 use Rattle.atomic_table.specs.Table.{State}
-use Rattle.turn_lock.specs.declared.TheConstants.{TURN_LIMIT}
+use Rattle.turn_lock.specs.Limits.{turn_limit}
 use Rattle.turn_lock.specs.declared.history.Ended.{Ended}
 use Rattle.turn_lock.specs.declared.rule.Met.{Met}
 use Rattle.turn_lock.specs.declared.rule.View.{View}
@@ -39,13 +39,13 @@ module _ {E : Type 0} where
     pub starts : StartsWith log v.seen
     pub owns : Owns log v.number v.seen
     pub met : (k : ℕ) (m : Met E) → get_elem? v.met k ≡ some m → StartsWith log m.seen × Owns log m.by m.seen × (length m.seen ≤ length v.seen)
-    pub drew : (t : ℕ) → v.ticket ≡ Some t → (t < tickets) × (t < TURN_LIMIT → length log ≤ t) × (0 < v.parts) × (t < TURN_LIMIT → (n : ℕ) × (v.number ≡ Some n))
-    pub took : v.took ≡ true → (v.ticket ≡ Some (length log)) × (length log < TURN_LIMIT) × (v.seen ≡ log)
+    pub drew : (t : ℕ) → v.ticket ≡ Some t → (t < tickets) × (t < turn_limit → length log ≤ t) × (0 < v.parts) × (t < turn_limit → (n : ℕ) × (v.number ≡ Some n))
+    pub took : v.took ≡ true → (v.ticket ≡ Some (length log)) × (length log < turn_limit) × (v.seen ≡ log)
     pub idle : v.parts ≡ 0 → v.drawn ≡ 0
     pub mine : (n : ℕ) → v.number ≡ Some n → turns_by n v.seen ≡ v.mine
 
   abbrev pub Distinct : List (View E) → Type 0
-  Distinct vs = (i j t : ℕ) (v w : View E) → get_elem? vs i ≡ some v → get_elem? vs j ≡ some w → v.ticket ≡ Some t → w.ticket ≡ Some t → t < TURN_LIMIT → i ≡ j
+  Distinct vs = (i j t : ℕ) (v w : View E) → get_elem? vs i ≡ some v → get_elem? vs j ≡ some w → v.ticket ≡ Some t → w.ticket ≡ Some t → t < turn_limit → i ≡ j
 
   -- a number is one view's, and no view has met it
   abbrev pub Numbered : ℕ → List (View E) → Type 0
@@ -67,7 +67,7 @@ module _ {E : Type 0} where
     pub record Kept (seats : ℕ) (s : State (Option S) (View E)) : Type 0 where
       pub log : List (Ended E)
       pub next : ℕ
-      pub few : seats < TURN_LIMIT
+      pub few : seats < turn_limit
       pub low : next ≤ seats
       pub making : Making seats s.views
       pub wide : length s.words ≡ 2
@@ -78,6 +78,6 @@ module _ {E : Type 0} where
       pub numbered : Numbered next s.views
       pub parts : total parts_of s.views ≡ seats
       pub drawn : total drawn_of s.views ≡ slice_index s.words 0
-      pub bounded : slice_index s.words 0 + total unspent_of s.views ≤ TURN_LIMIT + seats
-      pub waiting : total turns_of s.views + length log ≡ min (slice_index s.words 0) TURN_LIMIT
+      pub bounded : slice_index s.words 0 + total unspent_of s.views ≤ turn_limit + seats
+      pub waiting : total turns_of s.views + length log ≡ min (slice_index s.words 0) turn_limit
       pub placed : Placed log s.homes s.views

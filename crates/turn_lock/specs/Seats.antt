@@ -1,7 +1,7 @@
 -- What the calls of a lock promise, over seats as contracts see them.
 use Rattle.std.specs.Prelude.{◌≡◌, ◌⊎◌, ℕ, zero, suc, ◌+◌, ◌<◌, ◌≤◌, min, true, false, List, [], ◌∷◌, ◌++◌, length, Option, Some, None, All, sum_by}
 use Rattle.atomic_table.specs.Seated.{TableId}
-use Rattle.turn_lock.specs.declared.TheConstants.{TURN_LIMIT}
+use Rattle.turn_lock.specs.Limits.{turn_limit}
 use Rattle.turn_lock.specs.declared.history.Ended.{Ended}
 use Rattle.turn_lock.specs.SeatView.{SeatView}
 use Rattle.turn_lock.specs.Turns.{StartsWith, turns_by}
@@ -32,7 +32,7 @@ module _ {E : Type 0} where
 
   -- No turn: the ticket is past the last one. It was drawn just now, or before, and then nothing changes.
   pub record IsSpent (old new : SeatView E) (ticket : ℕ) : Type 0 where
-    pub past : TURN_LIMIT ≤ ticket
+    pub past : turn_limit ≤ ticket
     pub after : ((old.ticket ≡ Some ticket) × (new ≡ old)) ⊎ ((old.ticket ≡ None) × (new ≡ record old { ticket = Some ticket; drawn = old.drawn + 1 }))
 
   -- a seat of which no more was changed than that it has seen these turns
@@ -54,7 +54,7 @@ module _ {E : Type 0} where
     pub record TakesTurn (old new : SeatView E) (value : S) : Type 0 where
       pub history : List (Ended E)
       pub in_time : old.ticket ≡ None
-      pub early : length history < TURN_LIMIT
+      pub early : length history < turn_limit
       pub after : new ≡ record old { ticket = Some (length history); in_turn = true; drawn = old.drawn + 1; seen = history }
       pub follows : Follows old history
       pub right : stands value history
@@ -79,4 +79,4 @@ module _ {E : Type 0} where
       pub right : stands value history
       pub parts : All (IsPartOf history (tickets_of seats)) seats
       pub no_others : (n : ℕ) → length seats ≤ n → turns_by n history ≡ []
-      pub counted : length history ≡ min (tickets_of seats) TURN_LIMIT
+      pub counted : length history ≡ min (tickets_of seats) turn_limit

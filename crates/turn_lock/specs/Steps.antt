@@ -4,7 +4,7 @@ use mathlib.Core.Option.{some}
 use lib.ListN.{get_elem?}
 use Rattle.atomic_table.specs.Seated.{TableId}
 use Rattle.atomic_table.specs.Table.{Step}
-use Rattle.turn_lock.specs.declared.TheConstants.{TURN_LIMIT}
+use Rattle.turn_lock.specs.Limits.{turn_limit}
 use Rattle.turn_lock.specs.declared.history.Ended.{Ended}
 use Rattle.turn_lock.specs.declared.rule.Met.{Met}
 use Rattle.turn_lock.specs.declared.rule.View.{View}
@@ -18,7 +18,7 @@ module _ {S E : Type 0} where
   pub record IsResting (me : Sat S E) : Type 0 where
     pub slots : me.1 ≡ []
     pub free : me.0.took ≡ false
-    pub past : (t : ℕ) → me.0.ticket ≡ Some t → TURN_LIMIT ≤ t
+    pub past : (t : ℕ) → me.0.ticket ≡ Some t → turn_limit ≤ t
 
   -- it may draw a ticket
   pub record MayDraw (me : Sat S E) : Type 0 where
@@ -36,7 +36,7 @@ module _ {S E : Type 0} where
     pub slots : me.1 ≡ []
     pub free : me.0.took ≡ false
     pub has : me.0.ticket ≡ Some ticket
-    pub early : ticket < TURN_LIMIT
+    pub early : ticket < turn_limit
 
   -- its turn has come: all turns so far were seen, and slot 0 was taken, with a value that stands for them
   pub record Enters (stands : S → List (Ended E) → Type 0) (me me' : Sat S E) (ticket : ℕ) : Type 0 where
@@ -95,7 +95,7 @@ module _ {E : Type 0} where
     pub gathers : v ≡ gathered (witness first) ws
     pub count : seats ≡ length ws
     pub one_each : (k : ℕ) (w : View E) → get_elem? ws k ≡ some w → w.parts ≡ 1
-    pub past : (t : ℕ) → v.ticket ≡ Some t → TURN_LIMIT ≤ t
+    pub past : (t : ℕ) → v.ticket ≡ Some t → turn_limit ≤ t
 
   -- these views are those of the tokens of these seats
   pub record AreViews (lock : TableId) (seats : List (SeatView E)) (ws : List (View E)) : Type 0 where
@@ -110,4 +110,4 @@ module _ {E : Type 0} where
     pub owns : (k : ℕ) (w : View E) → get_elem? ws k ≡ some w → Owns history w.number w.seen
     pub tickets : (k t : ℕ) (w : View E) → get_elem? ws k ≡ some w → w.ticket ≡ Some t → t < total drawn_of ws
     pub no_others : (n : ℕ) → length ws ≤ n → turns_by n history ≡ []
-    pub counted : length history ≡ min (total drawn_of ws) TURN_LIMIT
+    pub counted : length history ≡ min (total drawn_of ws) turn_limit

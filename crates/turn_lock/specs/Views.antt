@@ -2,7 +2,7 @@
 use Rattle.std.specs.Prelude.{◌≡◌, ℕ, ◌+◌, ◌-◌, ◌≤◌, Bool, true, false, if◌then◌else◌, ltb, List, [], ◌∷◌, ◌++◌, Option, Some, None}
 use Rattle.atomic_table.specs.Seated.{TableId}
 use Rattle.atomic_table.specs.Table.{Me}
-use Rattle.turn_lock.specs.declared.TheConstants.{TURN_LIMIT}
+use Rattle.turn_lock.specs.Limits.{turn_limit}
 use Rattle.turn_lock.specs.declared.history.Ended.{Ended}
 use Rattle.turn_lock.specs.declared.rule.Met.{Met}
 use Rattle.turn_lock.specs.declared.rule.View.{View}
@@ -22,12 +22,12 @@ later (Some s) (Some t) = if ltb s t then (Some t) else (Some s)
 -- whether this ticket has no turn
 abbrev pub is_late : Option ℕ → Bool
 is_late None = false
-is_late (Some t) = if ltb t TURN_LIMIT then false else true
+is_late (Some t) = if ltb t turn_limit then false else true
 
 -- how many turns are still to come for this ticket
 abbrev pub has_turn : Option ℕ → ℕ
 has_turn None = 0
-has_turn (Some t) = if ltb t TURN_LIMIT then 1 else 0
+has_turn (Some t) = if ltb t turn_limit then 1 else 0
 
 -- a token: its view, and the slots that it holds
 abbrev pub Sat : Type 0 → Type 0 → Type 0
@@ -124,4 +124,4 @@ module _ {E : Type 0} where
     pub slots : me.1 ≡ held_slots me.0.took
     pub idle : me.0.took ≡ false → me.0.ticket ≡ late
     pub turn : me.0.took ≡ true → late ≡ None
-    pub past : (t : ℕ) → late ≡ Some t → TURN_LIMIT ≤ t
+    pub past : (t : ℕ) → late ≡ Some t → turn_limit ≤ t

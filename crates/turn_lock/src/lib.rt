@@ -15,6 +15,9 @@
 //! of one word while it waits. Nothing is promised of waiting: not that a turn is ever given, nor fairness beyond the order of tickets.
 #![tactic(auto)]
 
+ghost use Rattle.std.specs.Prelude.{◌≡◌};
+ghost use Rattle.turn_lock.specs.Limits.{turn_limit};
+
 mod history;
 mod lock;
 mod making;
@@ -30,3 +33,8 @@ pub use seat::{Seat, Spent, Turn};
 
 /// How many turns a lock has: tickets from this number on have none.
 pub const TURN_LIMIT: u64 = 1 << 62;
+
+/// The number of turns in the code is that of the definitions. It does nothing.
+pub fn turn_limit_is_the_definitions()
+    ensures { TURN_LIMIT ≡ turn_limit }
+{}

@@ -3,12 +3,12 @@ ghost use Rattle.std.specs.Prelude.{◌≡◌, ℕ, ◌+◌, ◌<◌, List, [], 
 ghost use mathlib.Core.Option.{some};
 ghost use lib.ListN.{get_elem?};
 ghost use Rattle.std.specs.Slots.{slots_items, slots_len, IsFull};
+ghost use Rattle.turn_lock.specs.Limits.{turn_limit};
 ghost use Rattle.turn_lock.specs.declared.rule.View.{View};
 ghost use Rattle.turn_lock.specs.Turns.{StartsWith, longer, turns_by};
 ghost use Rattle.turn_lock.specs.Views.{maker, newcomer, witness, joined, saw, with_ticket};
 ghost use Rattle.turn_lock.specs.Steps.{IsResting, MayDraw, Waits, Enters, Entered, IsOut, MayGive, Gave, IsAll, IsEnd};
 
-use crate::TURN_LIMIT;
 use crate::history::History;
 use crate::rule::{Orderly, View};
 use crate::steps::{Both, Double, Draw, Event, Give, Learn, Look, Make};
@@ -83,7 +83,7 @@ impl<V: History> Turnstile<V> {
         seats: u64,
         value: V,
     ) -> Result<(Turnstile<V>, Token<Option<V>, View<V::Entry>>), V>
-        requires few { (0 < seats) × (seats < TURN_LIMIT) }
+        requires few { (0 < seats) × (seats < turn_limit) }
         requires right { V.stands value [] }
         ensures ok { IfOk result (λ r. (r.0.table.shared.key ≡ seats) × (r.1.table_id ≡ r.0.table.shared.table_id) × (r.1.me ≡ (maker seats 1, []))) }
         ensures err { IfErr result (λ v. v ≡ value) }

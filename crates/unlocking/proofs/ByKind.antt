@@ -4,7 +4,7 @@ use Rattle.std.specs.Option.{is_some, option_map, ok_or}
 use Rattle.outside.specs.Calls.{Told}
 use Rattle.outside.specs.Disk.{Disk}
 use Rattle.outside.proofs.Told.{told_then, told_always}
-use Rattle.siv_mode.specs.Keys.{KeyPair}
+use Rattle.vault_keys.specs.Keys.{KeyPair}
 use Rattle.json_members.specs.Steps.{result_and_then}
 use Rattle.masterkey_file.specs.Password.{line_of, password_of}
 use Rattle.unlocking.specs.FromFiles.{absent, UnlockedVault, Cause as KeyCause, bad_secret, vault_opened, unlocked}

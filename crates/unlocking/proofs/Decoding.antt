@@ -5,7 +5,7 @@ use Rattle.hex.specs.declared.error.FromHexError.{FromHexError}
 use Rattle.hex.specs.Hex.{decode_sized}
 use Rattle.hex.proofs.HexLemmas.{decode_sized-twice, decode_sized-ok}
 use Rattle.outside.specs.Calls.{Told}
-use Rattle.siv_mode.specs.Keys.{KeyPair}
+use Rattle.vault_keys.specs.Keys.{KeyPair}
 use Rattle.masterkey_file.specs.Password.{line_of}
 use Rattle.unlocking.specs.Secret.{pair_of, raw_keys}
 

@@ -4,7 +4,7 @@ use Rattle.std.proofs.lemmas.Bool.{lt-ltb}
 use Rattle.std.specs.Result.{result_map_both}
 use Rattle.outside.specs.Disk.{Disk}
 use Rattle.outside.specs.Images.{Log, disk_in}
-use Rattle.siv_mode.specs.Keys.{KeyPair}
+use Rattle.vault_keys.specs.Keys.{KeyPair}
 use Rattle.json_members.specs.Steps.{result_and_then}
 use Rattle.masterkey_file.proofs.Members.{keys_of-long}
 use Rattle.vault_config.proofs.Reading.{config_of-long}

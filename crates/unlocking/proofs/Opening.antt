@@ -2,7 +2,7 @@
 use Rattle.std.proofs.Common.{◌≡◌, ℕ, List, Option, Some, None, Result, Ok, Err, refl, ap}
 use Rattle.std.specs.Option.{ok_or}
 use Rattle.std.specs.Result.{result_map_both}
-use Rattle.siv_mode.specs.Keys.{KeyPair}
+use Rattle.vault_keys.specs.Keys.{KeyPair}
 use Rattle.json_members.specs.Steps.{result_and_then}
 use Rattle.masterkey_file.specs.KeyFile.{keys_of}
 use Rattle.masterkey_file.specs.Password.{password_of}

@@ -1,17 +1,18 @@
 -- The key files in a vault's folder (Cryptomator's vault format 8).
-use Rattle.std.specs.Prelude.{[], ◌∷◌, Option, Some, None, codes}
+use Rattle.std.specs.Prelude.{[], ◌∷◌, Option, Some, None}
+use Rattle.vault_layout.specs.Names.{masterkey_file, new_vault_file, vault_file}
 use Rattle.outside.specs.Disk.{Disk, Path, Node, folder as folder_node, file as file_node, node_at}
 use Rattle.unlocking.specs.FromFiles.{FoundFile, absent, folder, file}
 
 abbrev pub masterkey_place : Path
-masterkey_place = codes "masterkey.cryptomator" ∷ []
+masterkey_place = masterkey_file ∷ []
 
 abbrev pub config_place : Path
-config_place = codes "vault.cryptomator" ∷ []
+config_place = vault_file ∷ []
 
 -- where a new vault file is written before it takes its place
 abbrev pub new_config_place : Path
-new_config_place = codes "vault.cryptomator.new" ∷ []
+new_config_place = new_vault_file ∷ []
 
 -- a node as a key file that is found
 abbrev pub found_in : Option Node → FoundFile

@@ -2,7 +2,7 @@
 use Rattle.std.specs.Prelude.{◌≡◌, ℕ, ◌<◌, ◌≤◌, List, length, Option, Some}
 use Rattle.outside.specs.Calls.{Told}
 use Rattle.outside.specs.Disk.{Disk, Path, file as file_node, node_at}
-use Rattle.json_members.specs.declared.TheConstants.{FILE_LIMIT}
+use Rattle.vault_layout.specs.Limits.{key_file_limit}
 use Rattle.unlocking.specs.FromFiles as keys
 use Rattle.unlocking.specs.Files.{found_at}
 use Rattle.unlocking.specs.declared.finding.Found.{Found}
@@ -12,8 +12,8 @@ use Rattle.unlocking.specs.declared.finding.Found.TheVariants.{Absent, Folder, T
 abbrev pub IsFound : Found → keys.FoundFile → Type 0
 IsFound Absent found = found ≡ keys.absent
 IsFound Folder found = found ≡ keys.folder
-IsFound (TooLong n) found = (bytes : List ℕ) × (found ≡ keys.file bytes) × (n ≡ length bytes) × (FILE_LIMIT < n)
-IsFound (File bytes) found = (found ≡ keys.file bytes.items) × (length bytes.items ≤ FILE_LIMIT)
+IsFound (TooLong n) found = (bytes : List ℕ) × (found ≡ keys.file bytes) × (n ≡ length bytes) × (key_file_limit < n)
+IsFound (File bytes) found = (found ≡ keys.file bytes.items) × (length bytes.items ≤ key_file_limit)
 
 -- P of a key file that is seen at a path: the disk's if that is told, and else some
 abbrev pub Sees : Option Disk → Path → (keys.FoundFile → Type 0) → Type 0

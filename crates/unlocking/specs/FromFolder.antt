@@ -3,13 +3,13 @@ use Rattle.std.specs.Prelude.{◌≡◌, ℕ, List, Option, Result}
 use Rattle.std.specs.Option.{option_map, ok_or}
 use Rattle.outside.specs.Calls.{Told}
 use Rattle.outside.specs.Disk.{Disk}
-use Rattle.siv_mode.specs.Keys.{KeyPair}
+use Rattle.vault_keys.specs.Keys.{KeyPair}
 use Rattle.masterkey_file.specs.Password.{line_of}
 use Rattle.json_members.specs.Steps.{result_and_then}
 use Rattle.unlocking.specs.FromFiles.{FoundFile, UnlockedVault, Cause, bad_secret, masterkey_opened, vault_opened, unlocked}
 use Rattle.unlocking.specs.Files.{masterkey_place, config_place, found_at}
 use Rattle.unlocking.specs.Secret.{raw_keys}
-use Rattle.unlocking.specs.declared.from_folder.TheConstants.{RAW_THRESHOLD}
+use Rattle.vault_layout.specs.Limits.{default_threshold}
 use Rattle.unlocking.specs.declared.from_folder.SecretKind.{SecretKind}
 use Rattle.unlocking.specs.declared.from_folder.SecretKind.TheVariants.{Password, RawKeys}
 
@@ -24,7 +24,7 @@ files_at disk = record { masterkey = found_at disk masterkey_place; config = fou
 
 -- the keys themselves, of which no file says anything
 abbrev pub with_raw_threshold : KeyPair → UnlockedVault
-with_raw_threshold keys = record { keys = keys; threshold = RAW_THRESHOLD }
+with_raw_threshold keys = record { keys = keys; threshold = default_threshold }
 
 -- What a secret and the key files unlock, or the first cause against it: the secret goes before the masterkey file, and that before the vault
 -- file. A secret that is the two keys goes by no file.

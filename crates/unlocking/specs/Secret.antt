@@ -3,9 +3,9 @@ use Rattle.std.specs.Prelude.{◌≡◌, ◌⊎◌, ℕ, ◌+◌, ◌≤◌, Lis
 use Rattle.std.specs.Option.{option_map}
 use Rattle.std.specs.Result.{result_ok}
 use Rattle.hex.specs.Hex.{decode_of}
-use Rattle.siv_mode.specs.Keys.{KeyPair}
+use Rattle.vault_keys.specs.Keys.{KeyPair}
 use Rattle.masterkey_file.specs.Password.{line_of}
-use Rattle.masterkey_file.specs.declared.secret.TheConstants.{LINE_LIMIT}
+use Rattle.vault_layout.specs.Limits.{password_limit}
 use Rattle.unlocking.specs.declared.from_folder.SecretKind.{SecretKind}
 use Rattle.unlocking.specs.declared.from_folder.SecretKind.TheVariants.{Password, RawKeys}
 
@@ -27,5 +27,5 @@ IsAfterLine bytes left = (bytes ≡ line_of bytes ++ 10 ∷ left) ⊎ ((bytes �
 
 -- how much is taken of a secret that unlocks nothing: no more than its longest line and one byte
 abbrev pub taken_limit : SecretKind → ℕ
-taken_limit Password = LINE_LIMIT + 1
+taken_limit Password = password_limit + 1
 taken_limit RawKeys = 129

@@ -11,11 +11,11 @@ use vault_config::ConfigErr;
 pub enum UnlockErr {
     /// The secret's first line is empty, has more than 1,024 bytes, or isn't UTF-8.
     BadSecret,
-    /// `masterkey.cryptomator` isn't a file.
+    /// The masterkey file isn't a file.
     NoMasterkeyFile,
     /// No keys are read from the masterkey file, for this cause, or the password is another. It isn't `Memory`.
     MasterkeyFile(KeyFileErr),
-    /// `vault.cryptomator` isn't a file.
+    /// The vault file isn't a file.
     NoVaultFile,
     /// The configuration isn't accepted, for this cause. It isn't `Memory`.
     VaultFile(ConfigErr),

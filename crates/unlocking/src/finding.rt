@@ -2,12 +2,13 @@ ghost use Rattle.std.specs.Prelude.{◌≡◌, ◌≤◌, Some, IfOk, IsErrOf, v
 ghost use Rattle.outside.specs.Disk.{file, node_at};
 ghost use Rattle.outside.specs.Calls.{HasCause, Told};
 ghost use Rattle.outside.specs.Images.{disk_in};
+ghost use Rattle.vault_layout.specs.Limits.{key_file_limit};
 ghost use Rattle.unlocking.specs.Finding.{HasLength, IsSeenAs};
 
-use json_members::FILE_LIMIT;
 use outside::{Folder, FolderErr, Kind};
 use std::alloc::{AllocError, Global};
 use thiserror::Error;
+use vault_layout::KEY_FILE_LIMIT;
 use vault_path::VaultPath;
 
 /// What is found where a key file should be.
@@ -17,9 +18,9 @@ pub enum Found {
     Absent,
     /// A folder.
     Folder,
-    /// A file of so many bytes, more than `FILE_LIMIT`, of which none was read.
+    /// A file of so many bytes, more than `KEY_FILE_LIMIT`, of which none was read.
     TooLong(u64),
-    /// A file with these bytes, at most `FILE_LIMIT`.
+    /// A file with these bytes, at most `KEY_FILE_LIMIT`.
     File(Vec<u8>),
 }
 
@@ -56,7 +57,7 @@ impl From<AllocError> for FindErr {
     }
 }
 
-/// What is found at the path of a key file. A file above `FILE_LIMIT` bytes isn't read. `FindErr` gives each error's cause.
+/// What is found at the path of a key file. A file above `KEY_FILE_LIMIT` bytes isn't read. `FindErr` gives each error's cause.
 pub fn find<D: Folder>(alloc: Global, folder: &mut D, path: &VaultPath) -> Result<Found, FindErr>
     ensures found { IfOk result (IsSeenAs (disk_in (D.log folder.old)) path.now) }
     ensures cause { HasCause (D.faults folder.old) (D.faults folder.new) (IsErrOf result FindErr.Device) }
@@ -66,7 +67,7 @@ pub fn find<D: Folder>(alloc: Global, folder: &mut D, path: &VaultPath) -> Resul
     match folder.kind(path)? {
         None => Ok(Found::Absent),
         Some(Kind::Dir) => Ok(Found::Folder),
-        Some(Kind::File(length)) if length > FILE_LIMIT as u64 => Ok(Found::TooLong(length)),
+        Some(Kind::File(length)) if length > KEY_FILE_LIMIT as u64 => Ok(Found::TooLong(length)),
         Some(Kind::File(length)) => {
             let bytes = read_whole(alloc, folder, path, length as usize)?;
             Ok(Found::File(bytes))
@@ -81,7 +82,7 @@ fn read_whole<D: Folder>(
     path: &VaultPath,
     length: usize,
 ) -> Result<Vec<u8>, FindErr>
-    requires few { length ≤ FILE_LIMIT }
+    requires few { length ≤ key_file_limit }
     requires there { Told (disk_in (D.log folder.old)) (λ disk. HasLength disk path.now length) }
     ensures bytes { IfOk result (λ bytes. Told (disk_in (D.log folder.old)) (λ disk. node_at disk path.now ≡ Some (file bytes.items))) }
     ensures few { IfOk result (λ bytes. vec_len bytes ≤ length) }

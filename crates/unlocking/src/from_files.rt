@@ -1,13 +1,13 @@
 ghost use Rattle.std.specs.Prelude.{◌≡◌, ◌≤◌, Ok, IfOk, IfErr, option_map};
+ghost use Rattle.vault_layout.specs.Limits.{max_threshold};
 ghost use Rattle.unlocking.specs.FromFiles.{bytes_in, masterkey_opened, unlocked, vault_opened};
 ghost use Rattle.unlocking.specs.Errors.{IsCause};
 ghost use Rattle.unlocking.specs.Found.{found_data, unlocked_data};
 
 use crate::errors::UnlockErr;
 use masterkey_file::password;
-use siv_mode::VaultKeys;
 use std::alloc::Global;
-use vault_config::MAX_THRESHOLD;
+use vault_keys::VaultKeys;
 
 /// A file of the vault's root folder, as it is found.
 #[derive(Clone, Copy)]
@@ -25,7 +25,7 @@ pub enum FoundFile<'a> {
 pub struct Unlocked {
     /// The vault's keys.
     pub keys: VaultKeys,
-    /// The longest sealed name, in characters, that isn't shortened: 1 to 250.
+    /// The longest sealed name, in characters, that isn't shortened: 1 to `MAX_THRESHOLD`.
     pub threshold: u32,
 }
 
@@ -52,7 +52,7 @@ pub fn open_vault_file(
     found: FoundFile<'_>,
 ) -> Result<Unlocked, UnlockErr>
     ensures unlocked { IfOk result (λ u. vault_opened keys (found_data found.entry) ≡ Ok (unlocked_data u)) }
-    ensures range { IfOk result (λ u. (1 ≤ u.threshold) × (u.threshold ≤ MAX_THRESHOLD)) }
+    ensures range { IfOk result (λ u. (1 ≤ u.threshold) × (u.threshold ≤ max_threshold)) }
     ensures cause { IfErr result (λ e. IsCause e (vault_opened keys (found_data found.entry))) }
 {
     let Some(bytes) = file_bytes(found) else {
@@ -77,7 +77,7 @@ pub fn unlock_found(
 ) -> Result<Unlocked, UnlockErr>
     ensures unlocked { let found = unlocked secret.now (found_data masterkey.entry) (found_data vault.entry) in
         IfOk result (λ u. found ≡ Ok (unlocked_data u)) }
-    ensures range { IfOk result (λ u. (1 ≤ u.threshold) × (u.threshold ≤ MAX_THRESHOLD)) }
+    ensures range { IfOk result (λ u. (1 ≤ u.threshold) × (u.threshold ≤ max_threshold)) }
     ensures cause { let found = unlocked secret.now (found_data masterkey.entry) (found_data vault.entry) in
         IfErr result (λ e. IsCause e found) }
 {

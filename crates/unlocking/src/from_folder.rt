@@ -1,7 +1,7 @@
 ghost use Rattle.std.specs.Prelude.{◌≡◌, ◌≤◌, Ok, IfOk, IfErr, OnOk, OnErr, IsErrOf};
 ghost use Rattle.outside.specs.Calls.{Changes, HasCause};
 ghost use Rattle.outside.specs.Images.{disk_in};
-ghost use Rattle.vault_config.specs.declared.claims.TheConstants.{MAX_THRESHOLD};
+ghost use Rattle.vault_layout.specs.Limits.{max_threshold};
 ghost use Rattle.unlocking.specs.Errors.{IsCause};
 ghost use Rattle.unlocking.specs.Found.{unlocked_data};
 ghost use Rattle.unlocking.specs.FromFiles as key_unlock;
@@ -19,12 +19,10 @@ use crate::refusal::Refusal;
 use crate::secret::{read_keys, read_password};
 use masterkey_file::KeyFileErr;
 use outside::{Folder, Source};
-use siv_mode::VaultKeys;
 use std::alloc::Global;
 use vault_config::ConfigErr;
-
-/// The threshold of a vault that is unlocked by its keys: the length of the longest sealed name, in characters, that isn't shortened.
-pub const RAW_THRESHOLD: u32 = 220;
+use vault_keys::VaultKeys;
+use vault_layout::DEFAULT_THRESHOLD;
 
 /// What the secret's first line is.
 #[derive(Clone, Copy, Debug, PartialEq, Eq)]
@@ -35,9 +33,9 @@ pub enum SecretKind {
     RawKeys,
 }
 
-/// Unlocks the vault in a folder by the first line of a secret. Of a password's secret the line is taken, or at most 1,025 bytes; of the
-/// keys' the line, or at most 129. If the secret is the keys the folder isn't looked at. The causes are found in the order of
-/// `UnlockErr`; a file of more than 65,536 bytes isn't read. `Refusal` gives each error's cause.
+/// Unlocks the vault in a folder by the first line of a secret. Of a password's secret the line is taken, or at most one byte more than
+/// `PASSWORD_LIMIT`; of the keys' the line, or at most 129 bytes. If the secret is the keys the folder isn't looked at. The causes are found in the order of
+/// `UnlockErr`; a file of more than `KEY_FILE_LIMIT` bytes isn't read. `Refusal` gives each error's cause.
 pub fn unlock<D: Folder, S: Source>(
     alloc: Global,
     kind: SecretKind,
@@ -45,7 +43,7 @@ pub fn unlock<D: Folder, S: Source>(
     secret: &mut S,
 ) -> Result<Unlocked, Refusal>
     ensures unlocked { IfOk result (λ u. IsUnlocking kind (S.left secret.old) (disk_in (D.log folder.old)) (λ found. found ≡ Ok (unlocked_data u))) }
-    ensures range { IfOk result (λ u. (1 ≤ u.threshold) × (u.threshold ≤ MAX_THRESHOLD)) }
+    ensures range { IfOk result (λ u. (1 ≤ u.threshold) × (u.threshold ≤ max_threshold)) }
     ensures refused { IfErr result (IsRefusedBy kind (S.left secret.old) (disk_in (D.log folder.old))) }
     ensures line { OnOk result (Changes (S.left secret.old) (S.left secret.new) IsAfterLine) }
     ensures begun { OnErr result (Changes (S.left secret.old) (S.left secret.new) (TakesAtMost (taken_limit kind))) }
@@ -60,7 +58,7 @@ pub fn unlock<D: Folder, S: Source>(
             let keys = read_keys(secret)?;
             Ok(Unlocked {
                 keys,
-                threshold: RAW_THRESHOLD,
+                threshold: DEFAULT_THRESHOLD,
             })
         }
         SecretKind::Password => {
@@ -77,7 +75,7 @@ fn unlock_files<D: Folder>(
     password: &[u8],
 ) -> Result<Unlocked, Refusal>
     ensures unlocked { IfOk result (λ u. SeesFiles (disk_in (D.log folder.old)) (λ files. unlocked_by password.now files ≡ Ok (unlocked_data u))) }
-    ensures range { IfOk result (λ u. (1 ≤ u.threshold) × (u.threshold ≤ MAX_THRESHOLD)) }
+    ensures range { IfOk result (λ u. (1 ≤ u.threshold) × (u.threshold ≤ max_threshold)) }
     ensures refused { IfErr result (λ r. SeesFiles (disk_in (D.log folder.old)) (λ files. IsRefusal r (unlocked_by password.now files))) }
     ensures folder { HasCause (D.faults folder.old) (D.faults folder.new) (IsErrOf result Refusal.FolderFault) }
     ensures log { D.log folder.new ≡ D.log folder.old }
@@ -107,7 +105,7 @@ fn masterkey_keys(alloc: Global, password: &[u8], found: &Found) -> Result<Vault
 // The keys with the threshold of the vault file that was found.
 fn vault_unlocked(alloc: Global, keys: VaultKeys, found: &Found) -> Result<Unlocked, UnlockErr>
     ensures unlocked { IfOk result (λ u. (seen : key_unlock.FoundFile) → IsFound found.now seen → vault_opened keys seen ≡ Ok (unlocked_data u)) }
-    ensures range { IfOk result (λ u. (1 ≤ u.threshold) × (u.threshold ≤ MAX_THRESHOLD)) }
+    ensures range { IfOk result (λ u. (1 ≤ u.threshold) × (u.threshold ≤ max_threshold)) }
     ensures cause { IfErr result (λ e. (seen : key_unlock.FoundFile) → IsFound found.now seen → IsCause e (vault_opened keys seen)) }
 {
     match found {

@@ -6,7 +6,7 @@
 //!
 //! ```
 //! let unlocked = unlock_found(alloc, b"correct horse\n", FoundFile::File(&masterkey), FoundFile::File(&vault))?;
-//! assert_eq!(unlocked.threshold, 220);
+//! assert_eq!(unlocked.threshold, DEFAULT_THRESHOLD);
 //! assert!(matches!(unlock_found(alloc, b"", FoundFile::Absent, FoundFile::Folder), Err(UnlockErr::BadSecret)));
 //! ```
 //!
@@ -24,7 +24,7 @@
 //! let keys = open_masterkey_file(alloc, password, found.as_found())?;
 //! ```
 //!
-//! A file of more than `FILE_LIMIT` bytes isn't read: its length says all that the key files' definitions ask of it.
+//! A file of more than `KEY_FILE_LIMIT` bytes isn't read: its length says all that the key files' definitions ask of it.
 //!
 //! # From a secret and a folder
 //!
@@ -51,7 +51,7 @@ mod secret;
 pub use errors::UnlockErr;
 pub use finding::{FindErr, Found, find};
 pub use from_files::{FoundFile, Unlocked, open_masterkey_file, open_vault_file, unlock_found};
-pub use from_folder::{RAW_THRESHOLD, SecretKind, unlock};
+pub use from_folder::{SecretKind, unlock};
 pub use laws::{a_bad_secret_is_told_first, long_files_are_too_long, the_vault_file_waits};
 pub use paths::{config_path, masterkey_path, new_config_path};
 pub use refusal::Refusal;

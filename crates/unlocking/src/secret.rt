@@ -2,15 +2,16 @@ ghost use Rattle.std.specs.Prelude.{◌≡◌, ◌+◌, ◌<◌, ◌≤◌, leng
 ghost use Rattle.outside.specs.Calls.{HasCause, Told, Changes};
 ghost use Rattle.std.specs.String.{string_bytes};
 ghost use Rattle.masterkey_file.specs.Password.{line_of, password_of};
-ghost use Rattle.masterkey_file.specs.declared.secret.TheConstants.{LINE_LIMIT};
+ghost use Rattle.vault_layout.specs.Limits.{password_limit};
 ghost use Rattle.unlocking.specs.Secret.{raw_keys, IsAfterLine, TakesAtMost};
 ghost use Rattle.unlocking.specs.Reading.{HasLine, HasNext};
 
-use masterkey_file::{LINE_LIMIT, PasswordErr, password};
+use masterkey_file::{PasswordErr, password};
 use outside::{Failed, Source};
-use siv_mode::VaultKeys;
 use std::alloc::Global;
 use thiserror::Error;
+use vault_keys::VaultKeys;
+use vault_layout::PASSWORD_LIMIT;
 
 // How many digits the line has, and how many bytes a key.
 const DIGITS: usize = 128;
@@ -62,10 +63,10 @@ pub fn read_password<S: Source>(alloc: Global, secret: &mut S) -> Result<String,
     ensures password { IfOk result (λ p. Told (S.left secret.old) (λ bytes. password_of bytes ≡ Some (string_bytes p))) }
     ensures left { OnOk result (Changes (S.left secret.old) (S.left secret.new) IsAfterLine) }
     ensures bad { IsErrOf result SecretErr.Bad → Told (S.left secret.old) (λ bytes. password_of bytes ≡ None) }
-    ensures begun { Changes (S.left secret.old) (S.left secret.new) (TakesAtMost (LINE_LIMIT + 1)) }
+    ensures begun { Changes (S.left secret.old) (S.left secret.new) (TakesAtMost (password_limit + 1)) }
     ensures cause { HasCause (S.faults secret.old) (S.faults secret.new) (IsErrOf result SecretErr.Device) }
 {
-    let mut line = [0u8; LINE_LIMIT];
+    let mut line = [0u8; PASSWORD_LIMIT];
     let count = read_line(secret, &mut line)?;
     Ok(password(alloc, &line[..count])?)
 }

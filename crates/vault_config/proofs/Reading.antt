@@ -3,7 +3,7 @@ use Rattle.std.proofs.Common.{◌≡◌, ℕ, ◌<◌, ◌≤◌, List, [], ◌�
 use Rattle.std.proofs.lemmas.Bool.{lt-ltb, le-ltb}
 use Rattle.std.specs.Option.{ok_or}
 use Rattle.serde_json.specs.Data.{Data}
-use Rattle.siv_mode.specs.Keys.{KeyPair}
+use Rattle.vault_keys.specs.Keys.{KeyPair}
 use Rattle.vault_config.specs.Token.{Token, trimmed, pieces_of, decoded, decoded_object, token_of_pieces, token_of}
 use Rattle.json_members.specs.Steps.{result_and_then}
 use Rattle.vault_config.specs.Config.{too_long, not_token, token_checked, config_of}

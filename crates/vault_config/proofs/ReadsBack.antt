@@ -16,7 +16,8 @@ use Rattle.serde_json.specs.Written.{compact_text}
 use Rattle.json_members.specs.Members.{only_object, object_of}
 use Rattle.json_members.proofs.Escaped.{length-escape-le}
 use Rattle.json_members.proofs.Objects.{object_of-read}
-use Rattle.siv_mode.specs.Keys.{KeyPair}
+use Rattle.vault_layout.specs.Limits.{max_threshold}
+use Rattle.vault_keys.specs.Keys.{KeyPair}
 use Rattle.vault_config.specs.Token.{Token, trimmed, pieces_of, decoded, decoded_object, token_of, hs256, signature_of}
 use Rattle.vault_config.specs.Config.{piece_of, signed_text, signing_key, written_header, written_claims, token_checked, config_file, config_of}
 use Rattle.vault_config.proofs.Parts.{trimmed-spaceless}
@@ -47,14 +48,14 @@ length-header : length (compact_text written_header) ≤ 100
 unfolding escape_byte
 length-header = omega arith
 
-length-claims-le : (threshold : ℕ) (identifier : List ℕ) → threshold ≤ 250 → length identifier ≤ 36 → length (compact_text (written_claims threshold identifier)) ≤ 1000
+length-claims-le : (threshold : ℕ) (identifier : List ℕ) → threshold ≤ max_threshold → length identifier ≤ 36 → length (compact_text (written_claims threshold identifier)) ≤ 1000
 unfolding escape_byte
 length-claims-le threshold identifier small short =
     let number : length (decimal threshold) ≤ 3 = length-decimal-le 3 threshold (omega arith) (omega arith) (omega arith) in
     let eight : length (decimal 8) ≤ 1 = length-decimal-le 1 8 (omega arith) (omega arith) (omega arith) in
     simp length-append (omega (arith, length-escape-le identifier))
 
-length-config_file-le : (keys : KeyPair) (threshold : ℕ) (identifier : List ℕ) → threshold ≤ 250 → length identifier ≤ 36
+length-config_file-le : (keys : KeyPair) (threshold : ℕ) (identifier : List ℕ) → threshold ≤ max_threshold → length identifier ≤ 36
     → length (signature_of hs256 (signing_key keys) (signed_text threshold identifier)) ≡ 32 → length (config_file keys threshold identifier) ≤ 65536
 unfolding config_file
 length-config_file-le keys threshold identifier small short long =
@@ -116,16 +117,16 @@ token_of-config_file keys threshold identifier header claims signature =
     token_of-whole (config_file keys threshold identifier) (config_file keys threshold identifier) (signed_text threshold identifier) _ _ _ _ _ _
     (trimmed-config_file keys threshold identifier) (pieces_of-config_file keys threshold identifier) refl (sym header) (sym claims) signature
 
-checked-written : (keys : KeyPair) (threshold : ℕ) (identifier : List ℕ) → 1 ≤ threshold → threshold ≤ 250
+checked-written : (keys : KeyPair) (threshold : ℕ) (identifier : List ℕ) → 1 ≤ threshold → threshold ≤ max_threshold
     → token_checked keys (written_token keys threshold identifier) ≡ Ok threshold
 checked-written keys threshold identifier low high =
     let signature = signature_of hs256 (signing_key keys) (signed_text threshold identifier) in
     let same : bytes_eq signature signature ≡ true = (bytes_eq-Decides signature signature).1 refl in
     let above : nat_lt 0 threshold ≡ true = lt-ltb 0 threshold (omega arith) in
-    let below : nat_le threshold 250 ≡ true = le-leb threshold 250 high in
+    let below : nat_le threshold max_threshold ≡ true = le-leb threshold max_threshold high in
     rw (same, above, below) refl
 
-config_of-config_file : (keys : KeyPair) (threshold : ℕ) (identifier : List ℕ) → 1 ≤ threshold → threshold ≤ 250 → length identifier ≤ 36
+config_of-config_file : (keys : KeyPair) (threshold : ℕ) (identifier : List ℕ) → 1 ≤ threshold → threshold ≤ max_threshold → length identifier ≤ 36
     → decoded_object (piece_of (compact_text written_header)) ≡ Some written_header
     → decoded_object (piece_of (compact_text (written_claims threshold identifier))) ≡ Some (written_claims threshold identifier)
     → decoded (piece_of (signature_of hs256 (signing_key keys) (signed_text threshold identifier))) ≡ Some (signature_of hs256 (signing_key keys) (signed_text threshold identifier))
@@ -138,7 +139,7 @@ config_of-config_file keys threshold identifier low high short header claims sig
 
 pub config_of-joined : (keys : KeyPair) (threshold : ℕ) (identifier file text other id signature : List ℕ) → file ≡ text ++ 46 ∷ signature
     → text ≡ signed_text threshold id → other ≡ text → signature ≡ piece_of (signature_of hs256 (signing_key keys) other) → id ≡ identifier
-    → 1 ≤ threshold → threshold ≤ 250 → length identifier ≤ 36
+    → 1 ≤ threshold → threshold ≤ max_threshold → length identifier ≤ 36
     → decoded_object (piece_of (compact_text written_header)) ≡ Some written_header
     → decoded_object (piece_of (compact_text (written_claims threshold id))) ≡ Some (written_claims threshold id)
     → decoded signature ≡ Some (signature_of hs256 (signing_key keys) other) → length (signature_of hs256 (signing_key keys) other) ≡ 32

@@ -10,11 +10,11 @@ use Rattle.uuid.specs.Parts.{with_version, with_variant}
 use Rattle.uuid.specs.Text.{hyphenated_text, lower}
 use Rattle.uuid.specs.declared.Version.TheVariants.{Random}
 use Rattle.uuid.specs.declared.Variant.TheVariants.{RFC4122}
-use Rattle.siv_mode.specs.Keys.{KeyPair}
+use Rattle.vault_keys.specs.Keys.{KeyPair}
 use Rattle.json_members.specs.Members.{text_at, integer_at}
 use Rattle.json_members.specs.Steps.{result_and_then}
-use Rattle.json_members.specs.declared.TheConstants.{FILE_LIMIT}
-use Rattle.vault_config.specs.declared.claims.TheConstants.{MAX_THRESHOLD}
+use Rattle.vault_layout.specs.Names.{masterkey_file}
+use Rattle.vault_layout.specs.Limits.{key_file_limit, max_threshold}
 use Rattle.vault_config.specs.Token.{Token, token_of, Algorithm, hs256, algorithm_of, signature_of}
 
 -- the claims that are looked at
@@ -51,7 +51,7 @@ fault_text (other_format n) = codes "format " ++ decimal n
 fault_text other_combo = codes "combo"
 
 abbrev pub key_id : List ℕ
-key_id = codes "masterkeyfile:masterkey.cryptomator"
+key_id = codes "masterkeyfile:" ++ masterkey_file
 
 abbrev pub combo : List ℕ
 combo = codes "SIV_GCM"
@@ -64,9 +64,9 @@ abbrev pub has_text : List ℕ → List ℕ → Data → Bool
 has_text name text value = option_map_or (λ t. bytes_eq t text) (text_at name value) false
 
 abbrev pub in_range : ℕ → Option ℕ
-in_range n = if nat_lt 0 n && nat_le n MAX_THRESHOLD then Some n else None
+in_range n = if nat_lt 0 n && nat_le n max_threshold then Some n else None
 
--- the claims, in the order of their tests: the format, the combination, the threshold from 1 to 250 characters
+-- the claims, in the order of their tests: the format, the combination, the threshold from 1 character up to the largest
 abbrev pub threshold_of : Data → Result ℕ Fault
 threshold_of claims = ok_or (option_and_then in_range (integer_at (name_of shortening_threshold) claims)) (bad_claim shortening_threshold)
 
@@ -91,7 +91,7 @@ token_checked keys token = result_and_then (signature_checked keys token) (ok_or
 -- the threshold of the configuration that bytes are, signed by these keys
 unfoldable pub config_of : KeyPair → List ℕ → Result ℕ Fault
 config_of keys bytes =
-    if nat_lt FILE_LIMIT (length bytes) then Err (too_long (length bytes))
+    if nat_lt key_file_limit (length bytes) then Err (too_long (length bytes))
     else result_and_then (token_checked keys) (ok_or (token_of bytes) not_token)
 
 -- ---- what is written

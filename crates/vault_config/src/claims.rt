@@ -4,16 +4,14 @@ ghost use Rattle.vault_config.specs.Faults.{IsFault};
 
 use crate::config::{ClaimName, ConfigErr};
 use json_members::Object;
+use vault_layout::MAX_THRESHOLD;
 
 // The vault format that is served, and its ciphers of names and contents.
 pub(crate) const FORMAT: u64 = 8;
 
 pub(crate) const COMBO: &str = "SIV_GCM";
 
-/// The highest threshold, in characters: a sealed name of the host may have no more.
-pub const MAX_THRESHOLD: u32 = 250;
-
-// The same, as claims have integers of 64 bits.
+// The largest threshold, as claims have integers of 64 bits.
 const MAX_CLAIMED_THRESHOLD: u64 = MAX_THRESHOLD as u64;
 
 /// The threshold that claims say, tested in the order format, combination, threshold.
@@ -38,7 +36,7 @@ fn check_combo(claims: &Object) -> Result<u32, ConfigErr>
     }
 }
 
-// The threshold, from 1 to 250 characters.
+// The threshold, from 1 character up to the largest.
 fn threshold_of(claims: &Object) -> Result<u32, ConfigErr>
     ensures { MatchResult result (λ n. threshold_of claims.now ≡ Ok n) (λ e. IsFault e (threshold_of claims.now)) }
 {

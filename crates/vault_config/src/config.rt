@@ -1,20 +1,22 @@
 ghost use Rattle.std.specs.Prelude.{◌≡◌, ◌≤◌, codes, IfOk, IfErr, Ok, MatchResult};
 ghost use Rattle.std.specs.Option.{ok_or};
+ghost use Rattle.vault_layout.specs.Limits.{max_threshold};
 ghost use Rattle.json_members.specs.Steps.{result_and_then};
 ghost use Rattle.vault_config.specs.Config.{config_of, key_id, has_text, name_of, signature_checked, signing_key, token_checked, not_token};
 ghost use Rattle.vault_config.specs.Token.{token_of};
 ghost use Rattle.vault_config.specs.Faults.{IsFault, claim_of};
 ghost use Rattle.vault_config.specs.Algorithms.{algorithm_data};
 
-use crate::claims::{MAX_THRESHOLD, check_claims};
+use crate::claims::check_claims;
 use crate::token::{
     Algorithm, Pieces, algorithm_of, decoded, decoded_object, is_signature, three_pieces,
 };
-use json_members::{FILE_LIMIT, Object};
-use siv_mode::VaultKeys;
+use json_members::Object;
 use std::alloc::{AllocError, Global};
 use std::error::Error;
 use std::fmt;
+use vault_keys::VaultKeys;
+use vault_layout::KEY_FILE_LIMIT;
 
 /// The name by which the header says that the key is the one in the file beside this one.
 pub(crate) const KEY_ID: &str = "masterkeyfile:masterkey.cryptomator";
@@ -70,7 +72,7 @@ pub enum ConfigErr {
     Kid,
     /// The signature isn't that of the text under these keys (RFC 7515, section 5.2).
     BadSignature,
-    /// This claim is absent or of another type, or the threshold isn't from 1 to 250. The format and the threshold are integers from
+    /// This claim is absent or of another type, or the threshold isn't from 1 to `MAX_THRESHOLD`. The format and the threshold are integers from
     /// 0 to 2^64 - 1; a number with a fraction or an exponent is rounded to the nearest binary64 first.
     Claim(ClaimName),
     /// The vault format is another than 8: this.
@@ -118,7 +120,7 @@ impl Error for ConfigErr {}
 /// What a vault's configuration says.
 #[derive(Clone, Copy, Debug, PartialEq, Eq)]
 pub struct Config {
-    /// The longest sealed name, in characters, that isn't shortened: 1 to 250.
+    /// The longest sealed name, in characters, that isn't shortened: 1 to `MAX_THRESHOLD`.
     pub threshold: u32,
 }
 
@@ -127,10 +129,10 @@ pub struct Config {
 /// other claims (`exp` and `nbf` too) are ignored. No claim is looked at before the signature. `ConfigErr` gives each error's cause, in the order of the tests.
 pub fn read(alloc: Global, bytes: &[u8], keys: &VaultKeys) -> Result<Config, ConfigErr>
     ensures config { IfOk result (λ c. config_of keys.now bytes.now ≡ Ok c.threshold) }
-    ensures range { IfOk result (λ c. (1 ≤ c.threshold) × (c.threshold ≤ MAX_THRESHOLD)) }
+    ensures range { IfOk result (λ c. (1 ≤ c.threshold) × (c.threshold ≤ max_threshold)) }
     ensures fault { IfErr result (λ e. IsFault e (config_of keys.now bytes.now)) }
 {
-    if bytes.len() > FILE_LIMIT {
+    if bytes.len() > KEY_FILE_LIMIT {
         return Err(ConfigErr::TooLong(bytes.len()));
     }
     let threshold = read_token(alloc, bytes, keys)?;

@@ -1,9 +1,9 @@
 //! The signed configuration of a vault, `vault.cryptomator` (Cryptomator's vault format 8).
 //!
 //! ```
-//! let token = write(alloc, &keys, 220, &jti)?;
+//! let token = write(alloc, &keys, DEFAULT_THRESHOLD, &jti)?;
 //! let config = read(alloc, &token, &keys)?;
-//! assert_eq!(config.threshold, 220);
+//! assert_eq!(config.threshold, DEFAULT_THRESHOLD);
 //! ```
 //!
 //! Not promised: constant time, and that keys are wiped from memory.
@@ -15,7 +15,6 @@ mod laws;
 mod token;
 mod written;
 
-pub use claims::MAX_THRESHOLD;
 pub use config::{ClaimName, Config, ConfigErr, read};
 pub use laws::a_long_file_is_too_long;
 pub use written::write;

@@ -4,20 +4,21 @@ ghost use Rattle.serde_json.specs.Data.{depth};
 ghost use Rattle.serde_json.specs.Read.{max_depth};
 ghost use Rattle.serde_json.specs.View.{view};
 ghost use Rattle.serde_json.specs.Written.{compact_text, has_float};
+ghost use Rattle.vault_layout.specs.Limits.{max_threshold};
 ghost use Rattle.json_members.specs.Members.{only_object};
 ghost use Rattle.vault_config.specs.Token.{decoded, decoded_object, hs256, signature_of};
 ghost use Rattle.vault_config.specs.Config.{config_file, config_of, identifier_of, piece_of, signed_text, signing_key, written_header, written_claims};
 
-use crate::claims::{COMBO, FORMAT, MAX_THRESHOLD};
+use crate::claims::{COMBO, FORMAT};
 use crate::config::{KEY_ID, signing_key};
 use base64::engine::general_purpose::URL_SAFE_NO_PAD;
 use hmac_sha::hmac256;
 use serde_json::{Value, json};
-use siv_mode::VaultKeys;
 use std::alloc::{AllocError, Global};
 use uuid::{Builder, Uuid};
+use vault_keys::VaultKeys;
 
-/// Writes a configuration under HS256: `threshold` is the longest sealed name, in characters, that isn't shortened, 1 to 250,
+/// Writes a configuration under HS256: `threshold` is the longest sealed name, in characters, that isn't shortened, 1 to `MAX_THRESHOLD`,
 /// and `jti` is written as a version 4 UUID of its 16 bytes (RFC 9562, section 5.4).
 pub fn write(
     alloc: Global,
@@ -25,7 +26,7 @@ pub fn write(
     threshold: u32,
     jti: &[u8; 16],
 ) -> Result<Vec<u8>, AllocError>
-    requires { (1 ≤ threshold) × (threshold ≤ MAX_THRESHOLD) }
+    requires { (1 ≤ threshold) × (threshold ≤ max_threshold) }
     ensures bytes { IfOk result (λ v. v.items ≡ config_file keys.now threshold (identifier_of jti.now)) }
     ensures reads_back { IfOk result (λ v. config_of keys.now v.items ≡ Ok threshold) }
 {

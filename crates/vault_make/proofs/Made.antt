@@ -1,7 +1,7 @@
 -- What was laid out is a vault of what was drawn.
 use Rattle.std.proofs.Common.{◌≡◌, ℕ, List, [], Option, Some, Result, ap, subst, ◌∙◌, inl, inr}
 use Rattle.std.specs.Result.{result_map_both}
-use Rattle.siv_mode.specs.Keys.{KeyPair}
+use Rattle.vault_keys.specs.Keys.{KeyPair}
 use Rattle.outside.specs.Calls.{Told, Changes}
 use Rattle.outside.specs.Disk.{Disk, Path, file}
 use Rattle.outside.specs.Images.{Log, Synced, now, adds, LeavesOnly, IsSteady}

@@ -1,6 +1,7 @@
 -- A vault's folder from stage to stage.
-use Rattle.std.proofs.Common.{◌≡◌, ◌≢◌, ℕ, ◌<◌, codes, lit<, List, [], ◌∷◌, ◌++◌, get_or, Option, Some, None, IsSome, refl, sym, ap, subst, ◌∙◌, inl, arith}
+use Rattle.std.proofs.Common.{◌≡◌, ◌≢◌, ℕ, ◌<◌, lit<, List, [], ◌∷◌, ◌++◌, get_or, Option, Some, None, IsSome, refl, sym, ap, subst, ◌∙◌, inl, arith}
 use Rattle.std.specs.Option.{is_some}
+use Rattle.vault_layout.specs.Names.{new_vault_file, vault_file}
 use Rattle.outside.specs.Disk.{Disk, Path, Node, folder, file, node_at, parent, IsTree}
 use Rattle.outside.specs.Changes.{MakeDir, Move, Put, CanDo, done, set_at}
 use Rattle.outside.proofs.Paths.{by_path, set_here, set_there}
@@ -110,16 +111,16 @@ pub new_beside_config : new_config_place ≢ config_place
 unfolding byte_of
 new_beside_config e = not_same 0 46 (lit< tt) (sym (ap (byte_of 17) e))
 
-pub config_below : codes "vault.cryptomator" ≢ top_name
+pub config_below : vault_file ≢ top_name
 config_below e = not_same 100 118 (lit< tt) (sym (ap (λ (l : List ℕ). get_or l 0 0) e))
 
-new_below : codes "vault.cryptomator.new" ≢ top_name
+new_below : new_vault_file ≢ top_name
 new_below e = not_same 100 118 (lit< tt) (sym (ap (λ (l : List ℕ). get_or l 0 0) e))
 
 pub can_put_config : (d : Disk) (place : Path) (masterkey bytes : List ℕ) → HasRoot place d → CanDo (Put new_config_place bytes) (done (Put masterkey_place masterkey) d)
 can_put_config d place masterkey bytes has = record {
   inside = set_there d masterkey_place (Some (file masterkey)) [] (λ e. cc) ∙ has.root.top;
-  free = inl (ap is_some (set_there d masterkey_place (Some (file masterkey)) new_config_place (λ e. masterkey_beside (sym e)) ∙ has.free (codes "vault.cryptomator.new") new_below));
+  free = inl (ap is_some (set_there d masterkey_place (Some (file masterkey)) new_config_place (λ e. masterkey_beside (sym e)) ∙ has.free new_vault_file new_below));
 }
 
 pub has_key_files : (d : Disk) (place : Path) (masterkey config : List ℕ) → HasRoot place d
@@ -131,7 +132,7 @@ has_key_files d place masterkey config has =
       config = set_here first new_config_place (Some (file config)) new_config_place refl;
       free = set_there first new_config_place (Some (file config)) config_place (λ e. new_beside_config (sym e))
           ∙ set_there d masterkey_place (Some (file masterkey)) config_place (λ e. masterkey_beside_config (sym e))
-          ∙ has.free (codes "vault.cryptomator") config_below;
+          ∙ has.free vault_file config_below;
       alone = λ name not_top not_masterkey not_new.
           set_there first new_config_place (Some (file config)) (name ∷ []) not_new ∙ set_there d masterkey_place (Some (file masterkey)) (name ∷ []) not_masterkey ∙ has.free name not_top;
     }

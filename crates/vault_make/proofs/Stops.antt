@@ -1,5 +1,6 @@
 -- What a stop leaves of a vault's folder from call to call.
-use Rattle.std.proofs.Common.{◌≡◌, ◌≢◌, ℕ, codes, List, Option, Some, None, refl, sym, ap, subst, ◌∙◌, inl, inr}
+use Rattle.std.proofs.Common.{◌≡◌, ◌≢◌, ℕ, List, Option, Some, None, refl, sym, ap, subst, ◌∙◌, inl, inr}
+use Rattle.vault_layout.specs.Names.{vault_file}
 use Rattle.outside.specs.Calls.{Told, Changes}
 use Rattle.outside.specs.Disk.{Disk, Path, parent, node_at}
 use Rattle.outside.specs.Changes.{Change, MakeDir, Move, Put, IsPartOf, IsMoved, done, path_of}
@@ -156,5 +157,5 @@ leaves_whole a b c place masterkey config empty synced filled =
     let P = IsNoneOrLaidOut place masterkey config in
     told_through a b c (λ log. IsEmpty (now log)) HasSynced (LeavesFromNone P) (λ old new. LeavesOnly (adds old Synced) new P)
     (λ x y z is s leaves. subst (λ (l : Log). LeavesOnly l z P) s.call
-    (leaves (λ w image. ap (λ (d : Disk). node_at d config_place) (s.steady.durable w image ∙ s.same) ∙ is.bare (codes "vault.cryptomator"))))
+    (leaves (λ w image. ap (λ (d : Disk). node_at d config_place) (s.steady.durable w image ∙ s.same) ∙ is.bare vault_file)))
     empty synced filled

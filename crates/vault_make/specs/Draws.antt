@@ -1,6 +1,6 @@
 -- What is drawn for a new vault.
 use Rattle.std.specs.Prelude.{◌≡◌, ℕ, List, ◌++◌, length}
-use Rattle.siv_mode.specs.Keys.{KeyPair}
+use Rattle.vault_keys.specs.Keys.{KeyPair}
 use Rattle.vault_make.specs.declared.draws.Draws.{Draws}
 
 -- the two keys, scrypt's salt, and the bytes of the vault file's identifier

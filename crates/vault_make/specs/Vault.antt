@@ -6,6 +6,8 @@ use Rattle.outside.specs.Calls.{Told, Changes, Extends}
 use Rattle.outside.specs.Disk.{Disk, file, node_at, IsFolder, IsTree}
 use Rattle.outside.specs.Images.{Log, Synced, now, adds, LeavesOnly, IsSteady}
 use Rattle.outside.specs.Views.{FolderView, EntropyView}
+use Rattle.vault_layout.specs.Limits.{default_threshold}
+use Rattle.vault_layout.specs.Names.{folders}
 use Rattle.vault_names.specs.Folder.{folder_of}
 use Rattle.masterkey_file.specs.KeyFile.{key_file}
 use Rattle.vault_config.specs.Config.{config_file, identifier_of}
@@ -23,17 +25,17 @@ pub record IsLeast (names : List (List ℕ)) (name : List ℕ) : Type 0 where
   pub among : Contains names name
   pub least : All (λ other. is_lt (slice_cmp nat_cmp other name) ≡ false) names
 
--- `d`
+-- the folder of all directories' folders
 abbrev pub top_name : List ℕ
-top_name = 100 ∷ []
+top_name = folders
 
--- A vault of these secrets under a password: the password opens its masterkey file to the keys, the keys open its vault file to the threshold
--- 220, and the folder of its root is there and empty, so that its only node is the root. Beside these two files and `d` nothing is there.
+-- A vault of these secrets under a password: the password opens its masterkey file to the keys, the keys open its vault file to the default
+-- threshold, and the folder of its root is there and empty, so that its only node is the root. Beside these two files and `d` nothing is there.
 pub record IsNewVault (password : List ℕ) (secrets : NewSecrets) (disk : Disk) : Type 0 where
   pub masterkey : node_at disk masterkey_place ≡ Some (file (key_file secrets.keys password secrets.salt))
-  pub config : node_at disk config_place ≡ Some (file (config_file secrets.keys 220 (identifier_of secrets.jti)))
+  pub config : node_at disk config_place ≡ Some (file (config_file secrets.keys default_threshold (identifier_of secrets.jti)))
   pub opens : masterkey_opened password (found_at disk masterkey_place) ≡ Ok secrets.keys
-  pub unlocks : vault_opened secrets.keys (found_at disk config_place) ≡ Ok (record { keys = secrets.keys; threshold = 220 })
+  pub unlocks : vault_opened secrets.keys (found_at disk config_place) ≡ Ok (record { keys = secrets.keys; threshold = default_threshold })
   pub root : IsFolder disk (folder_of secrets.keys [])
   pub bare : (name : List ℕ) → node_at disk (folder_of secrets.keys [] ++ name ∷ []) ≡ None
   pub alone : (name : List ℕ) → name ≢ top_name → name ∷ [] ≢ masterkey_place → name ∷ [] ≢ config_place → node_at disk (name ∷ []) ≡ None

@@ -3,7 +3,7 @@ ghost use Rattle.outside.specs.Calls.{Extends, HasCause};
 ghost use Rattle.vault_make.specs.Draws.{AreOfLength, drawn_bytes, draws_data};
 
 use outside::{Entropy, Failed};
-use siv_mode::VaultKeys;
+use vault_keys::VaultKeys;
 
 /// What is drawn for a new vault.
 #[derive(Drop)]

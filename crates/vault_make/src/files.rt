@@ -4,9 +4,7 @@ ghost use Rattle.vault_make.specs.Files.{AreFilesOf};
 
 use crate::draws::Draws;
 use std::alloc::{AllocError, Global};
-
-/// The length of the longest sealed name, in characters, that isn't shortened in a new vault.
-pub(crate) const NEW_THRESHOLD: u32 = 220;
+use vault_layout::DEFAULT_THRESHOLD;
 
 /// The bytes of a new vault's two key files.
 #[derive(Drop)]
@@ -25,6 +23,6 @@ pub(crate) fn key_files(
 {
     Ok(KeyFiles {
         masterkey: masterkey_file::write(alloc, &draws.keys, password, &draws.salt)?,
-        config: vault_config::write(alloc, &draws.keys, NEW_THRESHOLD, &draws.jti)?,
+        config: vault_config::write(alloc, &draws.keys, DEFAULT_THRESHOLD, &draws.jti)?,
     })
 }

@@ -15,9 +15,9 @@ use std::alloc::Global;
 use vault_names::folder_of;
 
 /// Makes a new vault in an empty folder under a password (UTF-8 in the form NFC). If the folder is empty it draws 32 bytes for the
-/// encryption key, 32 for the MAC key, 8 for the salt and 16 for the vault file's identifier, and writes `masterkey.cryptomator`,
-/// `vault.cryptomator` with the threshold 220, and the empty folder of the root. From its first sync on, even if it fails later, a stop
-/// leaves no `vault.cryptomator`, or the whole vault. After Ok all of it is on the disk. `MakeErr` gives each error's cause.
+/// encryption key, 32 for the MAC key, 8 for the salt and 16 for the vault file's identifier, and writes the masterkey
+/// file, the vault file with the default threshold, and the empty folder of the root. From its first sync on, even if it fails later, a
+/// stop leaves no vault file, or the whole vault. After Ok all of it is on the disk. `MakeErr` gives each error's cause.
 pub fn make<D: Folder, E: Entropy>(
     alloc: Global,
     folder: &mut D,

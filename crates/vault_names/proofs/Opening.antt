@@ -11,7 +11,7 @@ use Rattle.base64.specs.declared.engine.general_purpose.GeneralPurpose.{GeneralP
 use Rattle.base64.proofs.EngineFacts.{decode_of-encode_of, decode_of_strict}
 use Rattle.aes_block.specs.Aes.{aes}
 use Rattle.aes_block.specs.Bytes.{AreBytes}
-use Rattle.siv_mode.specs.Keys.{KeyPair}
+use Rattle.vault_keys.specs.Keys.{KeyPair}
 use Rattle.siv_mode.specs.Siv.{siv_sealed, siv_opened}
 use Rattle.tree_model.specs.Names.{clear_name, IsClearName}
 use Rattle.vault_names.specs.Sealed.{suffix, sealed_name, IsSealedName, before_suffix, decoded, valid_name, opened_name}

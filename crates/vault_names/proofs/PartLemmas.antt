@@ -4,7 +4,8 @@ use Rattle.std.proofs.lemmas.Bool.Decides.{nat_tests}
 use Rattle.std.specs.List.{list_all, range_with_len}
 use Rattle.aes_block.specs.Bytes.{number_of}
 use Rattle.vault_path.specs.Parts.{is_part_byte, is_part, is_path}
-use Rattle.vault_names.specs.Folder.{base32, base32_digit}
+use Rattle.vault_layout.specs.Names.{folders}
+use Rattle.vault_names.specs.Folder.{base32, base32_digit, folder_path}
 
 -- a capital letter or one of `2` to `7`
 abbrev pub is_digit : ℕ → Bool
@@ -54,14 +55,9 @@ pub is_part-back : (hash : List ℕ) → is_part (drop 2 (base32 hash)) ≡ true
 unfolding base32
 is_part-back hash = is_part_of (digits hash 2) (map (digits hash) (range_with_len 3 29)) (digit_at hash 2) (digits_at hash (range_with_len 3 29)) refl
 
-path_true : (a b c : List ℕ) → is_part a ≡ true → is_part b ≡ true → is_part c ≡ true → (is_path (a ∷ b ∷ []) ≡ true) × (is_path (a ∷ b ∷ c ∷ []) ≡ true)
-path_true a b c p q r = (rw (p, q) refl, rw (p, q, r) refl)
+path_true : (a b c : List ℕ) → is_part a ≡ true → is_part b ≡ true → is_part c ≡ true → is_path (a ∷ b ∷ c ∷ []) ≡ true
+path_true a b c p q r = rw (p, q, r) refl
 
--- `d` and the first two digits, then the others after them
-pub is_path-digits : (hash : List ℕ) → (is_path ((100 ∷ []) ∷ take 2 (base32 hash) ∷ []) ≡ true) × (is_path ((100 ∷ []) ∷ take 2 (base32 hash) ∷ drop 2 (base32 hash) ∷ []) ≡ true)
-is_path-digits hash = path_true (100 ∷ []) (take 2 (base32 hash)) (drop 2 (base32 hash)) refl (is_part-front hash) (is_part-back hash)
-
--- the digits after the first two are the other 30
-pub other_digits : (hash : List ℕ) → take 30 (drop 2 (base32 hash)) ≡ drop 2 (base32 hash)
-unfolding base32
-other_digits hash = refl
+-- the folder of all directories' folders, the first two digits, and the others
+pub is_path-digits : (hash : List ℕ) → is_path (folder_path (base32 hash)) ≡ true
+is_path-digits hash = path_true folders (take 2 (base32 hash)) (drop 2 (base32 hash)) refl (is_part-front hash) (is_part-back hash)

@@ -5,7 +5,8 @@ use Rattle.std.specs.List.{range_with_len}
 use Rattle.aes_block.specs.Bytes.{number_of}
 use Rattle.aes_block.specs.Aes.{aes}
 use Rattle.sha1.specs.Sha1.{sha1}
-use Rattle.siv_mode.specs.Keys.{KeyPair}
+use Rattle.vault_layout.specs.Names.{folders}
+use Rattle.vault_keys.specs.Keys.{KeyPair}
 use Rattle.siv_mode.specs.Siv.{siv_sealed}
 
 -- a digit of 5 bits: `A` to `Z`, then `2` to `7` (RFC 4648, table 3)
@@ -20,8 +21,9 @@ base32 hash = map (λ i. base32_digit (number_of hash / 32 ^ (31 - i) % 32)) (ra
 abbrev pub hash_of : KeyPair → List ℕ → List ℕ
 hash_of keys identifier = sha1 (siv_sealed (aes keys.mac) (aes keys.enc) None identifier)
 
--- `d`, the first 2 digits, the other 30
+-- the path of these digits: below the folder of all directories' folders the first 2, then the other 30
+abbrev pub folder_path : List ℕ → List (List ℕ)
+folder_path digits = folders ∷ take 2 digits ∷ drop 2 digits ∷ []
+
 unfoldable pub folder_of : KeyPair → List ℕ → List (List ℕ)
-folder_of keys identifier =
-    let digits = base32 (hash_of keys identifier) in
-    (100 ∷ []) ∷ take 2 digits ∷ drop 2 digits ∷ []
+folder_of keys identifier = folder_path (base32 (hash_of keys identifier))

@@ -7,7 +7,7 @@ use Rattle.std.specs.Str.{bytes_eq}
 use Rattle.base64.specs.GeneralPurpose.{encode_of, decode_of}
 use Rattle.base64.specs.Engines.{url_safe}
 use Rattle.aes_block.specs.Aes.{aes}
-use Rattle.siv_mode.specs.Keys.{KeyPair}
+use Rattle.vault_keys.specs.Keys.{KeyPair}
 use Rattle.siv_mode.specs.Siv.{siv_sealed, siv_opened}
 use Rattle.tree_model.specs.Names.{clear_name, IsClearName}
 

@@ -30,7 +30,7 @@
 //! above the shortening threshold, a folder named by its hash, whose `name.c9s` holds the text.
 //!
 //! ```
-//! match place_of(220, sealed.as_bytes()) {
+//! match place_of(DEFAULT_THRESHOLD, sealed.as_bytes()) {
 //!     Place::Short => folder.join(sealed.as_bytes()),
 //!     Place::Long(name) => folder.join(&name),
 //! }
@@ -44,7 +44,7 @@ mod place;
 mod sealed;
 
 pub use digits::base32;
-pub use folder::{IDENTIFIER_LIMIT, SEALED_LIMIT, folder_of};
+pub use folder::{directory_folder, folder_of};
 pub use name::{BadName, Name, check_form, clear_name};
 pub use place::{LONG_FOLDER_LENGTH, LONGEST_TEXT, Place, long_folder, place_of, reads_long};
 pub use sealed::{open_name, opening_undoes_sealing, seal_name};

@@ -8,8 +8,9 @@ ghost use Rattle.vault_names.specs.Sealed.{IsSealedName, before_suffix, decoded,
 use crate::name::{BadName, Name, clear_name};
 use base64::DecodeAllocError;
 use base64::engine::general_purpose::URL_SAFE;
-use siv_mode::{TAG_LEN, VaultKeys};
+use siv_mode::TAG_LEN;
 use std::alloc::{AllocError, Global};
+use vault_keys::VaultKeys;
 use vault_path::Text;
 
 const SUFFIX: &str = ".c9r";

@@ -1,11 +1,10 @@
 -- Paths with one part more.
-use Rattle.std.proofs.Common.{◌≡◌, ℕ, ◌+◌, ◌<◌, true, List, [], ◌∷◌, ◌++◌, length, take, drop, get_or, subst, arith, length-append, false, refl, sym, ap, ◌∙◌, true≢false}
+use Rattle.std.proofs.Common.{◌≡◌, ℕ, ◌+◌, true, List, [], ◌∷◌, ◌++◌, arith, length-append, false, refl, sym, ap, ◌∙◌, true≢false}
 use Rattle.std.specs.Bool.{Decides}
 use Rattle.std.specs.Str.{bytes_eq}
 use Rattle.std.specs.Cmp.Lexicographic.{pointwise}
 use Rattle.std.proofs.lemmas.Slice.Eq.{slice_eq-Decides, bytes_eq-Decides}
 use Rattle.std.proofs.lemmas.List.{same_from_push}
-use Rattle.std.proofs.lemmas.Grind.{common_steps}
 use Rattle.std.proofs.lemmas.Bool.Decides.{nat_tests}
 use Rattle.std.proofs.lemmas.List.Folds.{list_all-append}
 use Rattle.vault_path.specs.Parts.{is_part, is_path}
@@ -13,12 +12,6 @@ use Rattle.vault_path.specs.Parts.{is_part, is_path}
 -- the parts before a place, if the whole is a path
 pub is_path-front : (xs ys : List (List ℕ)) → is_path (xs ++ ys) ≡ true → is_path xs ≡ true
 is_path-front xs ys h = grind (arith, nat_tests, list_all-append is_part xs ys, length-append xs ys)
-
--- the parts up to one, if the whole is a path
-pub is_path-begun : (xs : List (List ℕ)) (i : ℕ) (x : List ℕ) → i < length xs → x ≡ get_or xs i x → is_path xs ≡ true → is_path (take i xs ++ x ∷ []) ≡ true
-is_path-begun xs i x within at h =
-    let whole : xs ≡ (take i xs ++ x ∷ []) ++ drop (i + 1) xs = grind (arith, common_steps) in
-    is_path-front (take i xs ++ x ∷ []) (drop (i + 1) xs) (subst (λ ys. is_path ys ≡ true) whole h)
 
 -- whether two paths are equal, part by part
 pub same_parts : (xs ys : List (List ℕ)) → Decides (pointwise bytes_eq xs ys) (xs ≡ ys)

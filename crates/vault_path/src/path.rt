@@ -6,7 +6,6 @@ ghost use Rattle.std.specs.Str.{bytes_eq};
 ghost use Rattle.vault_path.specs.Parts.{is_part, is_path};
 
 use crate::part::{Part, is_host_part};
-use crate::text::Text;
 use std::cmp::Ordering;
 use std::fmt;
 use std::fmt::Write;
@@ -52,19 +51,6 @@ impl VaultPath {
             Part::empty(),
         ];
         VaultPath { parts, count: 0 }
-    }
-
-    /// The path of these parts, from the folder down. It fails if and only if one of them is no part of a path or there
-    /// are more than 6.
-    pub fn from_parts(parts: &[Text]) -> Result<VaultPath, BadPart>
-        ensures exact { IsOk result ↔ IsTrue (is_path parts.now) }
-        ensures parts { IfOk result (λ path. path ≡ parts.now) }
-    {
-        let mut path = VaultPath::root();
-        for part in parts {
-            path.push(part.as_bytes())?;
-        }
-        Ok(path)
     }
 
     /// The path one part further. It fails if and only if this is no part of a path or would be the seventh.

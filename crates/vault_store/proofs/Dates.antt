@@ -6,7 +6,7 @@ use Rattle.outside.specs.Disk.{Disk, Path as HostPath}
 use Rattle.outside.specs.Images.{disk_in}
 use Rattle.outside.specs.Views.{FolderView, EntropyView}
 use Rattle.outside.proofs.Told.{told_always}
-use Rattle.siv_mode.specs.Keys.{KeyPair}
+use Rattle.vault_keys.specs.Keys.{KeyPair}
 use Rattle.tree_model.specs.declared.reply.Reply.TheVariants as replies
 use Rattle.tree_model.specs.declared.refusal.Refusal.TheVariants as refusals
 use Rattle.tree_model.specs.Rows.{Content, Row, Rows, row_of}

@@ -3,7 +3,7 @@ use Rattle.std.proofs.Common.{◌≡◌, ℕ, List, Option, sym, subst}
 use Rattle.outside.specs.Calls.{Changes, Told}
 use Rattle.outside.specs.Images.{Log, now}
 use Rattle.outside.proofs.Told.{told_both, told_new}
-use Rattle.siv_mode.specs.Keys.{KeyPair}
+use Rattle.vault_keys.specs.Keys.{KeyPair}
 use Rattle.chunk_journal.specs.Journal.{IsQuiet}
 use Rattle.chunk_journal.specs.Opening.{HasOpened}
 use Rattle.clear_tree.specs.Walk.{Sealing}

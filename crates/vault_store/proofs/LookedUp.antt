@@ -4,7 +4,7 @@ use Rattle.std.specs.Result.{result_unwrap_or}
 use Rattle.std.specs.declared.alloc.AllocError.{AllocError}
 use Rattle.outside.specs.Disk.{Disk}
 use Rattle.outside.specs.Views.{FolderView}
-use Rattle.siv_mode.specs.Keys.{KeyPair}
+use Rattle.vault_keys.specs.Keys.{KeyPair}
 use Rattle.tree_model.specs.declared.refusal.Refusal.TheVariants as refusals
 use Rattle.tree_model.specs.declared.reply.Reply.{Reply}
 use Rattle.tree_model.specs.declared.reply.Reply.TheVariants as replies

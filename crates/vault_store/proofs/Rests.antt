@@ -10,7 +10,7 @@ use Rattle.deeds.specs.Deeds.{PlainDeed}
 use Rattle.chunk_journal.specs.Journal.{HasCommitted, IsQuiet}
 use Rattle.pending_files.specs.Laid.{CanWait, laid, laid_log}
 use Rattle.pending_files.proofs.Laying.{none_waits, same_told}
-use Rattle.siv_mode.specs.Keys.{KeyPair}
+use Rattle.vault_keys.specs.Keys.{KeyPair}
 use Rattle.tree_model.specs.declared.reply.Reply.{Reply}
 use Rattle.tree_model.specs.Rows.{Content}
 use Rattle.tree_model.specs.Asked.{PlainRequest}

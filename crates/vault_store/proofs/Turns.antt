@@ -7,7 +7,7 @@ use Rattle.outside.specs.Disk.{Disk, Path as HostPath}
 use Rattle.outside.specs.Images.{Log, disk_in, now}
 use Rattle.outside.specs.Views.{FolderView, EntropyView}
 use Rattle.outside.proofs.Told.{changed_by, told_always, told_from, told_then, unchanged}
-use Rattle.siv_mode.specs.Keys.{KeyPair}
+use Rattle.vault_keys.specs.Keys.{KeyPair}
 use Rattle.tree_model.specs.declared.refusal.Refusal.{Refusal}
 use Rattle.tree_model.specs.declared.refusal.Refusal.TheVariants as refusals
 use Rattle.tree_model.specs.declared.reply.Reply.{Reply}

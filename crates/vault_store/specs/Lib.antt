@@ -2,6 +2,7 @@ pub mod Causes
 pub mod Contents
 pub mod Dated
 pub mod Open
+pub mod Opening
 pub mod Outcome
 pub mod Quiet
 pub mod Reading

@@ -1,13 +1,14 @@
 -- What a request comes to, before it is counted as an entry.
-use Rattle.std.specs.Prelude.{◌≡◌, ◌⊎◌, ℕ, List, false, Result, Ok, Err}
-use Rattle.outside.specs.Views.{FolderView, EntropyView}
+use Rattle.std.specs.Prelude.{◌≡◌, ◌⊎◌, ℕ, List, None, false, Result, Ok, Err}
+use Rattle.outside.specs.declared.folder.Reads as reads
+use Rattle.outside.specs.Views.{FolderView, EntropyView, folder_in}
 use Rattle.tree_model.specs.declared.reply.Reply.{Reply}
 use Rattle.tree_model.specs.declared.refusal.Refusal.TheVariants as refusals
 use Rattle.tree_model.specs.Asked.{Asked, PlainRequest, plain_reply, refused, asked_of, bytes_put, is_exhausted, HasCount, IsReplyTo, KeepsRest}
 use Rattle.store_laws.specs.Store.{StoreView}
 use Rattle.store_laws.specs.Turns.{Turn, IsQuietTurn, IsChangedTurn, IsBrokenTurn, IsFlushed, IsUnflushedTurn}
 use Rattle.vault_store.specs.declared.answering.Broken.{Broken}
-use Rattle.vault_store.specs.Open.{counted, stopped_in}
+use Rattle.vault_store.specs.Open.{VaultView, counted, idle_of, stopped_in, store_in}
 
 -- the turn of a request that was asked and answered so
 pub record IsTurnOf (asked : Asked) (P : Turn → Type 0) : Type 0 where
@@ -58,3 +59,14 @@ IsOutcome old new before after source source' request second (Ok reply) buffer b
 IsOutcome old new before after source source' request second (Err broken) buffer buffer' =
     HasNotFlushed old new before after source source' request second buffer buffer'
     ⊎ IsFrom old before (λ between amid. HasBroken between new amid after source source' request second buffer buffer')
+
+-- ---- of a vault, however many entries its store made before
+
+-- by a request's own work, if nothing waits before it and after it
+abbrev pub HasWorked : {D : Type 0} → reads.Ghosts D → VaultView D → VaultView D → EntropyView → EntropyView → PlainRequest → ℕ → Result Reply Broken → List ℕ → List ℕ → Type 0
+HasWorked by old new source source' request second result buffer buffer' =
+    (entries : ℕ) → IsWork (idle_of (store_in old entries None)) (idle_of (store_in new entries None)) (folder_in by old.folder) (folder_in by new.folder) source source' request second result buffer buffer'
+
+abbrev pub HasAnswered : {D : Type 0} → reads.Ghosts D → VaultView D → VaultView D → EntropyView → EntropyView → PlainRequest → ℕ → Result Reply Broken → List ℕ → List ℕ → Type 0
+HasAnswered by old new source source' request second result buffer buffer' =
+    (entries : ℕ) → IsOutcome (store_in old entries None) (store_in new entries None) (folder_in by old.folder) (folder_in by new.folder) source source' request second result buffer buffer'

@@ -1,18 +1,17 @@
-ghost use Rattle.std.specs.Prelude.{◌≡◌, ◌≤◌, ◌⊎◌, ℕ, None, length, IfOk, IfErr, IsErrOf, OnOk};
-ghost use Rattle.outside.specs.Calls.{Changes, HasCause, Told};
+ghost use Rattle.std.specs.Prelude.{◌≡◌, ◌≤◌, ℕ, None, length, IfOk, IfErr, IsErrOf, OnOk};
+ghost use Rattle.vault_layout.specs.Limits.{max_threshold};
+ghost use Rattle.outside.specs.Calls.{HasCause, Told};
 ghost use Rattle.outside.specs.Disk.{IsFolder};
-ghost use Rattle.outside.specs.Images.{disk_in, now as disk_now};
+ghost use Rattle.outside.specs.Images.{disk_in};
 ghost use Rattle.outside.specs.Views.{folder_in, entropy_in};
-ghost use Rattle.chunk_journal.specs.Opening.{HasOpened, IsDamagedAt, IsLeftApplied, LeavesFolder, StaysOpening};
 ghost use Rattle.clear_tree.specs.Kept.{KeptTree};
-ghost use Rattle.tree_loading.specs.Format.{sealing_of};
 ghost use Rattle.tree_model.specs.Asked.{CanAsk, plain_request};
 ghost use Rattle.tree_loading.specs.Clear.{root_folder, HasTooMany};
-ghost use Rattle.file_changes.specs.Waiting.{IsAtRestOver};
 ghost use Rattle.store_laws.specs.Ends.{HasBeenOpened};
 ghost use Rattle.vault_store.specs.declared.opening.OpenErr.TheVariants as open_errs;
-ghost use Rattle.vault_store.specs.Open.{IsLoadedTree, view_of};
-ghost use Rattle.vault_store.specs.Outcome.{IsOutcome};
+ghost use Rattle.vault_store.specs.Open.{IsLoadedTree, IsResting, Keeps, opened_in, store_in};
+ghost use Rattle.vault_store.specs.Opening.{HasOpenedStore, HasRefusedStore};
+ghost use Rattle.vault_store.specs.Outcome.{HasAnswered};
 
 use crate::opening::OpenErr;
 use chunk_journal::Journal;
@@ -22,11 +21,12 @@ use live_tree::LiveTree;
 use node_changes::VaultTree;
 use outside::{Entropy, Folder, Refused};
 use pending_files::Pending;
-use siv_mode::VaultKeys;
 use std::alloc::Global;
+use std::marker::Model;
 use tree_answers::is_truncating;
 use tree_loading::load;
 use tree_model::{Reply, Request};
+use vault_keys::VaultKeys;
 use write_back::WriteBack;
 
 /// A commit failed: the folder's count of faults rose, and nothing can be answered any more.
@@ -34,7 +34,7 @@ use write_back::WriteBack;
 pub(crate) struct Broken;
 
 /// What a store answers from: its folder behind the journal, with what waits to be committed; its tree; and room for reads and for changes
-/// of contents.
+/// of contents. Clauses see the tree, what waits and the folder.
 #[derive(Drop)]
 pub(crate) struct Vault<D: Folder> {
     pub back: WriteBack<D>,
@@ -42,6 +42,18 @@ pub(crate) struct Vault<D: Folder> {
     pub reader: ContentReader,
     pub files: FileChanges,
     pub alloc: Global,
+}
+
+impl<D: Folder> Model for Vault<D> {
+    ghost use Rattle.std.specs.Prelude.{◌≤◌};
+    ghost use Rattle.vault_layout.specs.Limits.{max_threshold};
+    ghost use Rattle.vault_store.specs.Open.{VaultView};
+
+    ghost Value = { VaultView D };
+
+    ghost view = { λ v. record { tree = v.tree; waiting = v.back.waiting; folder = v.back.folder } };
+
+    ghost invariant = { λ v. (1 ≤ v.tree.threshold) × (v.tree.threshold ≤ max_threshold) };
 }
 
 impl<D: Folder> Vault<D> {
@@ -53,23 +65,12 @@ impl<D: Folder> Vault<D> {
         threshold: u32,
         now: u32,
     ) -> Result<Vault<D>, Refused<D, OpenErr>>
-        requires { (1 ≤ threshold) × (threshold ≤ 250) }
-        ensures opened { IfOk result (λ vault. (kept : KeptTree) × HasBeenOpened (folder_in D.Reads folder) keys.now now kept
-            (view_of vault.tree vault.back.waiting 0 None) (folder_in D.Reads vault.back.folder)) }
-        ensures rest { IfOk result (λ vault. Told (D.log vault.back.folder) (IsAtRestOver (sealing_of vault.tree.keys) vault.tree.live vault.tree.claims vault.back.waiting)) }
-        ensures threshold { IfOk result (λ vault. vault.tree.threshold ≡ threshold) }
-        ensures later { IfOk result (λ vault. D.faults folder ≤ D.faults vault.back.folder) }
-        ensures damaged { IfErr result (λ refused. (at : ℕ) → refused.cause ≡ open_errs.JournalDamaged at
-            → Told (D.log folder) (λ log. IsDamagedAt (disk_now log) at ⊎ LeavesFolder (disk_now log) at)) }
-        ensures left { IfErr result (λ refused. (at : ℕ) → refused.cause ≡ open_errs.JournalDamaged at
-            → Changes (D.log folder) (D.log refused.folder) IsLeftApplied) }
-        ensures too_many { IfErr result (λ refused. (n : ℕ) → refused.cause ≡ open_errs.TooMany n
-            → Changes (D.log folder) (D.log refused.folder) HasOpened × HasTooMany keys.now (disk_in (D.log refused.folder)) n) }
-        ensures no_root { IfErr result (λ refused. refused.cause ≡ open_errs.NoRoot
-            → Changes (D.log folder) (D.log refused.folder) HasOpened × Told (disk_in (D.log refused.folder)) (λ d. ¬ (IsFolder d (root_folder keys.now)))) }
-        ensures refused { IfErr result (λ refused. Changes (D.log folder) (D.log refused.folder) StaysOpening) }
-        ensures cause { IfErr result (λ refused.
-            HasCause (D.faults folder) (D.faults refused.folder) (refused.cause ≡ open_errs.Device)) }
+        requires { (1 ≤ threshold) × (threshold ≤ max_threshold) }
+        ensures made { IfOk result (λ vault. (kept : KeptTree) × HasBeenOpened (folder_in D.Reads folder) keys.now now kept
+            (store_in vault 0 None) (folder_in D.Reads vault.folder)) }
+        ensures opened { IfOk result (λ vault. HasOpenedStore (folder_in D.Reads) folder keys.now now threshold (opened_in vault 0 None)) }
+        ensures rest { IfOk result (IsResting D.Reads) }
+        ensures refused { IfErr result (HasRefusedStore (folder_in D.Reads) folder keys.now) }
     {
         let reader = match ContentReader::new(alloc) {
             Ok(reader) => reader,
@@ -131,16 +132,12 @@ impl<D: Folder> Vault<D> {
         buffer: &mut [u8],
     ) -> Result<Reply, Broken>
         requires form { CanAsk request.now (length buffer.old) }
-        requires rest { Told (D.log self.old.back.folder) (IsAtRestOver (sealing_of self.old.tree.keys) self.old.tree.live self.old.tree.claims self.old.back.waiting) }
-        requires threshold { (1 ≤ self.old.tree.threshold) × (self.old.tree.threshold ≤ 250) }
-        ensures outcome { (entries : ℕ) → IsOutcome (view_of self.old.tree self.old.back.waiting entries None) (view_of self.new.tree self.new.back.waiting entries None)
-            (folder_in D.Reads self.old.back.folder) (folder_in D.Reads self.new.back.folder)
+        requires rest { IsResting D.Reads self.old }
+        ensures outcome { HasAnswered D.Reads self.old self.new
             (entropy_in E.Entropy entropy.old) (entropy_in E.Entropy entropy.new)
             (plain_request request.now) now result buffer.old buffer.new }
-        ensures rest { OnOk result (Told (D.log self.new.back.folder) (IsAtRestOver (sealing_of self.new.tree.keys) self.new.tree.live self.new.tree.claims self.new.back.waiting)) }
-        ensures threshold { self.new.tree.threshold ≡ self.old.tree.threshold }
-        ensures keys { self.new.tree.keys ≡ self.old.tree.keys }
-        ensures faults { D.faults self.old.back.folder ≤ D.faults self.new.back.folder }
+        ensures rest { OnOk result (IsResting D.Reads self.new) }
+        ensures keeps { Keeps D.Reads self.old self.new }
         ensures entropy { E.faults entropy.old ≤ E.faults entropy.new }
     {
         match request {
@@ -160,6 +157,15 @@ impl<D: Folder> Vault<D> {
             _ => Ok(self.look_up(request, buffer)),
         }
     }
+
+    /// Its folder and its tree. What waits is forgotten.
+    pub fn into_parts(self) -> (D, VaultTree)
+        ensures folder { result.0 ≡ self.folder }
+        ensures tree { result.1 ≡ self.tree }
+    {
+        let Vault { back, tree, .. } = self;
+        (back.into_folder(), tree)
+    }
 }
 
 // The tree of what a folder holds, as it is loaded.
@@ -170,7 +176,7 @@ fn load_tree<D: Folder>(
     threshold: u32,
     now: u32,
 ) -> Result<VaultTree, OpenErr>
-    requires { (1 ≤ threshold) × (threshold ≤ 250) }
+    requires { (1 ≤ threshold) × (threshold ≤ max_threshold) }
     ensures loaded { IfOk result (IsLoadedTree keys.now now threshold (D.log journal.old)) }
     ensures log { D.log journal.new ≡ D.log journal.old }
     ensures damaged { (at : ℕ) → IsErrOf result (open_errs.JournalDamaged at) → ⊥ }

@@ -1,15 +1,12 @@
-ghost use Rattle.std.specs.Prelude.{◌≡◌, ◌≤◌, ℕ, List, [], None, Ok, IsErr};
-ghost use Rattle.outside.specs.Calls.{Told};
-ghost use Rattle.outside.specs.Views.{EntropyView, entropy_in, folder_in};
-ghost use Rattle.tree_loading.specs.Format.{sealing_of};
+ghost use Rattle.std.specs.Prelude.{◌≡◌, ◌≤◌, ℕ, List, [], Ok, IsErr};
+ghost use Rattle.outside.specs.Views.{EntropyView, entropy_in};
 ghost use Rattle.tree_model.specs.declared.reply.Reply.TheVariants as replies;
 ghost use Rattle.tree_model.specs.Asked.{create as create_request, remove as remove_request, change as change_request, PlainChange};
 ghost use Rattle.request_checks.specs.Plans.{CanResize, IsPlanned};
-ghost use Rattle.node_changes.specs.Changed.{IsAtRest};
 ghost use Rattle.node_changes.specs.Causes.{IfBroken, IfRefused};
 ghost use Rattle.vault_store.specs.Dated.{IsDated};
-ghost use Rattle.vault_store.specs.Open.{view_of};
-ghost use Rattle.vault_store.specs.Outcome.{IsWork};
+ghost use Rattle.vault_store.specs.Open.{IsIdle, Keeps};
+ghost use Rattle.vault_store.specs.Outcome.{HasWorked};
 
 use crate::answering::{Broken, Vault};
 use crate::sizes::have_sizes;
@@ -28,17 +25,12 @@ impl<D: Folder> Vault<D> {
         now: u32,
         entropy: &mut E,
     ) -> Result<Reply, Broken>
-        requires idle { self.old.back.waiting ≡ [] }
-        requires rest { Told (D.log self.old.back.folder) (IsAtRest (sealing_of self.old.tree.keys) self.old.tree.live self.old.tree.claims) }
-        requires threshold { (1 ≤ self.old.tree.threshold) × (self.old.tree.threshold ≤ 250) }
-        ensures outcome { (entries mode : ℕ) (buffer : List ℕ) → IsWork (view_of self.old.tree [] entries None) (view_of self.new.tree [] entries None)
-            (folder_in D.Reads self.old.back.folder) (folder_in D.Reads self.new.back.folder)
+        requires idle { IsIdle D.Reads self.old }
+        ensures outcome { (mode : ℕ) (buffer : List ℕ) → HasWorked D.Reads self.old self.new
             (entropy_in E.Entropy entropy.old) (entropy_in E.Entropy entropy.new)
             (create_request parent name.now is_dir mode) now result buffer buffer }
-        ensures idle { self.new.back.waiting ≡ [] }
-        ensures threshold { self.new.tree.threshold ≡ self.old.tree.threshold }
-        ensures keys { self.new.tree.keys ≡ self.old.tree.keys }
-        ensures faults { D.faults self.old.back.folder ≤ D.faults self.new.back.folder }
+        ensures idle { self.new.waiting ≡ [] }
+        ensures keeps { Keeps D.Reads self.old self.new }
         ensures entropy { E.faults entropy.old ≤ E.faults entropy.new }
     {
         match self
@@ -52,16 +44,11 @@ impl<D: Folder> Vault<D> {
 
     /// Removes a node, if nothing waits.
     pub(crate) fn remove_idle(&mut self, number: u64, now: u32) -> Result<Reply, Broken>
-        requires idle { self.old.back.waiting ≡ [] }
-        requires rest { Told (D.log self.old.back.folder) (IsAtRest (sealing_of self.old.tree.keys) self.old.tree.live self.old.tree.claims) }
-        requires threshold { (1 ≤ self.old.tree.threshold) × (self.old.tree.threshold ≤ 250) }
-        ensures outcome { (entries : ℕ) (source : EntropyView) (buffer : List ℕ) → IsWork (view_of self.old.tree [] entries None) (view_of self.new.tree [] entries None)
-            (folder_in D.Reads self.old.back.folder) (folder_in D.Reads self.new.back.folder)
+        requires idle { IsIdle D.Reads self.old }
+        ensures outcome { (source : EntropyView) (buffer : List ℕ) → HasWorked D.Reads self.old self.new
             source source (remove_request number) now result buffer buffer }
-        ensures idle { self.new.back.waiting ≡ [] }
-        ensures threshold { self.new.tree.threshold ≡ self.old.tree.threshold }
-        ensures keys { self.new.tree.keys ≡ self.old.tree.keys }
-        ensures faults { D.faults self.old.back.folder ≤ D.faults self.new.back.folder }
+        ensures idle { self.new.waiting ≡ [] }
+        ensures keeps { Keeps D.Reads self.old self.new }
     {
         match self.tree.remove(self.back.journal(), number, now) {
             Ok(()) => Ok(Reply::Done),
@@ -78,20 +65,15 @@ impl<D: Folder> Vault<D> {
         now: u32,
         entropy: &mut E,
     ) -> Result<Reply, Broken>
-        requires idle { self.old.back.waiting ≡ [] }
-        requires rest { Told (D.log self.old.back.folder) (IsAtRest (sealing_of self.old.tree.keys) self.old.tree.live self.old.tree.claims) }
-        requires threshold { (1 ≤ self.old.tree.threshold) × (self.old.tree.threshold ≤ 250) }
+        requires idle { IsIdle D.Reads self.old }
         requires planned { (c : PlainChange) × IsPlanned self.old.tree.live number c plan }
         requires resizable { CanResize self.old.tree.live number plan }
-        ensures outcome { (entries : ℕ) (buffer : List ℕ) (c : PlainChange) → c.modified ≡ modified → IsPlanned self.old.tree.live number c plan
-            → IsWork (view_of self.old.tree [] entries None) (view_of self.new.tree [] entries None)
-            (folder_in D.Reads self.old.back.folder) (folder_in D.Reads self.new.back.folder)
+        ensures outcome { (buffer : List ℕ) (c : PlainChange) → c.modified ≡ modified → IsPlanned self.old.tree.live number c plan
+            → HasWorked D.Reads self.old self.new
             (entropy_in E.Entropy entropy.old) (entropy_in E.Entropy entropy.new)
             (change_request number c) now result buffer buffer }
-        ensures idle { self.new.back.waiting ≡ [] }
-        ensures threshold { self.new.tree.threshold ≡ self.old.tree.threshold }
-        ensures keys { self.new.tree.keys ≡ self.old.tree.keys }
-        ensures faults { D.faults self.old.back.folder ≤ D.faults self.new.back.folder }
+        ensures idle { self.new.waiting ≡ [] }
+        ensures keeps { Keeps D.Reads self.old self.new }
         ensures entropy { E.faults entropy.old ≤ E.faults entropy.new }
     {
         have_sizes(self.tree.keys());

@@ -1,17 +1,13 @@
-ghost use Rattle.std.specs.Prelude.{◌≡◌, ◌≤◌, ℕ, List, [], None, OnOk, true, length};
-ghost use Rattle.outside.specs.Calls.{Told};
-ghost use Rattle.outside.specs.Views.{entropy_in, folder_in};
-ghost use Rattle.tree_loading.specs.Format.{sealing_of};
+ghost use Rattle.std.specs.Prelude.{◌≡◌, ◌≤◌, ℕ, List, [], OnOk, true, length};
+ghost use Rattle.outside.specs.Views.{entropy_in};
 ghost use Rattle.tree_model.specs.Asked.{PlainChange, change as change_request, open_node as open_request, write as write_request, write_limit};
 ghost use Rattle.tree_model.specs.Step.{truncates};
 ghost use Rattle.request_checks.specs.declared.planning.Plan.TheVariants.{Resize};
 ghost use Rattle.request_checks.specs.Files.{IsResizable};
 ghost use Rattle.request_checks.specs.Plans.{IsPlanned};
-ghost use Rattle.file_changes.specs.Waiting.{IsAtRestOver};
-ghost use Rattle.node_changes.specs.Changed.{IsAtRest};
 ghost use Rattle.vault_store.specs.Contents.{IsChangedQid};
-ghost use Rattle.vault_store.specs.Open.{view_of};
-ghost use Rattle.vault_store.specs.Outcome.{IsOutcome, IsWork};
+ghost use Rattle.vault_store.specs.Open.{IsIdle, IsResting, Keeps};
+ghost use Rattle.vault_store.specs.Outcome.{HasAnswered, HasWorked};
 
 use crate::answering::{Broken, Vault};
 use crate::changing::refused;
@@ -32,15 +28,12 @@ impl<D: Folder> Vault<D> {
         entropy: &mut E,
     ) -> Result<Reply, Broken>
         requires few { length bytes.now ≤ write_limit }
-        requires rest { Told (D.log self.old.back.folder) (IsAtRestOver (sealing_of self.old.tree.keys) self.old.tree.live self.old.tree.claims self.old.back.waiting) }
-        ensures outcome { (entries : ℕ) (buffer : List ℕ) → IsOutcome (view_of self.old.tree self.old.back.waiting entries None) (view_of self.new.tree self.new.back.waiting entries None)
-            (folder_in D.Reads self.old.back.folder) (folder_in D.Reads self.new.back.folder)
+        requires rest { IsResting D.Reads self.old }
+        ensures outcome { (buffer : List ℕ) → HasAnswered D.Reads self.old self.new
             (entropy_in E.Entropy entropy.old) (entropy_in E.Entropy entropy.new)
             (write_request number at bytes.now) now result buffer buffer }
-        ensures rest { OnOk result (Told (D.log self.new.back.folder) (IsAtRestOver (sealing_of self.new.tree.keys) self.new.tree.live self.new.tree.claims self.new.back.waiting)) }
-        ensures threshold { self.new.tree.threshold ≡ self.old.tree.threshold }
-        ensures keys { self.new.tree.keys ≡ self.old.tree.keys }
-        ensures faults { D.faults self.old.back.folder ≤ D.faults self.new.back.folder }
+        ensures rest { OnOk result (IsResting D.Reads self.new) }
+        ensures keeps { Keeps D.Reads self.old self.new }
         ensures entropy { E.faults entropy.old ≤ E.faults entropy.new }
     {
         have_sizes(self.tree.keys());
@@ -73,15 +66,12 @@ impl<D: Folder> Vault<D> {
         entropy: &mut E,
     ) -> Result<Reply, Broken>
         requires cuts { truncates mode ≡ true }
-        requires rest { Told (D.log self.old.back.folder) (IsAtRestOver (sealing_of self.old.tree.keys) self.old.tree.live self.old.tree.claims self.old.back.waiting) }
-        ensures outcome { (entries : ℕ) (buffer : List ℕ) → IsOutcome (view_of self.old.tree self.old.back.waiting entries None) (view_of self.new.tree self.new.back.waiting entries None)
-            (folder_in D.Reads self.old.back.folder) (folder_in D.Reads self.new.back.folder)
+        requires rest { IsResting D.Reads self.old }
+        ensures outcome { (buffer : List ℕ) → HasAnswered D.Reads self.old self.new
             (entropy_in E.Entropy entropy.old) (entropy_in E.Entropy entropy.new)
             (open_request number mode) now result buffer buffer }
-        ensures rest { OnOk result (Told (D.log self.new.back.folder) (IsAtRestOver (sealing_of self.new.tree.keys) self.new.tree.live self.new.tree.claims self.new.back.waiting)) }
-        ensures threshold { self.new.tree.threshold ≡ self.old.tree.threshold }
-        ensures keys { self.new.tree.keys ≡ self.old.tree.keys }
-        ensures faults { D.faults self.old.back.folder ≤ D.faults self.new.back.folder }
+        ensures rest { OnOk result (IsResting D.Reads self.new) }
+        ensures keeps { Keeps D.Reads self.old self.new }
         ensures entropy { E.faults entropy.old ≤ E.faults entropy.new }
     {
         have_sizes(self.tree.keys());
@@ -108,17 +98,13 @@ impl<D: Folder> Vault<D> {
         entropy: &mut E,
     ) -> Result<Reply, Broken>
         requires file { IsResizable self.old.tree.live number len }
-        requires idle { self.old.back.waiting ≡ [] }
-        requires rest { Told (D.log self.old.back.folder) (IsAtRest (sealing_of self.old.tree.keys) self.old.tree.live self.old.tree.claims) }
-        ensures outcome { (entries : ℕ) (buffer : List ℕ) (c : PlainChange) → c.modified ≡ modified → IsPlanned self.old.tree.live number c (Resize len)
-            → IsWork (view_of self.old.tree [] entries None) (view_of self.new.tree [] entries None)
-            (folder_in D.Reads self.old.back.folder) (folder_in D.Reads self.new.back.folder)
+        requires idle { IsIdle D.Reads self.old }
+        ensures outcome { (buffer : List ℕ) (c : PlainChange) → c.modified ≡ modified → IsPlanned self.old.tree.live number c (Resize len)
+            → HasWorked D.Reads self.old self.new
             (entropy_in E.Entropy entropy.old) (entropy_in E.Entropy entropy.new)
             (change_request number c) now result buffer buffer }
-        ensures idle { self.new.back.waiting ≡ [] }
-        ensures threshold { self.new.tree.threshold ≡ self.old.tree.threshold }
-        ensures keys { self.new.tree.keys ≡ self.old.tree.keys }
-        ensures faults { D.faults self.old.back.folder ≤ D.faults self.new.back.folder }
+        ensures idle { self.new.waiting ≡ [] }
+        ensures keeps { Keeps D.Reads self.old self.new }
         ensures entropy { E.faults entropy.old ≤ E.faults entropy.new }
     {
         have_sizes(self.tree.keys());

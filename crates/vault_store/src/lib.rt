@@ -2,7 +2,7 @@
 //! batches.
 //!
 //! ```
-//! let mut store = Store::open(alloc, folder, &keys, 220, now)?;
+//! let mut store = Store::open(alloc, folder, &keys, DEFAULT_THRESHOLD, now)?;
 //! let root = store.serve(&Request::Look { node: 0 }, now, &mut entropy, &mut buffer);
 //! let made = Request::Create { node: 0, name: "notes", is_dir: true, mode: 0 };
 //! let reply = store.serve(&made, now, &mut entropy, &mut buffer);

@@ -1,4 +1,4 @@
-ghost use Rattle.std.specs.Prelude.{◌≡◌, ◌≤◌, ℕ, List, Some, None, Ok, length, IfOk, IfErr};
+ghost use Rattle.std.specs.Prelude.{◌≡◌, ◌≤◌, ℕ, List, Some, Ok, length, IfOk, IfErr};
 ghost use Rattle.std.specs.Option.{option_copied};
 ghost use Rattle.std.specs.Result.{result_unwrap_or};
 ghost use Rattle.outside.specs.Calls.{Told};
@@ -10,10 +10,9 @@ ghost use Rattle.tree_model.specs.declared.refusal.Refusal.TheVariants as refusa
 ghost use Rattle.tree_model.specs.declared.reply.Reply.TheVariants as replies;
 ghost use Rattle.tree_model.specs.Step.{IsReading};
 ghost use Rattle.live_tree.specs.Held.{node_of};
-ghost use Rattle.file_changes.specs.Waiting.{IsAtRestOver};
-ghost use Rattle.vault_store.specs.Open.{running, view_of};
+ghost use Rattle.vault_store.specs.Open.{IsResting, running};
 ghost use Rattle.vault_store.specs.Reading.{HasContents, IsHostOf, IsUnsynced, read_fault};
-ghost use Rattle.vault_store.specs.Outcome.{IsOutcome};
+ghost use Rattle.vault_store.specs.Outcome.{HasAnswered};
 ghost use Rattle.vault_store.specs.Quiet.{IsStill};
 
 use crate::answering::Vault;
@@ -23,24 +22,23 @@ use content_reader::{ContentReader, ReadErr, SealedFile, Slice};
 use file_chunks::clear_len;
 use live_tree::LiveTree;
 use outside::{Folder, Reads};
-use siv_mode::VaultKeys;
 use std::alloc::AllocError;
 use tree_answers::{list, look, open_node, stat_of, walk};
 use tree_model::{Refusal, Reply, Request};
+use vault_keys::VaultKeys;
 
 impl<D: Folder> Vault<D> {
     /// The reply to a request that changes nothing and is no sync. Only `Walk` and `List` take memory.
     pub(crate) fn look_up(&mut self, request: &Request<'_>, buffer: &mut [u8]) -> Reply
         requires form { CanAsk request.now (length buffer.old) }
         requires reads { IsReading (plain_request request.now) }
-        requires rest { Told (D.log self.old.back.folder) (IsAtRestOver (sealing_of self.old.tree.keys) self.old.tree.live self.old.tree.claims self.old.back.waiting) }
+        requires rest { IsResting D.Reads self.old }
         requires unsynced { IsUnsynced (plain_request request.now) }
-        ensures outcome { (entries second : ℕ) (source : EntropyView) → IsOutcome (view_of self.old.tree self.old.back.waiting entries None) (view_of self.new.tree self.new.back.waiting entries None)
-            (folder_in D.Reads self.old.back.folder) (folder_in D.Reads self.new.back.folder)
+        ensures outcome { (second : ℕ) (source : EntropyView) → HasAnswered D.Reads self.old self.new
             source source (plain_request request.now) second (Ok result) buffer.old buffer.new }
-        ensures rest { Told (D.log self.new.back.folder) (IsAtRestOver (sealing_of self.new.tree.keys) self.new.tree.live self.new.tree.claims self.new.back.waiting) }
+        ensures rest { IsResting D.Reads self.new }
         ensures tree { self.new.tree ≡ self.old.tree }
-        ensures faults { D.faults self.old.back.folder ≤ D.faults self.new.back.folder }
+        ensures faults { D.faults self.old.folder ≤ D.faults self.new.folder }
     {
         have_sizes(self.tree.keys());
         let tree = self.tree.live();

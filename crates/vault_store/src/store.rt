@@ -1,25 +1,22 @@
-ghost use Rattle.std.specs.Prelude.{◌≡◌, ◌≤◌, ◌⊎◌, ℕ, false, IsSome, IsNone, length, IfOk, IfErr, OnOk, IsErr};
-ghost use Rattle.outside.specs.Calls.{Changes, HasCause, Rose, Told};
+ghost use Rattle.std.specs.Prelude.{◌≡◌, ◌≤◌, ◌⊎◌, IsSome, IsNone, length, IfOk, IfErr, OnOk, IsErr};
+ghost use Rattle.vault_layout.specs.Limits.{max_threshold};
+ghost use Rattle.outside.specs.Calls.{Changes, Rose};
 ghost use Rattle.chunk_journal.specs.Journal.{AnyMoment};
-ghost use Rattle.outside.specs.Disk.{IsFolder};
-ghost use Rattle.outside.specs.Images.{disk_in, now as disk_now};
 ghost use Rattle.outside.specs.Views.{folder_in, entropy_in};
-ghost use Rattle.tree_model.specs.Asked.{CanAsk, IsReplyTo, HasCount, KeepsRest, is_exhausted, plain_request, plain_reply, asked_of, bytes_put};
-ghost use Rattle.chunk_journal.specs.Opening.{HasOpened, IsDamagedAt, IsLeftApplied, LeavesFolder, StaysOpening};
-ghost use Rattle.tree_loading.specs.Clear.{root_folder, HasTooMany};
-ghost use Rattle.store_laws.specs.Ends.{IsOpened};
+ghost use Rattle.tree_model.specs.Asked.{CanAsk, plain_request, plain_reply, asked_of};
 ghost use Rattle.store_laws.specs.Turns.{AddsEntry, IsFlushed};
 ghost use Rattle.vault_store.specs.Open.{idle_of};
-ghost use Rattle.vault_store.specs.declared.opening.OpenErr.TheVariants as open_errs;
+ghost use Rattle.vault_store.specs.Opening.{HasOpenedStore, HasRefusedStore};
+ghost use Rattle.vault_store.specs.Outcome.{IsFormed};
 
 use crate::answering::{Broken, Vault};
 use crate::closed::ClosedStore;
 use crate::opening::OpenErr;
 use outside::{Entropy, Failed, Folder, Refused};
-use siv_mode::VaultKeys;
 use std::alloc::Global;
 use std::marker::Model;
 use tree_model::{Refusal, Reply, Request};
+use vault_keys::VaultKeys;
 
 /// A vault that is open: its folder, which changes by whole batches alone, and its tree, which was loaded whole. Writes and truncations
 /// wait in memory until a sync, a change that is to last, or a lack of room has them committed. Clauses see what it is in memory, and the folder.
@@ -32,18 +29,19 @@ pub struct Store<D: Folder> {
 }
 
 impl<D: Folder> Model for Store<D> {
-    ghost use Rattle.vault_store.specs.Open.{IsResting, OpenVault, view_of};
+    ghost use Rattle.std.specs.Prelude.{IsNone};
+    ghost use Rattle.vault_store.specs.Open.{IsResting, OpenVault, opened_in};
 
     ghost Value = { OpenVault D };
 
-    ghost view = { λ s. record { store = view_of s.vault.tree s.vault.back.waiting s.entries s.stopped; threshold = s.vault.tree.threshold; folder = s.vault.back.folder } };
+    ghost view = { λ s. opened_in s.vault s.entries s.stopped };
 
-    ghost invariant = { λ s. IsResting (D.log s.vault.back.folder) s.vault.tree.threshold (view_of s.vault.tree s.vault.back.waiting s.entries s.stopped) };
+    ghost invariant = { λ s. IsNone s.stopped → IsResting D.Reads s.vault };
 }
 
 impl<D: Folder> Store<D> {
     /// Opens the vault in a folder: does what a stop left in its journal, and loads its tree. `threshold` is the vault's shortening
-    /// threshold, 1 to 250 characters, and `now` the second of unlocking, since 1970-01-01. All memory that reads need is taken
+    /// threshold, 1 to `MAX_THRESHOLD` characters, and `now` the second of unlocking, since 1970-01-01. All memory that reads need is taken
     /// here. A refusal hands the folder back; if it is that a deed of the journal doesn't fit it, the deeds before are done.
     pub fn open(
         alloc: Global,
@@ -52,22 +50,9 @@ impl<D: Folder> Store<D> {
         threshold: u32,
         now: u32,
     ) -> Result<Store<D>, Refused<D, OpenErr>>
-        requires { (1 ≤ threshold) × (threshold ≤ 250) }
-        ensures opened { IfOk result (λ store. IsOpened (folder_in D.Reads folder) keys.now now store.store
-            (folder_in D.Reads store.folder)) }
-        ensures threshold { IfOk result (λ store. store.threshold ≡ threshold) }
-        ensures later { IfOk result (λ store. D.faults folder ≤ D.faults store.folder) }
-        ensures damaged { IfErr result (λ refused. (at : ℕ) → refused.cause ≡ open_errs.JournalDamaged at
-            → Told (D.log folder) (λ log. IsDamagedAt (disk_now log) at ⊎ LeavesFolder (disk_now log) at)) }
-        ensures left { IfErr result (λ refused. (at : ℕ) → refused.cause ≡ open_errs.JournalDamaged at
-            → Changes (D.log folder) (D.log refused.folder) IsLeftApplied) }
-        ensures too_many { IfErr result (λ refused. (n : ℕ) → refused.cause ≡ open_errs.TooMany n
-            → Changes (D.log folder) (D.log refused.folder) HasOpened × HasTooMany keys.now (disk_in (D.log refused.folder)) n) }
-        ensures no_root { IfErr result (λ refused. refused.cause ≡ open_errs.NoRoot
-            → Changes (D.log folder) (D.log refused.folder) HasOpened × Told (disk_in (D.log refused.folder)) (λ d. ¬ (IsFolder d (root_folder keys.now)))) }
-        ensures refused { IfErr result (λ refused. Changes (D.log folder) (D.log refused.folder) StaysOpening) }
-        ensures cause { IfErr result (λ refused.
-            HasCause (D.faults folder) (D.faults refused.folder) (refused.cause ≡ open_errs.Device)) }
+        requires { (1 ≤ threshold) × (threshold ≤ max_threshold) }
+        ensures opened { IfOk result (HasOpenedStore (folder_in D.Reads) folder keys.now now threshold) }
+        ensures refused { IfErr result (HasRefusedStore (folder_in D.Reads) folder keys.now) }
     {
         let vault = Vault::open(alloc, folder, keys, threshold, now)?;
         Ok(Store {
@@ -95,11 +80,7 @@ impl<D: Folder> Store<D> {
             (folder_in D.Reads self.old.folder) (folder_in D.Reads self.new.folder)
             (asked_of (plain_request request.now) now (plain_reply result) buffer.new)
             (entropy_in E.Entropy entropy.old) (entropy_in E.Entropy entropy.new) }
-        ensures form { IsReplyTo (plain_request request.now) (plain_reply result)
-            (bytes_put (plain_request request.now) (plain_reply result) buffer.new) }
-        ensures count { HasCount result }
-        ensures enters { is_exhausted (plain_reply result) ≡ false }
-        ensures rest { KeepsRest (plain_request request.now) (plain_reply result) buffer.old buffer.new }
+        ensures formed { IsFormed (plain_request request.now) result buffer.old buffer.new }
         ensures keys { self.new.store.keys ≡ self.old.store.keys }
         ensures threshold { self.new.threshold ≡ self.old.threshold }
         ensures faults { D.faults self.old.folder ≤ D.faults self.new.folder }
@@ -142,16 +123,18 @@ impl<D: Folder> Store<D> {
             },
             Some(_) => Err(Failed),
         };
-        let Vault { back, tree, .. } = vault;
+        let (folder, tree) = vault.into_parts();
         let closed = ClosedStore::new(tree, entries, stopped, committed);
-        (back.into_folder(), closed)
+        (folder, closed)
     }
 
     /// Hands the vault's folder back as it is; what waits is forgotten.
     pub fn into_folder(self) -> D
         ensures { result ≡ self.folder }
     {
-        self.vault.back.into_folder()
+        let Store { vault, .. } = self;
+        let (folder, _) = vault.into_parts();
+        folder
     }
 
     /// How many entries there are in the history that it stands for, at most 2^64 - 1.

@@ -3,7 +3,7 @@ use Rattle.std.proofs.Common.{◌≡◌, ℕ, ◌≤◌, List, [], Option, Some,
 use Rattle.outside.specs.Calls.{Told, Changes}
 use Rattle.outside.specs.Images.{Log, moment, now}
 use Rattle.outside.specs.Views.{FolderView}
-use Rattle.siv_mode.specs.Keys.{KeyPair}
+use Rattle.vault_keys.specs.Keys.{KeyPair}
 use Rattle.tree_model.specs.Rows.{Rows}
 use Rattle.tree_model.specs.History.{Origin}
 use Rattle.shared_tree.specs.Turns.{StandsFor}
@@ -32,7 +32,7 @@ moment_rises (Some a) (Some b) grown = goes_later a b grown
 -- ---- the beginning
 
 -- the counts at which the history of a vault begins that was opened over this folder, and whose log is this now
-begin_of : {D N C E : Type 0} → Views D N C E → D → List (Worker N E) → Option Log → Origin
+begin_of : {D N C E K : Type 0} → Views D N C E K → D → List (Worker N E K) → Option Log → Origin
 begin_of views folder workers log = record {
   folder_faults = (views.folder folder).faults;
   entropy_faults = entropy_before (worker_spans views workers workers);
@@ -40,7 +40,7 @@ begin_of views folder workers log = record {
 }
 
 -- the store that was opened stands for no entries yet, from a beginning on
-pub begun : {D N C E : Type 0} (start : Rows → Origin → Type 0) (since : FolderView → KeyPair → Rows → Type 0) (views : Views D N C E) (kind : SecretKind) (folder : D) (workers : List (Worker N E)) (secret : Course SourceView) (second : Option ℕ) (store : OpenVault D)
+pub begun : {D N C E K : Type 0} (start : Rows → Origin → Type 0) (since : FolderView → KeyPair → Rows → Type 0) (views : Views D N C E K) (kind : SecretKind) (folder : D) (workers : List (Worker N E K)) (secret : Course SourceView) (second : Option ℕ) (store : OpenVault D)
     → AreBeginnings start views folder workers → IsAlone since kind (views.folder folder) secret.before second
     → IsUnlockedStore views.folder (given_of views.folder secret second folder folder) kind folder store
     → StandsFor start (λ (s : OpenVault D) rows origin history. IsSharedStore views.folder since s rows origin history) store []
@@ -77,7 +77,7 @@ begun start since views kind folder workers secret second store starts alone unl
     }
 
 -- no random source has fewer faults than there
-pub begun_since : {D N C E : Type 0} (start : Rows → Origin → Type 0) (views : Views D N C E) (folder : D) (workers : List (Worker N E))
+pub begun_since : {D N C E K : Type 0} (start : Rows → Origin → Type 0) (views : Views D N C E K) (folder : D) (workers : List (Worker N E K))
     → AreBeginnings start views folder workers → (rows : Rows) (origin : Origin) → start rows origin → AreSince (λ (e : E). (views.entropy e).faults) origin 0 workers
 begun_since start views folder workers starts rows origin begins =
     let is = (starts.only rows origin begins).entropy_faults in

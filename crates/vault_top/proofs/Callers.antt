@@ -1,13 +1,16 @@
 -- What each caller has in the one history of all workers' sessions.
 use Rattle.std.proofs.Common.{◌≡◌, ℕ, zero, suc, ◌+◌, ◌≤◌, Bool, true, false, eqb, cond, List, [], ◌∷◌, length, map, refl, sym, ap, subst, ◌∙◌, arith}
+use Rattle.outside.specs.Views.{LinkView}
 use Rattle.tree_model.specs.Asked.{entered}
 use Rattle.tree_model.specs.History.{Entry, entries_of, Tally, next, after, Origin, tally_of}
+use Rattle.session_server.specs.Timed.{IsTimed}
+use Rattle.session_server.proofs.Timed.{timed_on_each, timed_entered}
 use Rattle.shared_tree.specs.Clients.{AreDrawnFor}
 use Rattle.shared_tree.specs.Joined.{AreSince, AreCallers}
 use Rattle.shared_tree.specs.declared.workers.Worker.{Worker}
 use Rattle.vault_top.specs.Span.{Views, WorkerSpan, worker_spans}
 use Rattle.store_laws.specs.Turns.{draws_for}
-use Rattle.vault_top.specs.Served.{Share, AreAllDrawn, asked_by, entropy_before, entropy_after}
+use Rattle.vault_top.specs.Served.{Share, AreShares, AreAllDrawn, AreAllTimed, asked_by, entropy_before, entropy_after}
 
 -- ---- one caller
 
@@ -38,6 +41,18 @@ module _ {C : Type 0} (origin : Origin) (entries : List Entry) where
     all_drawn (k + 1) (suc n) workers shares (omega arith) h.1,
   )
 
+  -- and its requests were made at seconds that its clock gave
+  pub all_timed : (link : C → LinkView) (MayStop : WorkerSpan C → Type 0) (sessions sharing k n : ℕ) (workers : List (WorkerSpan C)) (shares : List (Share C)) → k ≡ n → AreShares link MayStop sessions sharing n workers shares
+      → AreCallers draws_for origin entries k workers shares → AreAllTimed entries n workers
+  all_timed link MayStop sessions sharing k n [] shares same are h = tt
+  all_timed link MayStop sessions sharing k n (worker ∷ workers) [] same are h = absurd h
+  all_timed link MayStop sessions sharing k n (worker ∷ workers) (share ∷ shares) same are h =
+      let own : map (λ (entry : Entry). entry.made.asked) (entries_of n entries) ≡ entered share.asked = subst (λ (m : ℕ). map (λ (entry : Entry). entry.made.asked) (entries_of m entries) ≡ entered share.asked) same h.0.asked in
+      let timed = timed_entered worker.clock.before worker.clock.after share.asked (timed_on_each link worker.clock.before worker.clock.after share.links share.asked are.0.talked) in (
+        subst (IsTimed worker.clock.before worker.clock.after) (sym own) timed,
+        all_timed link MayStop sessions sharing (k + 1) (suc n) workers shares (omega arith) are.1 h.1,
+      )
+
   -- what the caller of a number was asked, if none past the last was asked anything
   pub callers_at : (n k i : ℕ) (workers : List (WorkerSpan C)) (shares : List (Share C)) → n ≡ k + i → AreCallers draws_for origin entries k workers shares
       → ((j : ℕ) → k + length workers ≤ j → entries_of j entries ≡ []) → map (λ entry. entry.made.asked) (entries_of n entries) ≡ entered (asked_by shares i)
@@ -60,12 +75,12 @@ module _ {C : Type 0} (origin : Origin) (entries : List Entry) where
 
 -- ---- as the run began
 
-pub spans_count : {D N C E : Type 0} (views : Views D N C E) (workers workers' : List (Worker N E)) → length workers' ≡ length workers → length (worker_spans views workers workers') ≡ length workers
+pub spans_count : {D N C E K : Type 0} (views : Views D N C E K) (workers workers' : List (Worker N E K)) → length workers' ≡ length workers → length (worker_spans views workers workers') ≡ length workers
 spans_count views [] workers' same = refl
 spans_count views (w ∷ workers) [] same = absurd (omega arith)
 spans_count views (w ∷ workers) (v ∷ workers') same = ap suc (spans_count views workers workers' (omega arith))
 
-pub before_same : {D N C E : Type 0} (views : Views D N C E) (workers workers' : List (Worker N E)) (j : ℕ) → length workers' ≡ length workers
+pub before_same : {D N C E K : Type 0} (views : Views D N C E K) (workers workers' : List (Worker N E K)) (j : ℕ) → length workers' ≡ length workers
     → entropy_before (worker_spans views workers workers') j ≡ entropy_before (worker_spans views workers workers) j
 before_same views [] workers' j same = refl
 before_same views (w ∷ workers) [] j same = absurd (omega arith)
@@ -77,7 +92,7 @@ none_past [] j past = refl
 none_past (worker ∷ workers) zero past = absurd (omega arith)
 none_past (worker ∷ workers) (suc j) past = none_past workers j (omega arith)
 
-pub since_at : {D N C E : Type 0} (views : Views D N C E) (origin : Origin) (k : ℕ) (workers : List (Worker N E)) → ((n i : ℕ) → n ≡ k + i → origin.entropy_faults n ≡ entropy_before (worker_spans views workers workers) i)
+pub since_at : {D N C E K : Type 0} (views : Views D N C E K) (origin : Origin) (k : ℕ) (workers : List (Worker N E K)) → ((n i : ℕ) → n ≡ k + i → origin.entropy_faults n ≡ entropy_before (worker_spans views workers workers) i)
     → AreSince (λ (e : E). (views.entropy e).faults) origin k workers
 since_at views origin k [] same = tt
 since_at views origin k (w ∷ workers) same =

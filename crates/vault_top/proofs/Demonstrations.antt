@@ -20,7 +20,7 @@ use Rattle.outside.specs.declared.stream.Failed.{Failed}
 use Rattle.outside.specs.Calls.{Changes, Told}
 use Rattle.outside.specs.Images.{disk_in, now}
 use Rattle.outside.specs.Views.{FolderView}
-use Rattle.siv_mode.specs.Keys.{KeyPair}
+use Rattle.vault_keys.specs.Keys.{KeyPair}
 use Rattle.tree_model.specs.Rows.{Rows}
 use Rattle.tree_model.specs.History.{Entry, Origin, rows_after, rows_at, rows_then}
 use Rattle.session_server.specs.declared.ending.SessionEnd.{SessionEnd}
@@ -89,16 +89,16 @@ few_entries n m is few = omega arith
 
 -- ---- a vault all of whose sessions were held
 
-module _ {D N C E : Type 0} (start : Rows → Origin → Type 0) (since : FolderView → KeyPair → Rows → Type 0) (views : Views D N C E) (words : List (List ℕ)) (secret : Course SourceView) (second : Option ℕ) (folder : D) (service : Service)
-    (workers workers' : List (Worker N E)) (ends : List SessionEnd) (back : HandedBack D) (kept : Kept D)
+module _ {D N C E K : Type 0} (start : Rows → Origin → Type 0) (since : FolderView → KeyPair → Rows → Type 0) (views : Views D N C E K) (words : List (List ℕ)) (secret : Course SourceView) (second : Option ℕ) (folder : D) (service : Service)
+    (workers workers' : List (Worker N E K)) (ends : List SessionEnd) (back : HandedBack D) (kept : Kept D)
     (starts : AreBeginnings start views folder workers) (alone : IsAlone since service.kind (views.folder folder) secret.before second)
     (line : Changes secret.before.left secret.after.left IsAfterLine) (is : IsKeptOf back service.sessions kept) where
-  all_counted : (h : HasServedAll start since views second service workers workers' ends back) → AreCounts is.counts ends
+  all_counted : (h : HasServedAll start since views service workers workers' ends back) → AreCounts is.counts ends
   all_counted h =
       let counted = counted_so h.counts h.closed.committed back.outcome is.counts h.outcome is.outcome in
       subst (λ (es : List SessionEnd). AreCounts is.counts es) h.ended (subst (λ (r : Result SessionCounts Failed). IfOk r (λ c. AreCounts c (all_ends h.joined.shares))) counted.counted h.joined.counted)
 
-  whole_of : (h : HasServedAll start since views second service workers workers' ends back)
+  whole_of : (h : HasServedAll start since views service workers workers' ends back)
       → IsServedWhole views (span_of views words secret second folder h.folder workers workers' (Some kept.store)) service.kind service.sessions (min service.at_once (length workers)) kept.store.store.entries
   whole_of h =
       let counted = counted_so h.counts h.closed.committed back.outcome is.counts h.outcome is.outcome in
@@ -116,7 +116,7 @@ module _ {D N C E : Type 0} (start : Rows → Origin → Type 0) (since : Folder
             (ap (λ (c : ClosedVault). c.store.entries) (sym (same_some h.closed kept.store back.store h.closed_is is.store)) ∙ ap (λ (s : StoreView). s.entries) h.closing.idle ∙ h.joined.right.stands.count) is.few ∙ sym well.count;
       }
 
-  pub served_whole : HasServed start since views second service workers workers' ends back
+  pub served_whole : HasServed start since views service workers workers' ends back
       → IsServedWhole views (span_of views words secret second folder kept.folder workers workers' (Some kept.store)) service.kind service.sessions (min service.at_once (length workers)) kept.store.store.entries
   served_whole (inl h) =
       subst (λ (f : D). IsServedWhole views (span_of views words secret second folder f workers workers' (Some kept.store)) service.kind service.sessions (min service.at_once (length workers)) kept.store.store.entries)
@@ -141,7 +141,7 @@ pub record IsHeldAs (d : Demonstration) (written : List ℕ) (closed : ClosedVau
   pub is : written ≡ line text
   pub held : HasHeld d text closed
 
-module _ (d : Demonstration) (secret : Course SourceView) (folder : Holding) (kept : Kept Holding) (workers' : List (Worker Links Drawing)) (keys : KeyPair) (written : List ℕ)
+module _ (d : Demonstration) (secret : Course SourceView) (folder : Holding) (kept : Kept Holding) (workers' : List (Worker Links Drawing ℕ)) (keys : KeyPair) (written : List ℕ)
     (secret_is : secret.before ≡ record { left = Some (key_line d.seed); faults = 0 }) (keys_are : raw_keys (line_of (key_line d.seed)) ≡ Some keys) (empty : IsEmptyVault keys folder) where
   held_by : (whole : IsServedWhole own_views (own_span d secret folder kept.folder workers' kept.store) RawKeys d.clients d.clients kept.store.store.entries)
       → ((shown : Rows) → HasTree (sealing_of keys) (now kept.folder.log) shown → SumsUp (record { seed = d.seed; clients = d.clients; requests = d.requests }) kept.store.store.entries shown written)
@@ -187,8 +187,8 @@ module _ (d : Demonstration) (secret : Course SourceView) (folder : Holding) (ke
 pub record HasDone (scripts : Scripts) (kept : Kept Holding) (written : List ℕ) : Type 0 where
   pub secret : Course SourceView
   pub folder : Holding
-  pub workers : List (Worker Links Drawing)
-  pub workers' : List (Worker Links Drawing)
+  pub workers : List (Worker Links Drawing ℕ)
+  pub workers' : List (Worker Links Drawing ℕ)
   pub keys : KeyPair
   pub secret_is : secret.before ≡ record { left = Some (key_line scripts.seed); faults = 0 }
   pub keys_are : raw_keys (line_of (key_line scripts.seed)) ≡ Some keys
@@ -200,7 +200,7 @@ pub record HasDone (scripts : Scripts) (kept : Kept Holding) (written : List ℕ
 done_with : (d : Demonstration) (kept : Kept Holding) (written : List ℕ) → HasDone (record { seed = d.seed; clients = d.clients; requests = d.requests }) kept written → IsHeldAs d written kept.store
 done_with d kept written h =
     held_where d h.secret h.folder kept h.workers' h.keys written h.secret_is h.keys_are h.empty
-    (subst (λ (w : List (Worker Links Drawing)). IsServedWhole own_views (span_of own_views [] h.secret (Some 0) h.folder kept.folder w h.workers' (Some kept.store)) RawKeys d.clients (min d.clients (length w)) kept.store.store.entries)
+    (subst (λ (w : List (Worker Links Drawing ℕ)). IsServedWhole own_views (span_of own_views [] h.secret (Some 0) h.folder kept.folder w h.workers' (Some kept.store)) RawKeys d.clients (min d.clients (length w)) kept.store.store.entries)
     h.workers_are h.whole) h.sums
 
 pub done_as : (d : Demonstration) (scripts : Scripts) (kept : Kept Holding) (written : List ℕ) → AreScriptsOf d scripts → HasDone scripts kept written → IsHeldAs d written kept.store

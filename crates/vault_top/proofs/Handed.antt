@@ -5,7 +5,7 @@ use Rattle.outside.specs.declared.stream.Failed.{Failed}
 use Rattle.outside.specs.Calls.{Changes, Rose}
 use Rattle.outside.specs.Views.{FolderView}
 use Rattle.chunk_journal.specs.Journal.{AnyMoment}
-use Rattle.siv_mode.specs.Keys.{KeyPair}
+use Rattle.vault_keys.specs.Keys.{KeyPair}
 use Rattle.tree_model.specs.Rows.{Rows}
 use Rattle.tree_model.specs.History.{Entry, Origin}
 use Rattle.session_server.specs.declared.ending.SessionEnd.{SessionEnd}
@@ -36,14 +36,14 @@ unasked store_of view start since (Some vault) folder same h = subst (λ (o : Op
     (record { rows = h.rows; origin = h.origin; begins = h.begins; store = (store_of vault).store; threshold = (store_of vault).threshold; shared = h.right })
 
 -- a tree that stands for what a store does was served, and the store was closed
-pub served_all : {T D N C E : Type 0} (stands : T → Rows → Origin → List Entry → Type 0) (start : Rows → Origin → Type 0) (since : FolderView → KeyPair → Rows → Type 0) (views : Views D N C E) (second : Option ℕ) (service : Service) (workers workers' : List (Worker N E))
+pub served_all : {T D N C E K : Type 0} (stands : T → Rows → Origin → List Entry → Type 0) (start : Rows → Origin → Type 0) (since : FolderView → KeyPair → Rows → Type 0) (views : Views D N C E K) (service : Service) (workers workers' : List (Worker N E K))
     (tree : T) (store : OpenVault D) (counts : Result SessionCounts Failed) (back : HandedBack D) (folder : D) (at_once : ℕ) → at_once ≡ min service.at_once (length workers)
-    → (rows : Rows) × (origin : Origin) × start rows origin × IsJoined stands draws_for views.listener views.entropy views.link second service.sessions at_once rows origin tree workers workers' counts
+    → (rows : Rows) × (origin : Origin) × start rows origin × IsJoined stands draws_for views.listener views.entropy views.link views.clock service.sessions at_once rows origin tree workers workers' counts
     → ((rows : Rows) (origin : Origin) (history : List Entry) → stands tree rows origin history → IsSharedStore views.folder since store rows origin history)
     → back.folder ≡ Some folder → (closed : ClosedVault) → back.store ≡ Some closed → IsClosing views.folder store.store store.folder closed folder
     → HasOutcome counts closed.committed back.outcome
-    → (ends : List SessionEnd) × HasServed start since views second service workers workers' ends back
-served_all stands start since views second service workers workers' tree store counts back folder at_once few (rows, origin, begins, j) right is closed closed_is closing outcome = (
+    → (ends : List SessionEnd) × HasServed start since views service workers workers' ends back
+served_all stands start since views service workers workers' tree store counts back folder at_once few (rows, origin, begins, j) right is closed closed_is closing outcome = (
   all_ends j.shares,
   inl (record {
     rows = rows;
@@ -56,7 +56,7 @@ served_all stands start since views second service workers workers' tree store c
       entries = j.entries;
       right = right rows origin j.entries j.right;
       shares = j.shares;
-      are = subst (λ (m : ℕ). AreShares views.link second (MayStop counts) service.sessions m 0 (spans.worker_spans views.listener views.entropy workers workers') j.shares) few j.are;
+      are = subst (λ (m : ℕ). AreShares views.link (MayStop counts) service.sessions m 0 (spans.worker_spans views.listener views.entropy views.clock workers workers') j.shares) few j.are;
       counted = j.counted;
       failed = j.failed;
       callers = j.callers;

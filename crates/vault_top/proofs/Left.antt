@@ -7,7 +7,8 @@ use Rattle.outside.specs.Images.{Log, log_at, moment}
 use Rattle.outside.specs.Views.{FolderView}
 use Rattle.outside.proofs.Told.{told_always, told_then}
 use Rattle.deeds.proofs.Growing.{goes_nowhere}
-use Rattle.siv_mode.specs.Keys.{KeyPair}
+use Rattle.vault_keys.specs.Keys.{KeyPair}
+use Rattle.chunk_journal.specs.Journal.{TidySince}
 use Rattle.chunk_journal.specs.Opening.{HasOpened}
 use Rattle.tree_model.specs.Rows.{Rows}
 use Rattle.tree_model.specs.History.{Entry, Origin, tally_at, tally_of, AreCaused, IsLegal}
@@ -54,7 +55,7 @@ left_by before after store rows origin entries is = let recover = stores_recover
   legal = told_before before.log after.log _ _ (IsLegal rows origin entries) is.grown is.stored (λ log stored. record { caused = is.caused; answered = stored.answered });
   placed = told_then after.log (IsStoredIn before.log store rows origin entries) (ArePlaced store.keys rows origin entries) is.stored (λ log stored. stored.placed);
   opened = is.opened;
-  stops = record { grown = is.grown; recover = recover.stops; begun = recover.begun };
+  stops = record { grown = is.grown; recover = recover.stops; begun = recover.begun; tidy = recover.tidy };
   faults = is.faults;
   moment = is.moment;
 }
@@ -118,7 +119,7 @@ module _ (before : FolderView) (store : StoreView) (back folder : FolderView) (r
         legal = told_before before.log back.log _ _ (IsLegal rows origin entries) is.grown is.stored (λ log stored. record { caused = is.caused; answered = stored.answered });
         placed = short.placed;
         opened = short.opened;
-        stops = record { grown = short.grown; recover = short.recover.stops; begun = short.recover.begun };
+        stops = record { grown = short.grown; recover = short.recover.stops; begun = short.recover.begun; tidy = short.recover.tidy };
         faults = omega (arith, is.faults, later);
         moment = short.moment;
       }
@@ -222,9 +223,17 @@ nothing_since keys rows origin log next opened from m since within image is = ab
 nothing_before : (keys : KeyPair) (rows : Rows) (origin : Origin) (log : Log) → origin.moment ≡ suc (moment log) → (opened : ℕ) → IsSaidFrom (Some log) origin opened → BeginningRecovers (shows_under (Some log) keys) opened origin.moment rows log
 nothing_before keys rows origin log next opened from m since before within image is = absurd (omega (arith, since, within, said_later origin log next opened from))
 
+tidy_since : (origin : Origin) (log : Log) → origin.moment ≡ suc (moment log) → (opened : ℕ) → IsSaidFrom (Some log) origin opened → TidySince opened log
+tidy_since origin log next opened from m since within = absurd (omega (arith, since, within, said_later origin log next opened from))
+
 pub stops_nowhere : (keys : KeyPair) (rows : Rows) (origin : Origin) (view : FolderView) → origin.moment ≡ suc (moment_of view.log) → HasStops keys rows origin [] view view
 stops_nowhere keys rows origin view next = stops_in view.log next
   where
     stops_in : (log : Option Log) → origin.moment ≡ suc (moment_of log) → HasStops keys rows origin [] (record view { log = log }) (record view { log = log })
-    stops_in None same = record { grown = tt; recover = tt; begun = tt }
-    stops_in (Some log) same = record { grown = goes_nowhere log; recover = nothing_since keys rows origin log same; begun = nothing_before keys rows origin log same }
+    stops_in None same = record { grown = tt; recover = tt; begun = tt; tidy = tt }
+    stops_in (Some log) same = record {
+      grown = goes_nowhere log;
+      recover = nothing_since keys rows origin log same;
+      begun = nothing_before keys rows origin log same;
+      tidy = tidy_since origin log same;
+    }

@@ -22,3 +22,4 @@ pub mod SoundStatus
 pub mod NewVaults
 pub mod Stopped
 pub mod Undamaged
+pub mod Killed

@@ -1,7 +1,7 @@
 -- A new vault stands for its root alone.
 use Rattle.std.proofs.Common.{◌≡◌, ℕ, List, [], ◌∷◌, ◌++◌, refl, ap, sym, subst, ◌∙◌}
 use Rattle.outside.specs.Disk.{Disk, Path, IsFolder, IsTree, node_at}
-use Rattle.siv_mode.specs.Keys.{KeyPair}
+use Rattle.vault_keys.specs.Keys.{KeyPair}
 use Rattle.vault_names.specs.Folder.{folder_of}
 use Rattle.clear_tree.specs.Places.{host_folder}
 use Rattle.clear_tree.specs.Laws.{root_rows}

@@ -1,11 +1,11 @@
 -- Why an unlocked vault isn't opened.
-use Rattle.std.proofs.Common.{◌≡◌, ◌⊎◌, ℕ, Option, Some, None, refl, subst}
-use Rattle.outside.specs.Calls.{Rose, Told, Changes}
+use Rattle.std.proofs.Common.{◌≡◌, ◌⊎◌, ℕ, [], ◌∷◌, Option, Some, None, refl, sym, subst}
+use Rattle.outside.specs.Calls.{Rose, Told, Changes, TakesNext, next_of}
 use Rattle.outside.specs.Disk.{Disk, IsFolder}
 use Rattle.outside.specs.Images.{Log, disk_in, now}
 use Rattle.outside.specs.Views.{FolderView}
 use Rattle.outside.proofs.Told.{changed_by}
-use Rattle.siv_mode.specs.Keys.{KeyPair}
+use Rattle.vault_keys.specs.Keys.{KeyPair}
 use Rattle.session_server.proofs.Links.{rose_later}
 use Rattle.chunk_journal.specs.Opening.{HasOpened, IsDamagedAt, IsLeftApplied, LeavesFolder, StaysOpening}
 use Rattle.crash_laws.specs.Opening.{IsSoundlyFound, OpeningRecovers}
@@ -57,6 +57,13 @@ closed_by view secret second folder looked kept vault (TooMany n) read is =
 closed_by view secret second folder looked kept vault NoRoot read is =
     with_disk (λ d. ¬ (IsFolder d (root_folder vault.keys))) (view folder).log (view kept).log (subst (λ (l : Option Log). Changes l (view kept).log HasOpened) read.log (is.bare_opened refl)) (is.no_root refl)
 closed_by view secret second folder looked kept vault Memory read is = tt
+
+-- the second that the clock gave is the one that it was to give next
+pub now_first : (a b : Option (ℕ → ℕ)) (second : ℕ) → TakesNext a b (second ∷ []) → Told (next_of a) (λ s. second ≡ s)
+now_first None None second gave = tt
+now_first None (Some after) second gave = absurd gave
+now_first (Some before) None second gave = absurd gave
+now_first (Some before) (Some after) second gave = sym (gave 0)
 
 -- a stop recovers to what was found
 pub recovers : (keys : KeyPair) (a b : Option Log) → Changes a b StaysOpening → Changes a b (λ old new. IsSoundlyFound (now old) → OpeningRecovers (shows_under (Some old) keys) old new)

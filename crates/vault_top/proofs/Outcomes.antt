@@ -1,5 +1,5 @@
 -- The endings that serving comes to.
-use Rattle.std.proofs.Common.{◌≡◌, ℕ, ◌≤◌, List, [], ◌∷◌, ◌++◌, length, codes, get_or, drop, refl, sym, ap, subst, ◌∙◌, inl, inr, Option, Result, IfOk, arith}
+use Rattle.std.proofs.Common.{◌≡◌, ℕ, ◌≤◌, List, [], ◌∷◌, ◌++◌, length, codes, get_or, drop, refl, sym, ap, subst, ◌∙◌, inl, inr, Result, IfOk, arith}
 use Rattle.outside.specs.Calls.{Rose, Changes}
 use Rattle.session_server.specs.declared.ending.SessionEnd.{SessionEnd}
 use Rattle.vault_top.specs.Report.{line, sessions_line, TakesPart}
@@ -13,7 +13,7 @@ use Rattle.shared_tree.specs.declared.workers.Worker.{Worker}
 use Rattle.tree_model.specs.Rows.{Rows}
 use Rattle.tree_model.specs.History.{Origin}
 use Rattle.outside.specs.Views.{FolderView}
-use Rattle.siv_mode.specs.Keys.{KeyPair}
+use Rattle.vault_keys.specs.Keys.{KeyPair}
 use Rattle.outside.specs.declared.stream.Failed.{Failed}
 use Rattle.vault_top.specs.declared.task.Service.{Service}
 use Rattle.vault_top.specs.declared.serving.HandedBack.{HandedBack}
@@ -35,10 +35,10 @@ counted_as counts closing all ends ListenerFault h counted same = tt
 counted_as counts closing all ends FolderFault h counted same = tt
 counted_as counts closing all ends NoMemory h counted same = tt
 
-pub counted_in : {D N C E : Type 0} (start : Rows → Origin → Type 0) (since : FolderView → KeyPair → Rows → Type 0) (views : Views D N C E) (second : Option ℕ) (service : Service) (workers workers' : List (Worker N E)) (ends : List SessionEnd) (back : HandedBack D)
-    → HasServed start since views second service workers workers' ends back → AreCounted ends back.outcome
-counted_in start since views second service workers workers' ends back (inl h) = counted_as h.counts _ (all_ends h.joined.shares) ends back.outcome h.outcome h.joined.counted h.ended
-counted_in start since views second service workers workers' ends back (inr h) = subst (λ (o : Outcome). AreCounted ends o) (sym h.outcome) tt
+pub counted_in : {D N C E K : Type 0} (start : Rows → Origin → Type 0) (since : FolderView → KeyPair → Rows → Type 0) (views : Views D N C E K) (service : Service) (workers workers' : List (Worker N E K)) (ends : List SessionEnd) (back : HandedBack D)
+    → HasServed start since views service workers workers' ends back → AreCounted ends back.outcome
+counted_in start since views service workers workers' ends back (inl h) = counted_as h.counts _ (all_ends h.joined.shares) ends back.outcome h.outcome h.joined.counted h.ended
+counted_in start since views service workers workers' ends back (inr h) = subst (λ (o : Outcome). AreCounted ends o) (sym h.outcome) tt
 
 -- an ending that an outcome comes to whose last line isn't written, as the sink failed before
 record IsUnwritten (ends : List SessionEnd) (outcome : Outcome) : Type 0 where

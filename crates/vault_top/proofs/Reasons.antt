@@ -5,7 +5,7 @@ use Rattle.outside.specs.declared.stream.Failed.{Failed}
 use Rattle.outside.specs.Calls.{Changes, Rose, Told}
 use Rattle.outside.specs.Images.{Log, disk_in, now}
 use Rattle.outside.specs.Views.{FolderView, EntropyView}
-use Rattle.siv_mode.specs.Keys.{KeyPair}
+use Rattle.vault_keys.specs.Keys.{KeyPair}
 use Rattle.tree_model.specs.Rows.{Rows}
 use Rattle.tree_model.specs.History.{Entry, Origin, tally_at, tally_of}
 use Rattle.session_server.specs.declared.ending.SessionEnd.{SessionEnd}
@@ -37,14 +37,14 @@ use Rattle.vault_top.specs.declared.serving.Outcome.TheVariants.{Served, Listene
 use Rattle.vault_top.specs.declared.task.Service.{Service}
 use Rattle.vault_top.proofs.Handed.{seen_closing}
 use Rattle.vault_top.proofs.Left.{Leaves, closed_since, closed_stands, failed_closed, left_by, left_closed, none_failed, stops_nowhere, whole_closed}
-use Rattle.vault_top.proofs.Callers.{faults_stay, all_drawn, callers_at, faults_at, spans_count, before_same, none_past}
+use Rattle.vault_top.proofs.Callers.{faults_stay, all_drawn, all_timed, callers_at, faults_at, spans_count, before_same, none_past}
 use Rattle.vault_top.proofs.Shares.{shares_as, may_stop, on_error}
 
 -- ---- workers that did nothing
 
-pub idle : {D N C E : Type 0} (views : Views D N C E) (workers : List (Worker N E)) → AreIdle (worker_spans views workers workers)
+pub idle : {D N C E K : Type 0} (views : Views D N C E K) (workers : List (Worker N E K)) → AreIdle (worker_spans views workers workers)
 idle views [] = tt
-idle views (worker ∷ workers) = ((refl, refl), idle views workers)
+idle views (worker ∷ workers) = ((refl, refl, refl), idle views workers)
 
 -- ---- a vault that was served
 
@@ -121,17 +121,17 @@ clear_by kind folder secret second keys was rows begun =
     subst (λ (k : KeyPair). Told folder.log (λ log. IsFoundClear k (now log) begun.unlocked rows)) (sym begun.keys_are) begun.clear
 
 -- every worker served its share of a vault that was closed well
-pub record HasServedWell {D N C E : Type 0} (views : Views D N C E) (span : Span C) (kind : SecretKind) (sessions sharing : ℕ) (ends : List SessionEnd) (entries : ℕ) : Type 0 where
+pub record HasServedWell {D N C E K : Type 0} (views : Views D N C E K) (span : Span C) (kind : SecretKind) (sessions sharing : ℕ) (ends : List SessionEnd) (entries : ℕ) : Type 0 where
   pub served : IsServedTo views span kind sessions sharing Never ends
   pub closed : IsClosedWell served.history
   pub count : length served.history.entries ≡ entries
 
 -- a service that has ended, of whatever words
-module _ {D N C E : Type 0} (start : Rows → Origin → Type 0) (since : FolderView → KeyPair → Rows → Type 0) (views : Views D N C E) (words : List (List ℕ)) (secret : Course SourceView) (second : Option ℕ) (folder : D) (service : Service)
-    (workers workers' : List (Worker N E)) (ends : List SessionEnd) (back : HandedBack D) (closed : Option ClosedVault) (closed_is : closed ≡ back.store)
+module _ {D N C E K : Type 0} (start : Rows → Origin → Type 0) (since : FolderView → KeyPair → Rows → Type 0) (views : Views D N C E K) (words : List (List ℕ)) (secret : Course SourceView) (second : Option ℕ) (folder : D) (service : Service)
+    (workers workers' : List (Worker N E K)) (ends : List SessionEnd) (back : HandedBack D) (closed : Option ClosedVault) (closed_is : closed ≡ back.store)
     (starts : AreBeginnings start views folder workers) (alone : IsAlone since service.kind (views.folder folder) secret.before second)
     (line : Changes secret.before.left secret.after.left IsAfterLine) where
-  served_to : (P : WorkerSpan C → Type 0) (h : HasServedAll start since views second service workers workers' ends back) → ((worker : WorkerSpan C) → MayStop h.counts worker → P worker)
+  served_to : (P : WorkerSpan C → Type 0) (h : HasServedAll start since views service workers workers' ends back) → ((worker : WorkerSpan C) → MayStop h.counts worker → P worker)
       → IsServedTo views (span_of views words secret second folder h.folder workers workers' closed) service.kind service.sessions (min service.at_once (length workers)) P ends
   served_to P h only =
       let joined = h.joined in
@@ -145,7 +145,7 @@ module _ {D N C E : Type 0} (start : Rows → Origin → Type 0) (since : Folder
         vault = begun.vault;
         unlocked = record { gave = begun.gave; line = line };
         shares = joined.shares;
-        are = shares_as views.link second (MayStop h.counts) P service.sessions (min service.at_once (length workers)) 0 spans joined.shares only joined.are;
+        are = shares_as views.link (MayStop h.counts) P service.sessions (min service.at_once (length workers)) 0 spans joined.shares only joined.are;
         history = record {
           rows = h.rows;
           origin = h.origin;
@@ -155,6 +155,7 @@ module _ {D N C E : Type 0} (start : Rows → Origin → Type 0) (since : Folder
           placed = left.placed;
           callers = λ j. callers_at h.origin joined.entries j 0 j spans joined.shares (omega arith) joined.callers (λ i past. joined.no_others i (omega arith));
           drawn = all_drawn h.origin joined.entries 0 0 spans joined.shares refl joined.callers;
+          timed = all_timed h.origin joined.entries views.link (MayStop h.counts) service.sessions (min service.at_once (length workers)) 0 0 spans joined.shares refl joined.are joined.callers;
           in_time = joined.in_time;
           since = record {
             folder = (let e = begins.folder_faults in omega arith);
@@ -180,32 +181,32 @@ module _ {D N C E : Type 0} (start : Rows → Origin → Type 0) (since : Folder
       }
 
   -- how it began
-  begun_as : (h : HasServedAll start since views second service workers workers' ends back) → IsBegun service.kind (views.folder folder) secret.before second h.joined.right.start h.store.store.keys h.rows
+  begun_as : (h : HasServedAll start since views service workers workers' ends back) → IsBegun service.kind (views.folder folder) secret.before second h.joined.right.start h.store.store.keys h.rows
   begun_as h = alone.only h.joined.right.start h.store.store.keys h.rows h.joined.right.begins
 
-  none_in : (h : HasServedAll start since views second service workers workers' ends back) → IsOk h.closed.committed → IsNone (tally_of h.origin h.joined.entries).stopped
+  none_in : (h : HasServedAll start since views service workers workers' ends back) → IsOk h.closed.committed → IsNone (tally_of h.origin h.joined.entries).stopped
   none_in h ok = none_closed since views.folder service.kind secret.before second folder h.store h.rows h.origin h.joined.entries h.joined.right (begun_as h) h.folder h.closed h.closing ok
 
-  whole_in : (h : HasServedAll start since views second service workers workers' ends back) → IsOk h.closed.committed
+  whole_in : (h : HasServedAll start since views service workers workers' ends back) → IsOk h.closed.committed
       → Told (views.folder h.folder).log (λ log. IsWhole (shows_under (views.folder folder).log (begun_as h).vault.keys) h.rows h.joined.entries log)
   whole_in h ok = whole_under since views.folder service.kind secret.before second folder h.store h.rows h.origin h.joined.entries h.joined.right (begun_as h) h.folder h.closed h.closing ok
 
   -- if it was closed well, no commit failed, and all entries are on the disk
-  pub served_well : (h : HasServedAll start since views second service workers workers' ends back) → ((worker : WorkerSpan C) → MayStop h.counts worker → Never worker) → IsOk h.closed.committed
+  pub served_well : (h : HasServedAll start since views service workers workers' ends back) → ((worker : WorkerSpan C) → MayStop h.counts worker → Never worker) → IsOk h.closed.committed
       → HasServedWell views (span_of views words secret second folder h.folder workers workers' closed) service.kind service.sessions (min service.at_once (length workers)) ends (length h.joined.entries)
   unfolding served_to begun_as handed
   served_well h only ok = record { served = served_to Never h only; closed = record { closed = ok; running = none_in h ok; on_disk = whole_in h ok }; count = refl }
 
-  failed_in : (h : HasServedAll start since views second service workers workers' ends back) → IsErr h.closed.committed
+  failed_in : (h : HasServedAll start since views service workers workers' ends back) → IsErr h.closed.committed
       → IsSome (tally_of h.origin h.joined.entries).stopped ⊎ Rose (tally_of h.origin h.joined.entries).folder_faults (views.folder h.folder).faults
   failed_in h bad = failed_under since views.folder service.kind secret.before second folder h.store h.rows h.origin h.joined.entries h.joined.right (begun_as h) h.folder h.closed h.closing bad
 
-module _ {D N C E : Type 0} (start : Rows → Origin → Type 0) (since : FolderView → KeyPair → Rows → Type 0) (views : Views D N C E) (words : List (List ℕ)) (secret : Course SourceView) (second : Option ℕ) (folder : D) (serving : Serving) (service : Service)
-    (workers workers' : List (Worker N E)) (ends : List SessionEnd) (back : HandedBack D) (closed : Option ClosedVault) (closed_is : closed ≡ back.store) (asked : Ask words (serve serving)) (same : IsServiceOf serving service)
+module _ {D N C E K : Type 0} (start : Rows → Origin → Type 0) (since : FolderView → KeyPair → Rows → Type 0) (views : Views D N C E K) (words : List (List ℕ)) (secret : Course SourceView) (second : Option ℕ) (folder : D) (serving : Serving) (service : Service)
+    (workers workers' : List (Worker N E K)) (ends : List SessionEnd) (back : HandedBack D) (closed : Option ClosedVault) (closed_is : closed ≡ back.store) (asked : Ask words (serve serving)) (same : IsServiceOf serving service)
     (starts : AreBeginnings start views folder workers) (alone : IsAlone since service.kind (views.folder folder) secret.before second)
     (line : Changes secret.before.left secret.after.left IsAfterLine) where
   -- as these words say
-  served_of : (P : WorkerSpan C → Type 0) (h : HasServedAll start since views second service workers workers' ends back) → ((worker : WorkerSpan C) → MayStop h.counts worker → P worker)
+  served_of : (P : WorkerSpan C → Type 0) (h : HasServedAll start since views service workers workers' ends back) → ((worker : WorkerSpan C) → MayStop h.counts worker → P worker)
       → IsServed views (span_of views words secret second folder h.folder workers workers' closed) P ends
   served_of P h only =
       let spans = worker_spans views workers workers' in
@@ -218,13 +219,13 @@ module _ {D N C E : Type 0} (start : Rows → Origin → Type 0) (since : Folder
           vault = to.vault;
           unlocked = subst (λ (k : SecretKind). IsUnlocked (given_of views.folder secret second folder h.folder) k to.vault) same.kind to.unlocked;
           shares = to.shares;
-          are = subst (λ (p : ℕ × ℕ). AreShares views.link second P p.0 p.1 0 spans to.shares) (λ i. (same.sessions i, min (same.at_once i) (sym many i))) to.are;
+          are = subst (λ (p : ℕ × ℕ). AreShares views.link P p.0 p.1 0 spans to.shares) (λ i. (same.sessions i, min (same.at_once i) (sym many i))) to.are;
           history = to.history;
           ended = to.ended;
         };
       }
 
-  reason_of : (outcome : Outcome) (ending : Ending) (h : HasServedAll start since views second service workers workers' ends back) → HasOutcome h.counts h.closed.committed outcome → MayEnd ends outcome ending
+  reason_of : (outcome : Outcome) (ending : Ending) (h : HasServedAll start since views service workers workers' ends back) → HasOutcome h.counts h.closed.committed outcome → MayEnd ends outcome ending
       → HasReason views (span_of views words secret second folder h.folder workers workers' closed) ending
   unfolding served_of served_to begun_as handed
   reason_of (Served c) ending h is (inl e) =
@@ -264,15 +265,15 @@ module _ {D N C E : Type 0} (start : Rows → Origin → Type 0) (since : Folder
 
 -- ---- a run
 
-run_as : {D N C E : Type 0} (views : Views D N C E) (words : List (List ℕ)) (secret : Course SourceView) (second : Option ℕ) (folder : D) (a b a' b' : List (Worker N E)) (sink : Course SinkView) (ended : Ended D)
+run_as : {D N C E K : Type 0} (views : Views D N C E K) (words : List (List ℕ)) (secret : Course SourceView) (second : Option ℕ) (folder : D) (a b a' b' : List (Worker N E K)) (sink : Course SinkView) (ended : Ended D)
     → a ≡ b → a' ≡ b' → HasRun views words secret second folder b b' sink ended → HasRun views words secret second folder a a' sink ended
-run_as {N = N} {E = E} views words secret second folder a b a' b' sink ended e f h =
-    subst (λ (w : List (Worker N E)). HasRun views words secret second folder w a' sink ended) (sym e)
-    (subst (λ (w : List (Worker N E)). HasRun views words secret second folder b w sink ended) (sym f) h)
+run_as {N = N} {E = E} {K = K} views words secret second folder a b a' b' sink ended e f h =
+    subst (λ (w : List (Worker N E K)). HasRun views words secret second folder w a' sink ended) (sym e)
+    (subst (λ (w : List (Worker N E K)). HasRun views words secret second folder b w sink ended) (sym f) h)
 
 -- there was no memory to serve, and the folder is left
-unshared_kept : {D N C E : Type 0} (start : Rows → Origin → Type 0) (since : FolderView → KeyPair → Rows → Type 0) (views : Views D N C E) (words : List (List ℕ)) (secret : Course SourceView) (second : Option ℕ) (folder kept : D) (serving : Serving) (service : Service)
-    (workers : List (Worker N E)) (closed : Option ClosedVault) → Ask words (serve serving) → IsServiceOf serving service → AreBeginnings start views folder workers → IsAlone since service.kind (views.folder folder) secret.before second
+unshared_kept : {D N C E K : Type 0} (start : Rows → Origin → Type 0) (since : FolderView → KeyPair → Rows → Type 0) (views : Views D N C E K) (words : List (List ℕ)) (secret : Course SourceView) (second : Option ℕ) (folder kept : D) (serving : Serving) (service : Service)
+    (workers : List (Worker N E K)) (closed : Option ClosedVault) → Ask words (serve serving) → IsServiceOf serving service → AreBeginnings start views folder workers → IsAlone since service.kind (views.folder folder) secret.before second
     → Changes secret.before.left secret.after.left IsAfterLine → IsUnasked views.folder start since kept
     → IsUnshared (span_of views words secret second folder kept workers workers closed)
 unshared_kept start since views words secret second folder kept serving service workers closed asked same starts alone line h =
@@ -295,8 +296,8 @@ unshared_kept start since views words secret second folder kept serving service 
     }
 
 -- and if it isn't, nothing is said of it
-unshared_lost : {D N C E : Type 0} (views : Views D N C E) (words : List (List ℕ)) (secret : Course SourceView) (second : Option ℕ) (folder : D) (serving : Serving) (store : OpenVault D)
-    (workers : List (Worker N E)) (closed : Option ClosedVault) → Ask words (serve serving) → IsUnlockedStore views.folder (given_of views.folder secret second folder folder) (kind_of serving) folder store
+unshared_lost : {D N C E K : Type 0} (views : Views D N C E K) (words : List (List ℕ)) (secret : Course SourceView) (second : Option ℕ) (folder : D) (serving : Serving) (store : OpenVault D)
+    (workers : List (Worker N E K)) (closed : Option ClosedVault) → Ask words (serve serving) → IsUnlockedStore views.folder (given_of views.folder secret second folder folder) (kind_of serving) folder store
     → IsUnshared (span_of views words secret second folder folder workers workers closed)
 unshared_lost views words secret second folder serving store workers closed asked unlocked =
     let origin : Origin = record { folder_faults = 0; entropy_faults = λ j. 0; moment = suc (moment_of (views.folder folder).log) } in
@@ -318,8 +319,8 @@ unshared_lost views words secret second folder serving store workers closed aske
 none_left : (ending : Ending) (store : Option ClosedVault) → ending ≡ no_memory_to_serve → store ≡ None → IsStoreLeft ending store
 none_left ending store is gone = subst (λ (e : Ending). IsStoreLeft e store) (sym is) (subst (λ (o : Option ClosedVault). IsNone o) (sym gone) refl)
 
-run_unshared : {D N C E : Type 0} (start : Rows → Origin → Type 0) (since : FolderView → KeyPair → Rows → Type 0) (views : Views D N C E) (words : List (List ℕ)) (secret : Course SourceView) (second : Option ℕ) (folder : D) (serving : Serving) (service : Service) (store : OpenVault D)
-    (workers : List (Worker N E)) (sink : Course SinkView) (ended : Ended D) (ending : Ending) (left : Option D) → Ask words (serve serving) → IsServiceOf serving service
+run_unshared : {D N C E K : Type 0} (start : Rows → Origin → Type 0) (since : FolderView → KeyPair → Rows → Type 0) (views : Views D N C E K) (words : List (List ℕ)) (secret : Course SourceView) (second : Option ℕ) (folder : D) (serving : Serving) (service : Service) (store : OpenVault D)
+    (workers : List (Worker N E K)) (sink : Course SinkView) (ended : Ended D) (ending : Ending) (left : Option D) → Ask words (serve serving) → IsServiceOf serving service
     → AreBeginnings start views folder workers → IsAlone since service.kind (views.folder folder) secret.before second
     → IsUnlockedStore views.folder (given_of views.folder secret second folder folder) (kind_of serving) folder store → ending ≡ no_memory_to_serve → ended.folder ≡ left → ended.store ≡ None
     → IfSome left (λ kept. IsUnasked views.folder start since kept) → IsReported sink ending ended.status
@@ -355,11 +356,11 @@ some_left ends ListenerFault ending counts committed store closed h e is = some_
 some_left ends FolderFault ending counts committed store closed h e is = some_in ending (closing_fault ends) store closed e (λ some. some) is
 some_left ends NoMemory ending counts committed store closed h e is = absurd h
 
-run_by : {D N C E : Type 0} (start : Rows → Origin → Type 0) (since : FolderView → KeyPair → Rows → Type 0) (views : Views D N C E) (words : List (List ℕ)) (secret : Course SourceView) (second : Option ℕ) (folder : D) (serving : Serving) (service : Service) (store : OpenVault D)
-    (workers workers' : List (Worker N E)) (sink : Course SinkView) (ended : Ended D) (ends : List SessionEnd) (back : HandedBack D) (ending : Ending) → Ask words (serve serving) → IsServiceOf serving service
+run_by : {D N C E K : Type 0} (start : Rows → Origin → Type 0) (since : FolderView → KeyPair → Rows → Type 0) (views : Views D N C E K) (words : List (List ℕ)) (secret : Course SourceView) (second : Option ℕ) (folder : D) (serving : Serving) (service : Service) (store : OpenVault D)
+    (workers workers' : List (Worker N E K)) (sink : Course SinkView) (ended : Ended D) (ends : List SessionEnd) (back : HandedBack D) (ending : Ending) → Ask words (serve serving) → IsServiceOf serving service
     → AreBeginnings start views folder workers → IsAlone since service.kind (views.folder folder) secret.before second
     → IsUnlockedStore views.folder (given_of views.folder secret second folder folder) (kind_of serving) folder store
-    → HasServed start since views second service workers workers' ends back → MayEnd ends back.outcome ending → ended.folder ≡ back.folder → ended.store ≡ back.store → IsReported sink ending ended.status
+    → HasServed start since views service workers workers' ends back → MayEnd ends back.outcome ending → ended.folder ≡ back.folder → ended.store ≡ back.store → IsReported sink ending ended.status
     → HasRun views words secret second folder workers workers' sink ended
 run_by start since views words secret second folder serving service store workers workers' sink ended ends back ending asked same starts alone unlocked (inl h) may is store_is reported = record {
   ending = ending;
@@ -375,15 +376,15 @@ run_by start since views words secret second folder serving service store worker
     (run_unshared start since views words secret second folder serving service store workers sink ended ending back.folder asked same starts alone unlocked (subst (λ (o : Outcome). MayEnd ends o ending) h.outcome may) is
     (store_is ∙ h.store) h.folder reported)
 
-pub run_served : {D N C E : Type 0} (start : Rows → Origin → Type 0) (since : FolderView → KeyPair → Rows → Type 0) (views : Views D N C E) (words : List (List ℕ)) (secret : Course SourceView) (second : Option ℕ) (folder : D) (serving : Serving) (service : Service) (store : OpenVault D)
-    (workers workers' : List (Worker N E)) (sink : Course SinkView) (ended : Ended D) → Ask words (serve serving) → IsServiceOf serving service
+pub run_served : {D N C E K : Type 0} (start : Rows → Origin → Type 0) (since : FolderView → KeyPair → Rows → Type 0) (views : Views D N C E K) (words : List (List ℕ)) (secret : Course SourceView) (second : Option ℕ) (folder : D) (serving : Serving) (service : Service) (store : OpenVault D)
+    (workers workers' : List (Worker N E K)) (sink : Course SinkView) (ended : Ended D) → Ask words (serve serving) → IsServiceOf serving service
     → AreBeginnings start views folder workers → IsAlone since service.kind (views.folder folder) secret.before second
     → IsUnlockedStore views.folder (given_of views.folder secret second folder folder) (kind_of serving) folder store
-    → HasServedVault start since views second service workers workers' sink ended → HasRun views words secret second folder workers workers' sink ended
+    → HasServedVault start since views service workers workers' sink ended → HasRun views words secret second folder workers workers' sink ended
 run_served start since views words secret second folder serving service store workers workers' sink ended asked same starts alone unlocked h =
     run_by start since views words secret second folder serving service store workers workers' sink ended h.ends h.back h.ending asked same starts alone unlocked h.served h.may h.folder_is h.store_is h.reported
 
-pub run_unserved : {D N C E : Type 0} (views : Views D N C E) (words : List (List ℕ)) (secret : Course SourceView) (second : Option ℕ) (folder kept : D) (serving : Serving) (workers : List (Worker N E))
+pub run_unserved : {D N C E K : Type 0} (views : Views D N C E K) (words : List (List ℕ)) (secret : Course SourceView) (second : Option ℕ) (folder kept : D) (serving : Serving) (workers : List (Worker N E K))
     (sink : Course SinkView) (ended : Ended D) (cause : Cause) → Ask words (serve serving) → ended.folder ≡ Some kept → IsNone ended.store
     → IsUnopened (given_of views.folder secret second folder kept) (kind_of serving) cause → IsReported sink (refused cause) ended.status
     → HasRun views words secret second folder workers workers sink ended
@@ -398,11 +399,11 @@ run_unserved views words secret second folder kept serving workers sink ended ca
 }
 
 -- a run that touches nothing
-untouched_by : {D N C E : Type 0} (views : Views D N C E) (words : List (List ℕ)) (secret : SourceView) (second : Option ℕ) (folder : D) (workers : List (Worker N E)) (closed : Option ClosedVault)
+untouched_by : {D N C E K : Type 0} (views : Views D N C E K) (words : List (List ℕ)) (secret : SourceView) (second : Option ℕ) (folder : D) (workers : List (Worker N E K)) (closed : Option ClosedVault)
     → IsUntouched (span_of views words (record { before = secret; after = secret }) second folder folder workers workers closed)
 untouched_by views words secret second folder workers closed = record { secret = refl; folder = refl; idle = idle views workers }
 
-pub run_untouched : {D N C E : Type 0} (views : Views D N C E) (words : List (List ℕ)) (secret : SourceView) (second : Option ℕ) (folder : D) (workers : List (Worker N E))
+pub run_untouched : {D N C E K : Type 0} (views : Views D N C E K) (words : List (List ℕ)) (secret : SourceView) (second : Option ℕ) (folder : D) (workers : List (Worker N E K))
     (sink : Course SinkView) (ended : Ended D) (ending : Ending) → ended.folder ≡ Some folder → IsStoreLeft ending ended.store
     → (IsUntouched (span_of views words (record { before = secret; after = secret }) second folder folder workers workers ended.store)
     → HasReason views (span_of views words (record { before = secret; after = secret }) second folder folder workers workers ended.store) ending)
@@ -418,7 +419,7 @@ run_untouched views words secret second folder workers sink ended ending is left
   reported = reported;
 }
 
-pub run_badly_asked : {D N C E : Type 0} (views : Views D N C E) (words : List (List ℕ)) (secret : SourceView) (second : Option ℕ) (folder : D) (workers : List (Worker N E))
+pub run_badly_asked : {D N C E K : Type 0} (views : Views D N C E K) (words : List (List ℕ)) (secret : SourceView) (second : Option ℕ) (folder : D) (workers : List (Worker N E K))
     (sink : Course SinkView) (ended : Ended D) (cause : Cause) → ended.folder ≡ Some folder → IsNone ended.store → ((cause ≡ Words) × AreRefused words) ⊎ (cause ≡ Memory)
     → IsReported sink (refused cause) ended.status
     → HasRun views words (record { before = secret; after = secret }) second folder workers workers sink ended
@@ -427,27 +428,27 @@ run_badly_asked views words secret second folder workers sink ended cause is gon
 
 -- ---- a vault that was to be made
 
-draws_alone : {D N C E : Type 0} (views : Views D N C E) (listener : N) (entropy entropy' : E) (others : List (Worker N E)) (P : Course EntropyView → Type 0)
+draws_alone : {D N C E K : Type 0} (views : Views D N C E K) (listener : N) (entropy entropy' : E) (clock : K) (others : List (Worker N E K)) (P : Course EntropyView → Type 0)
     → P (record { before = views.entropy entropy; after = views.entropy entropy' })
-    → DrawsAlone P (worker_spans views (record { listener = listener; entropy = entropy } ∷ others) (record { listener = listener; entropy = entropy' } ∷ others))
-draws_alone views listener entropy entropy' others P h = (refl, h, idle views others)
+    → DrawsAlone P (worker_spans views (record { listener = listener; entropy = entropy; clock = clock } ∷ others) (record { listener = listener; entropy = entropy'; clock = clock } ∷ others))
+draws_alone views listener entropy entropy' clock others P h = (refl, h, refl, idle views others)
 
 -- the first worker was put back with its random source as it was then
-pub run_making : {D N C E : Type 0} (views : Views D N C E) (words : List (List ℕ)) (secret : Course SourceView) (second : Option ℕ) (folder kept : D) (dir : List ℕ) (first : Worker N E) (entropy : E) (others workers workers' : List (Worker N E))
+pub run_making : {D N C E K : Type 0} (views : Views D N C E K) (words : List (List ℕ)) (secret : Course SourceView) (second : Option ℕ) (folder kept : D) (dir : List ℕ) (first : Worker N E K) (entropy : E) (others workers workers' : List (Worker N E K))
     (sink : Course SinkView) (ended : Ended D) (ending : Ending) (P : Course EntropyView → Type 0) → Ask words (make dir) → ended.folder ≡ Some kept → IsStoreLeft ending ended.store → workers ≡ first ∷ others
-    → workers' ≡ record { listener = first.listener; entropy = entropy } ∷ others
+    → workers' ≡ record { listener = first.listener; entropy = entropy; clock = first.clock } ∷ others
     → P (record { before = views.entropy first.entropy; after = views.entropy entropy })
-    → (IsMaking (span_of views words secret second folder kept (first ∷ others) (record { listener = first.listener; entropy = entropy } ∷ others) ended.store) P
-    → HasReason views (span_of views words secret second folder kept (first ∷ others) (record { listener = first.listener; entropy = entropy } ∷ others) ended.store) ending)
+    → (IsMaking (span_of views words secret second folder kept (first ∷ others) (record { listener = first.listener; entropy = entropy; clock = first.clock } ∷ others) ended.store) P
+    → HasReason views (span_of views words secret second folder kept (first ∷ others) (record { listener = first.listener; entropy = entropy; clock = first.clock } ∷ others) ended.store) ending)
     → IsReported sink ending ended.status
     → HasRun views words secret second folder workers workers' sink ended
 run_making views words secret second folder kept dir first entropy others workers workers' sink ended ending P asked is left same same' h why reported =
-    run_as views words secret second folder workers (first ∷ others) workers' (record { listener = first.listener; entropy = entropy } ∷ others) sink ended same same' (record {
+    run_as views words secret second folder workers (first ∷ others) workers' (record { listener = first.listener; entropy = entropy; clock = first.clock } ∷ others) sink ended same same' (record {
       ending = ending;
       kept = kept;
       folder_is = inl is;
       store_is = left;
       count = refl;
-      reason = why (record { dir = dir; words = asked; drawn = draws_alone views first.listener first.entropy entropy others P h });
+      reason = why (record { dir = dir; words = asked; drawn = draws_alone views first.listener first.entropy entropy first.clock others P h });
       reported = reported;
     })

@@ -4,7 +4,7 @@ use Rattle.std.proofs.lemmas.Option.{same_Some}
 use Rattle.outside.specs.Calls.{Told}
 use Rattle.outside.specs.Images.{Log, log_at, now}
 use Rattle.outside.proofs.Told.{told_then}
-use Rattle.siv_mode.specs.Keys.{KeyPair}
+use Rattle.vault_keys.specs.Keys.{KeyPair}
 use Rattle.tree_model.specs.Rows.{Rows}
 use Rattle.tree_model.specs.History.{Entry, Origin, Tally, after, entry_at, next, rows_at, tally_at, tally_of, AreCaused, MayDraw}
 use Rattle.tree_model.specs.Laws.{AreStepped}

@@ -22,7 +22,7 @@ module _ {C : Type 0} (span : Span C) (d : Demonstration) (asked : Ask span.word
   refused_held cause (inr (inl h)) = let e : serve h.serving ≡ demo d = one (serve h.serving) h.words.asks in absurd cc
   refused_held cause (inr (inr h)) = let e : make h.dir ≡ demo d = one (make h.dir) h.words.asks in absurd cc
 
-  pub held : {D N E : Type 0} (views : Views D N C E) (ending : Ending) → HasReason views span ending → IsHeldOrFull ending
+  pub held : {D N E K : Type 0} (views : Views D N C E K) (ending : Ending) → HasReason views span ending → IsHeldOrFull ending
   held views (refused cause) h = refused_held cause h
   held views usage_said h = let e : help ≡ demo d = one help h.0.asks in absurd cc
   held views version_said h = let e : version ≡ demo d = one version h.0.asks in absurd cc

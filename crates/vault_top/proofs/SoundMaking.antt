@@ -67,7 +67,7 @@ refused_sound span cause is faultless random (inr (inl h)) =
 refused_sound span cause is faultless random (inr (inr h)) =
     not_made_sound span.given cause span.workers is.secret is.empty faultless.secret faultless.folder random h.drawn
 
-pub sound_to_make : {D N C E : Type 0} (views : Views D N C E) (span : Span C) (ending : Ending) → IsSoundToMake span → IsFaultless span → (SomeRandomFailed span.workers → ⊥)
+pub sound_to_make : {D N C E K : Type 0} (views : Views D N C E K) (span : Span C) (ending : Ending) → IsSoundToMake span → IsFaultless span → (SomeRandomFailed span.workers → ⊥)
     → HasReason views span ending → IsMadeOrFull ending
 sound_to_make views span (refused cause) is faultless random h = refused_sound span cause is faultless random h
 sound_to_make views span usage_said is faultless random h =

@@ -4,7 +4,7 @@ use Rattle.std.specs.List.{AllByRecursion}
 use Rattle.outside.specs.Calls.{Rose, Told}
 use Rattle.outside.specs.Images.{Log}
 use Rattle.outside.specs.Views.{LinkView}
-use Rattle.siv_mode.specs.Keys.{KeyPair}
+use Rattle.vault_keys.specs.Keys.{KeyPair}
 use Rattle.tree_model.specs.Asked.{Asked}
 use Rattle.tree_model.specs.History.{Entry, Tally, next, after, tally_at, IsCaused, AreCaused, IsLegal}
 use Rattle.tree_model.specs.Laws.{AreFaultless, AreStepped}
@@ -17,8 +17,9 @@ use Rattle.session_server.proofs.Whole.{served_whole}
 use Rattle.vault_top.specs.Span.{Views, WorkerSpan, Span}
 use Rattle.vault_top.specs.Served.{Share, AreShares, HasHistory, entropy_before, entropy_after}
 use Rattle.vault_top.specs.Words.{sharers}
-use Rattle.vault_top.specs.Ending.{Ending, refused, usage_said, version_said, made, no_memory_to_serve, served, listener_fault, closing_fault, no_memory_to_report, demonstrated, HasReason, ListenerFailed, Never}
-use Rattle.vault_top.specs.Sound.{IsFaultless, SomeRandomFailed, IsDoneOrFull, IsServedOut, IsServedSoundly, HasServedSoundly}
+use Rattle.vault_top.specs.Ending.{Ending, refused, usage_said, version_said, made, no_memory_to_serve, served, listener_fault, closing_fault, no_memory_to_report, demonstrated, IsDemonstration, HasReason, ListenerFailed, Never}
+use Rattle.vault_top.specs.Demonstrated.{own_views}
+use Rattle.vault_top.specs.Sound.{IsFaultless, SomeRandomFailed, IsDoneOrFull, IsServedOut, IsServedSoundly, held_span, IsHeldSoundly, HasServedSoundly}
 use Rattle.vault_top.proofs.Faults.{faults_rise, rose_within}
 use Rattle.vault_top.proofs.RightlyTaken.{rightly_taken}
 
@@ -99,36 +100,44 @@ done_or_full before after messages answered ends.ReadFault is = absurd is
 done_or_full before after messages answered ends.WriteFault is = absurd is
 done_or_full before after messages answered ends.Limit is = absurd is
 
-served_out : {C : Type 0} (view : C → LinkView) (second : Option ℕ) (link : ServedLink C) (asked : List Asked) → TalkedOn (view link.came) (view link.given) second link.end asked → IsServedOut view link
-served_out view second link asked talked = λ whole faultless.
+served_out : {C : Type 0} (view : C → LinkView) (clock clock' : Option (ℕ → ℕ)) (link : ServedLink C) (asked : List Asked) → TalkedOn (view link.came) (view link.given) clock clock' link.end asked → IsServedOut view link
+served_out view clock clock' link asked talked = λ whole faultless.
     done_or_full (view link.came) (view link.given) whole.messages talked.talk.frames link.end
-    (served_whole (view link.came) (view link.given) second link.end asked talked whole faultless)
+    (served_whole (view link.came) (view link.given) clock clock' link.end asked talked whole faultless)
 
-links_served_out : {C : Type 0} (view : C → LinkView) (second : Option ℕ) (links : List (ServedLink C)) (asked : List Asked) → TalkedOnEach view second links asked → AllByRecursion (IsServedOut view) links
-links_served_out view second [] asked talked = tt
-links_served_out view second (link ∷ links) asked talked =
-    (served_out view second link talked.first talked.talked, links_served_out view second links talked.others talked.rest)
+links_served_out : {C : Type 0} (view : C → LinkView) (clock clock' : Option (ℕ → ℕ)) (links : List (ServedLink C)) (asked : List Asked) → TalkedOnEach view clock clock' links asked → AllByRecursion (IsServedOut view) links
+links_served_out view clock clock' [] asked talked = tt
+links_served_out view clock clock' (link ∷ links) asked talked =
+    (served_out view clock talked.next link talked.first talked.talked, links_served_out view talked.next clock' links talked.others talked.rest)
 
-shares_served_out : {C : Type 0} (view : C → LinkView) (second : Option ℕ) (MayStop : WorkerSpan C → Type 0) (sessions sharing j : ℕ) (workers : List (WorkerSpan C)) (shares : List (Share C))
-    → AreShares view second MayStop sessions sharing j workers shares → AllByRecursion (λ (share : Share C). AllByRecursion (IsServedOut view) share.links) shares
-shares_served_out view second MayStop sessions sharing j [] [] are = tt
-shares_served_out view second MayStop sessions sharing j [] (share ∷ shares) are = absurd are
-shares_served_out view second MayStop sessions sharing j (worker ∷ workers) [] are = absurd are
-shares_served_out view second MayStop sessions sharing j (worker ∷ workers) (share ∷ shares) are =
-    (links_served_out view second share.links share.asked are.0.talked, shares_served_out view second MayStop sessions sharing (suc j) workers shares are.1)
+shares_served_out : {C : Type 0} (view : C → LinkView) (MayStop : WorkerSpan C → Type 0) (sessions sharing j : ℕ) (workers : List (WorkerSpan C)) (shares : List (Share C))
+    → AreShares view MayStop sessions sharing j workers shares → AllByRecursion (λ (share : Share C). AllByRecursion (IsServedOut view) share.links) shares
+shares_served_out view MayStop sessions sharing j [] [] are = tt
+shares_served_out view MayStop sessions sharing j [] (share ∷ shares) are = absurd are
+shares_served_out view MayStop sessions sharing j (worker ∷ workers) [] are = absurd are
+shares_served_out view MayStop sessions sharing j (worker ∷ workers) (share ∷ shares) are =
+    (links_served_out view worker.clock.before worker.clock.after share.links share.asked are.0.talked, shares_served_out view MayStop sessions sharing (suc j) workers shares are.1)
 
 served_soundly : {C : Type 0} (view : C → LinkView) (span : Span C) (keys : KeyPair) (MayStop : WorkerSpan C → Type 0) (sessions sharing : ℕ) (shares : List (Share C)) (history : HasHistory span keys shares)
-    → AreShares view span.given.second MayStop sessions sharing 0 span.workers shares → IsSome span.given.folder.before.log
+    → AreShares view MayStop sessions sharing 0 span.workers shares → IsSome span.given.folder.before.log
     → (Rose span.given.folder.before.faults span.given.folder.after.faults → ⊥) → (SomeRandomFailed span.workers → ⊥) → IsServedSoundly view history
 served_soundly view span keys MayStop sessions sharing shares history are told still none = record {
   stepped = steps span keys shares history told still none;
   rightly = rightly_taken keys history.rows history.origin history.entries span.given.folder.after.log history.caused (steps span keys shares history told still none) history.placed;
-  sessions = shares_served_out view span.given.second MayStop sessions sharing 0 span.workers shares are;
+  sessions = shares_served_out view MayStop sessions sharing 0 span.workers shares are;
 }
+
+-- ---- a demonstration, whose own folder tells
+
+pub held_soundly : {C : Type 0} (span : Span C) (text : List ℕ) (is : IsDemonstration span text) → IsHeldSoundly span text is
+held_soundly span text is = λ steady.
+    let sessions = is.held.sessions.served in
+    let clients = is.demonstration.clients in
+    served_soundly own_views.link (held_span span text is) sessions.vault.keys Never clients clients sessions.shares sessions.history sessions.are refl steady.folder steady.random
 
 -- ---- a run
 
-pub has_served_soundly : {D N C E : Type 0} (views : Views D N C E) (span : Span C) (ending : Ending) (reason : HasReason views span ending) → IsSome span.given.folder.before.log → IsFaultless span
+pub has_served_soundly : {D N C E K : Type 0} (views : Views D N C E K) (span : Span C) (ending : Ending) (reason : HasReason views span ending) → IsSome span.given.folder.before.log → IsFaultless span
     → (SomeRandomFailed span.workers → ⊥) → HasServedSoundly views span ending reason
 has_served_soundly views span (refused cause) reason told faultless random = tt
 has_served_soundly views span usage_said reason told faultless random = tt
@@ -143,4 +152,4 @@ has_served_soundly views span (closing_fault ends) reason told faultless random 
 has_served_soundly views span (no_memory_to_report ends) reason told faultless random =
     let is = reason.0 in
     served_soundly views.link span is.sessions.vault.keys ListenerFailed is.serving.sessions (sharers is.serving (length span.workers)) is.sessions.shares is.sessions.history is.sessions.are told faultless.folder random
-has_served_soundly views span (demonstrated text) reason told faultless random = tt
+has_served_soundly views span (demonstrated text) reason told faultless random = held_soundly span text reason

@@ -55,12 +55,12 @@ of_holding (closing_fault ends) h = absurd h
 of_holding (no_memory_to_report ends) h = absurd h
 of_holding (demonstrated text) h = inl refl
 
-of_job : {D N C E : Type 0} (views : Views D N C E) (span : Span C) (ending : Ending) → IsSoundJob span → IsFaultless span → HasReason views span ending → IsGood (status_of ending)
+of_job : {D N C E K : Type 0} (views : Views D N C E K) (span : Span C) (ending : Ending) → IsSoundJob span → IsFaultless span → HasReason views span ending → IsGood (status_of ending)
 of_job views span ending (inl serving) faultless reason = of_serving ending (sound views span ending serving faultless reason)
 of_job views span ending (inr (inl making)) faultless reason = of_making ending (sound_to_make views span ending making.0 faultless making.1 reason)
 of_job views span ending (inr (inr holding)) faultless reason = of_holding ending (held span holding.0 holding.1 views ending reason)
 
-pub sound_status : {D N C E : Type 0} (views : Views D N C E) (words : List Text) (secret : Course SourceView) (second : Option ℕ) (folder : D) (workers workers' : List (Worker N E)) (sink : Course SinkView) (ended : Ended D)
+pub sound_status : {D N C E K : Type 0} (views : Views D N C E K) (words : List Text) (secret : Course SourceView) (second : Option ℕ) (folder : D) (workers workers' : List (Worker N E K)) (sink : Course SinkView) (ended : Ended D)
     → IsSoundRun views words secret second folder workers workers' sink ended → IsGood ended.status
 sound_status views words secret second folder workers workers' sink ended is =
     let span = span_of views words secret second folder is.run.kept workers workers' ended.store in

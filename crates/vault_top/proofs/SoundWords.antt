@@ -11,7 +11,7 @@ module _ {C : Type 0} (span : Span C) (bad : AreRefused span.words) where
   none : (job : Job) → Ask span.words job → ⊥
   none job asked = not_refused span.words job asked bad
 
-  pub bad_or_full : {D N E : Type 0} (views : Views D N C E) (ending : Ending) → HasReason views span ending → IsBadOrFull ending
+  pub bad_or_full : {D N E K : Type 0} (views : Views D N C E K) (ending : Ending) → HasReason views span ending → IsBadOrFull ending
   bad_or_full views (refused cause) (inl h) = elim h.why [ inl words ↦ inl words.0 | inr memory ↦ inr memory ]
   bad_or_full views (refused cause) (inr (inl h)) = absurd (none (serve h.serving) h.words)
   bad_or_full views (refused cause) (inr (inr h)) = absurd (none (make h.dir) h.words)

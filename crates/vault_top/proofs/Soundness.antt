@@ -3,7 +3,7 @@ use Rattle.std.proofs.Common.{◌≡◌, ◌⊎◌, ℕ, List, Option, Some, Non
 use Rattle.outside.specs.Calls.{Rose, Told, Changes}
 use Rattle.outside.specs.Disk.{Disk, IsFolder}
 use Rattle.outside.specs.Images.{Log, disk_in, now}
-use Rattle.siv_mode.specs.Keys.{KeyPair}
+use Rattle.vault_keys.specs.Keys.{KeyPair}
 use Rattle.chunk_journal.specs.Journal.{IsAlike, RecoversTo}
 use Rattle.chunk_journal.specs.Opening.{HasOpened, IsDamagedAt, LeavesFolder}
 use Rattle.tree_model.specs.History.{tally_at, tally_of}
@@ -149,7 +149,7 @@ closing_rose span keys shares history (inr rose) =
     rose_within span.given.folder.before.faults (tally_of history.origin history.entries).folder_faults span.given.folder.after.faults span.given.folder.after.faults
     (omega (arith, history.since.folder, rise)) history.up_to.folder (omega arith) rose
 
-pub sound : {D N C E : Type 0} (views : Views D N C E) (span : Span C) (ending : Ending) → IsSound span → IsFaultless span → HasReason views span ending → IsServedOrFull ending
+pub sound : {D N C E K : Type 0} (views : Views D N C E K) (span : Span C) (ending : Ending) → IsSound span → IsFaultless span → HasReason views span ending → IsServedOrFull ending
 sound views span (refused cause) is faultless h = refused_sound span cause is faultless h
 sound views span usage_said is faultless h =
     let e : help ≡ serve is.serving = one_job span.words (serve is.serving) help is.words h.0.asks in absurd cc

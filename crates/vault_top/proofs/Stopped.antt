@@ -1,5 +1,6 @@
 -- What a stop leaves of a vault that was served is soundly found, and so is a new vault.
-use Rattle.std.proofs.Common.{◌≡◌, ◌≢◌, ℕ, codes, List, [], ◌∷◌, length, Option, None, Some, refl, sym, ap, subst, ◌∙◌, inl}
+use Rattle.std.proofs.Common.{◌≡◌, ◌≢◌, ℕ, List, [], ◌∷◌, length, Option, None, Some, refl, sym, ap, subst, ◌∙◌, inl}
+use Rattle.vault_layout.specs.Names.{masterkey_file, vault_file}
 use Rattle.outside.specs.Calls.{Told}
 use Rattle.outside.specs.Disk.{Disk, Node, folder as Folder, node_at, Path}
 use Rattle.outside.specs.Images.{Log}
@@ -36,8 +37,8 @@ first_of a b e = cc
 none_at : (password : List ℕ) (secrets : NewSecrets) (disk : Disk) → IsNewVault password secrets disk → (name : List ℕ) (n : ℕ) → length name ≡ n → n ≢ 1 → n ≢ 21 → n ≢ 17 → node_at disk (name ∷ []) ≡ None
 none_at password secrets disk is name n long not_top not_masterkey not_config =
     is.alone name (longer name top_name n 1 long refl not_top)
-    (λ e. longer name (codes "masterkey.cryptomator") n 21 long refl not_masterkey (first_of name (codes "masterkey.cryptomator") e))
-    (λ e. longer name (codes "vault.cryptomator") n 17 long refl not_config (first_of name (codes "vault.cryptomator") e))
+    (λ e. longer name masterkey_file n 21 long refl not_masterkey (first_of name masterkey_file e))
+    (λ e. longer name vault_file n 17 long refl not_config (first_of name vault_file e))
 
 -- neither of the journal's files
 module _ (password : List ℕ) (secrets : NewSecrets) (disk : Disk) (is : IsNewVault password secrets disk) where

@@ -6,7 +6,7 @@ use Rattle.outside.specs.Images.{Log, moment, now, LeavesOnly}
 use Rattle.outside.specs.Views.{FolderView}
 use Rattle.outside.proofs.Moments.{started}
 use Rattle.outside.proofs.Steady.{sound_image, sound_tree}
-use Rattle.siv_mode.specs.Keys.{KeyPair}
+use Rattle.vault_keys.specs.Keys.{KeyPair}
 use Rattle.clap.specs.Words.{Text}
 use Rattle.deeds.specs.Deeds.{LogGoesOn}
 use Rattle.chunk_journal.specs.Opening.{IsDamagedAt, IsOpenable, LeavesFolder, StaysOpening}
@@ -92,7 +92,7 @@ module _ {C : Type 0} (span : Span C) (makes_none : (dir : Text) → Ask span.wo
   not_done cause (inr (inl unserved)) = unopened _ cause unserved.unopened
   not_done cause (inr (inr making)) = absurd (makes_none making.dir making.words)
 
-  pub stays_by : {D N E : Type 0} (views : Views D N C E) (ending : Ending) → HasReason views span ending → Stays
+  pub stays_by : {D N E K : Type 0} (views : Views D N C E K) (ending : Ending) → HasReason views span ending → Stays
   stays_by views (refused cause) reason = not_done cause reason
   stays_by views usage_said reason = untouched reason.1
   stays_by views version_said reason = untouched reason.1

@@ -8,7 +8,7 @@ use Rattle.session_server.specs.declared.ending.SessionEnd.{SessionEnd}
 use Rattle.clap.specs.Words.{Text}
 use Rattle.unlocking.specs.FromFiles.{UnlockedVault}
 use Rattle.vault_words.specs.Jobs.{Serving, Demonstration, serve, make, demo, help, version}
-use Rattle.vault_words.specs.declared.job.TheConstants.{USAGE, VERSION}
+use Rattle.vault_words.specs.Texts.{usage, version as version_text}
 use Rattle.store_laws.specs.Ends.{IsFoundClear}
 use Rattle.tree_model.specs.Rows.{Rows}
 use Rattle.tree_model.specs.History.{Origin}
@@ -46,9 +46,10 @@ pub data Ending : Type 0 where
 
 -- ---- why the run ended so
 
--- no worker took a link, and nothing was drawn
+-- no worker took a link, nothing was drawn, and no clock was read
 abbrev pub AreIdle : {C : Type 0} → List (WorkerSpan C) → Type 0
-AreIdle workers = AllByRecursion (λ worker. (worker.listener.after ≡ worker.listener.before) × (worker.entropy.after ≡ worker.entropy.before)) workers
+AreIdle workers =
+    AllByRecursion (λ worker. (worker.listener.after ≡ worker.listener.before) × (worker.entropy.after ≡ worker.entropy.before) × (worker.clock.after ≡ worker.clock.before)) workers
 
 -- nothing was taken of the secret, the folder is as it was, and no worker did anything
 pub record IsUntouched {C : Type 0} (span : Span C) : Type 0 where
@@ -68,10 +69,10 @@ pub record IsUnserved {C : Type 0} (span : Span C) (cause : Cause) : Type 0 wher
   pub unopened : IsUnopened span.given (kind_of serving) cause
   pub idle : AreIdle span.workers
 
--- the first worker's random source went on so; no worker took a link, and the others drew nothing
+-- the first worker's random source went on so; no worker took a link or read its clock, and the others drew nothing
 abbrev pub DrawsAlone : {C : Type 0} → (Course EntropyView → Type 0) → List (WorkerSpan C) → Type 0
 DrawsAlone P [] = ⊥
-DrawsAlone P (first ∷ others) = (first.listener.after ≡ first.listener.before) × P first.entropy × AreIdle others
+DrawsAlone P (first ∷ others) = (first.listener.after ≡ first.listener.before) × P first.entropy × (first.clock.after ≡ first.clock.before) × AreIdle others
 
 -- a vault was to be made, and P of what was given and the first worker's random source
 pub record IsMaking {C : Type 0} (span : Span C) (P : Course EntropyView → Type 0) : Type 0 where
@@ -96,7 +97,7 @@ pub record IsUnshared {C : Type 0} (span : Span C) : Type 0 where
   pub idle : AreIdle span.workers
 
 -- it was served as the words say
-pub record IsServed {D N C E : Type 0} (views : Views D N C E) (span : Span C) (MayStop : WorkerSpan C → Type 0) (ends : List SessionEnd) : Type 0 where
+pub record IsServed {D N C E K : Type 0} (views : Views D N C E K) (span : Span C) (MayStop : WorkerSpan C → Type 0) (ends : List SessionEnd) : Type 0 where
   pub serving : Serving
   pub words : Ask span.words (serve serving)
   pub sessions : IsServedTo views span (kind_of serving) serving.sessions (sharers serving (length span.workers)) MayStop ends
@@ -118,7 +119,7 @@ IsRefused span cause =
 
 -- Why the run ended so. A fault at closing is reported only if a commit failed, in an entry or of what waited in the end; after any other
 -- ending of a vault that was served none did, and all entries are on the disk.
-abbrev pub HasReason : {D N C E : Type 0} → Views D N C E → Span C → Ending → Type 0
+abbrev pub HasReason : {D N C E K : Type 0} → Views D N C E K → Span C → Ending → Type 0
 HasReason views span (refused cause) = IsRefused span cause
 HasReason views span usage_said = Ask span.words help × IsUntouched span
 HasReason views span version_said = Ask span.words version × IsUntouched span
@@ -137,8 +138,8 @@ serving = line (codes "serving")
 
 abbrev pub report_of : Ending → List ℕ
 report_of (refused cause) = line (text_of cause)
-report_of usage_said = USAGE.now
-report_of version_said = VERSION.now
+report_of usage_said = usage
+report_of version_said = version_text
 report_of made = line (codes "made")
 report_of no_memory_to_serve = serving ++ line (codes "out of memory")
 report_of (served ends) = serving ++ sessions_line ends
@@ -179,6 +180,13 @@ IsReported sink ending status =
     ⊎ (Rose sink.before.faults sink.after.faults × (status ≡ cut_status_of ending)
     × Changes sink.before.taken sink.after.taken (TakesPart (report_of ending)))
 
+-- that no client can connect was reported whole; or the sink failed, and took a part from the line's front
+abbrev pub SaysNoSocket : Course SinkView → ℕ → Type 0
+SaysNoSocket sink status =
+    ((status ≡ 7) × Changes sink.before.taken sink.after.taken (λ old new. new ≡ old ++ line (codes "listener fault")))
+    ⊎ (Rose sink.before.faults sink.after.faults × (status ≡ 4)
+    × Changes sink.before.taken sink.after.taken (TakesPart (line (codes "listener fault"))))
+
 -- ---- a run
 
 -- the folder is handed back; only if there was no memory to serve it may be lost with the vault
@@ -199,7 +207,7 @@ IsStoreLeft (no_memory_to_report ends) store = IsSome store
 IsStoreLeft (demonstrated text) store = IsSome store
 
 -- the workers are those that they were, in their order: each is the one of its place
-pub record HasRun {D N C E : Type 0} (views : Views D N C E) (words : List (List ℕ)) (secret : Course SourceView) (second : Option ℕ) (folder : D) (workers workers' : List (Worker N E)) (sink : Course SinkView) (ended : Ended D) : Type 0 where
+pub record HasRun {D N C E K : Type 0} (views : Views D N C E K) (words : List (List ℕ)) (secret : Course SourceView) (second : Option ℕ) (folder : D) (workers workers' : List (Worker N E K)) (sink : Course SinkView) (ended : Ended D) : Type 0 where
   pub ending : Ending
   pub kept : D
   pub folder_is : IsGivenBack ending kept ended.folder

@@ -3,7 +3,7 @@ use Rattle.std.specs.Prelude.{◌≡◌, ◌⊎◌, ℕ, ◌+◌, ◌≤◌, Lis
 use Rattle.outside.specs.Calls.{Rose, Told, Changes}
 use Rattle.outside.specs.Views.{FolderView, EntropyView}
 use Rattle.masterkey_file.specs.Password.{password_of}
-use Rattle.masterkey_file.specs.declared.secret.TheConstants.{LINE_LIMIT}
+use Rattle.vault_layout.specs.Limits.{password_limit}
 use Rattle.unlocking.specs.Secret.{IsAfterLine, TakesAtMost}
 use Rattle.unlocking.specs.declared.secret.SecretErr.{SecretErr}
 use Rattle.unlocking.specs.declared.secret.SecretErr.TheVariants as secret_errs
@@ -38,7 +38,7 @@ pub record FailsToRead (given : Given) (entropy : Course EntropyView) (cause : C
   pub error : SecretErr
   pub is : cause ≡ of_secret error
   pub why : HasNoPassword given error
-  pub begun : Changes given.secret.before.left given.secret.after.left (TakesAtMost (LINE_LIMIT + 1))
+  pub begun : Changes given.secret.before.left given.secret.after.left (TakesAtMost (password_limit + 1))
   pub folder : given.folder.after ≡ given.folder.before
   pub undrawn : entropy.after ≡ entropy.before
 

@@ -4,17 +4,18 @@ use Rattle.std.specs.Prelude.{◌≡◌, ◌⊎◌, ℕ, zero, suc, ◌*◌, ◌
 use Rattle.outside.specs.Calls.{Changes, Told, Rose}
 use Rattle.outside.specs.Images.{log_at, moment, now}
 use Rattle.outside.specs.Views.{FolderView}
-use Rattle.siv_mode.specs.Keys.{KeyPair}
+use Rattle.vault_keys.specs.Keys.{KeyPair}
 use Rattle.tree_model.specs.Rows.{Rows}
 use Rattle.tree_model.specs.Asked.{Asked, entered}
 use Rattle.tree_model.specs.History.{Entry, entries_of, Origin, tally_at, tally_of, AreCaused, IsLegal, IsUpTo}
 pub use Rattle.session_server.specs.Shares.{share_of, Share, IsShare, AreShares, all_ends}
+use Rattle.session_server.specs.Timed.{IsTimed}
 use Rattle.shared_tree.specs.Joined.{all_asked}
-use Rattle.shared_tree.specs.declared.TheConstants.{MOST_TICKETS}
-use Rattle.turn_lock.specs.declared.TheConstants.{TURN_LIMIT}
+use Rattle.shared_tree.specs.Limits.{most_tickets}
+use Rattle.turn_lock.specs.Limits.{turn_limit}
 use Rattle.shared_tree.specs.Clients.{AreDrawnFor}
 use Rattle.deeds.specs.Deeds.{LogGoesOn}
-use Rattle.chunk_journal.specs.Journal.{AnyMoment}
+use Rattle.chunk_journal.specs.Journal.{AnyMoment, TidySince}
 use Rattle.chunk_journal.specs.Opening.{HasOpened}
 use Rattle.crash_laws.specs.Prefix.{StopsRecover, BeginningRecovers, IsWhole}
 use Rattle.store_laws.specs.Store.{StoreView, ArePlaced, ArePlacedSince, HasRowsLeft, IsSaidFrom, IsStoreOf, moment_of, shows_under}
@@ -66,6 +67,14 @@ AreAllDrawn entries j [] = ⊤
 AreAllDrawn entries j (worker ∷ workers) =
     AreDrawnFor draws_for worker.entropy.before worker.entropy.after (map (λ entry. entry.made) (entries_of j entries)) × AreAllDrawn entries (suc j) workers
 
+-- ---- at which seconds it was asked
+
+-- the requests of the callers from number j on were made at seconds that their workers' clocks gave, in order
+abbrev pub AreAllTimed : {C : Type 0} → List Entry → ℕ → List (WorkerSpan C) → Type 0
+AreAllTimed entries j [] = ⊤
+AreAllTimed entries j (worker ∷ workers) =
+    IsTimed worker.clock.before worker.clock.after (map (λ entry. entry.made.asked) (entries_of j entries)) × AreAllTimed entries (suc j) workers
+
 -- ---- the store behind the lock
 
 -- the commit of what waited failed as a store was closed
@@ -107,15 +116,18 @@ pub record IsHandedBack (keys : KeyPair) (rows : Rows) (origin : Origin) (entrie
 -- What a stop leaves of a vault that was served under these keys with these entries. The folder's log goes on from the one that was found; a stop at
 -- any moment, from the end of the opening on, and if the disk was found sound from the end of the opening's first sync on, recovers to a prefix of the history
 -- that holds all that was synced; and up to the moment at which the history begins to a disk that shows the rows that it begins with. Each time what isn't the
--- vault's own is as it was found, also among its data.
+-- vault's own is as it was found, also among its data. At each of these moments what isn't on the disk is at the journal's two files, or at paths that the batch
+-- names which the journal holds.
 pub record HasStops (keys : KeyPair) (rows : Rows) (origin : Origin) (entries : List Entry) (before after : FolderView) : Type 0 where
   pub grown : Changes before.log after.log LogGoesOn
   pub recover : Told after.log (λ log. (opened : ℕ) → IsSaidFrom before.log origin opened → StopsRecover (shows_under before.log keys) opened rows entries log)
   pub begun : Told after.log (λ log. (opened : ℕ) → IsSaidFrom before.log origin opened → BeginningRecovers (shows_under before.log keys) opened origin.moment rows log)
+  pub tidy : Told after.log (λ log. (opened : ℕ) → IsSaidFrom before.log origin opened → TidySince opened log)
 
 -- The entries of all callers are one history from the rows on that the folder recovers to, under these keys. Of each caller it has what was asked on the links of the worker of
 -- that number, in order, but for requests that were answered as exhausted; and nothing else. One is answered so only if the most tickets that all requests may take are more than there are
--- turns. Each entry has its cause, and each caller's random source gave what its entries drew, in order. If the folder tells its log the history is legal, and each entry names the place that
+-- turns. Each entry has its cause, and each caller's random source gave what its entries drew, in order, and its clock
+-- the seconds at which they were asked. If the folder tells its log the history is legal, and each entry names the place that
 -- is taken; and what a stop leaves follows it. It begins at a moment at which the journal that was found had been opened. It is the history for which the store that the lock gave back
 -- stands, which is handed back.
 pub record HasHistory {C : Type 0} (span : Span C) (keys : KeyPair) (shares : List (Share C)) : Type 0 where
@@ -127,7 +139,8 @@ pub record HasHistory {C : Type 0} (span : Span C) (keys : KeyPair) (shares : Li
   pub placed : Told span.given.folder.after.log (ArePlaced keys rows origin entries)
   pub callers : (j : ℕ) → map (λ entry. entry.made.asked) (entries_of j entries) ≡ entered (asked_by shares j)
   pub drawn : AreAllDrawn entries 0 span.workers
-  pub in_time : (entered (all_asked shares) ≡ all_asked shares) ⊎ (TURN_LIMIT < MOST_TICKETS * length (all_asked shares))
+  pub timed : AreAllTimed entries 0 span.workers
+  pub in_time : (entered (all_asked shares) ≡ all_asked shares) ⊎ (turn_limit < most_tickets * length (all_asked shares))
   pub since : IsSince span origin
   pub up_to : IsUpTo (end_of span) (tally_of origin entries)
   pub unlocked : ℕ

@@ -1,5 +1,5 @@
 -- What serving a vault does, step by step.
-use Rattle.std.specs.Prelude.{◌≡◌, ◌⊎◌, ℕ, ◌<◌, ◌-◌, ◌^◌, min, List, [], ◌++◌, length, Option, Some, None, Result, Ok, IsErr, IsOk, IfSome, IsNone, ⊤}
+use Rattle.std.specs.Prelude.{◌≡◌, ◌⊎◌, ℕ, ◌<◌, ◌-◌, ◌^◌, min, List, [], ◌++◌, length, Some, None, Result, Ok, IsErr, IsOk, IfSome, IsNone, ⊤}
 use Rattle.outside.specs.declared.stream.Failed.{Failed}
 use Rattle.outside.specs.Calls.{Rose}
 use Rattle.outside.specs.Images.{now}
@@ -15,7 +15,7 @@ use Rattle.session_server.specs.Ends.{AreCounts}
 use Rattle.session_server.specs.Shares.{all_ends}
 use Rattle.shared_tree.specs.Joined.{IsJoined}
 use Rattle.shared_tree.specs.declared.workers.Worker.{Worker}
-use Rattle.siv_mode.specs.Keys.{KeyPair}
+use Rattle.vault_keys.specs.Keys.{KeyPair}
 use Rattle.store_laws.specs.Store.{StoreView}
 use Rattle.store_laws.specs.Turns.{draws_for}
 use Rattle.vault_store.specs.Open.{ClosedVault, OpenVault}
@@ -47,13 +47,13 @@ HasOutcome counts closing outcomes.FolderFault = IsErr closing
 HasOutcome counts closing outcomes.NoMemory = ⊥
 
 -- all workers served their shares over an open vault, which was closed then
-pub record HasServedAll {D N C E : Type 0} (start : Rows → Origin → Type 0) (since : FolderView → KeyPair → Rows → Type 0) (views : Views D N C E) (second : Option ℕ) (service : Service) (workers workers' : List (Worker N E)) (ends : List SessionEnd) (back : HandedBack D) : Type 0 where
+pub record HasServedAll {D N C E K : Type 0} (start : Rows → Origin → Type 0) (since : FolderView → KeyPair → Rows → Type 0) (views : Views D N C E K) (service : Service) (workers workers' : List (Worker N E K)) (ends : List SessionEnd) (back : HandedBack D) : Type 0 where
   pub rows : Rows
   pub origin : Origin
   pub begins : start rows origin
   pub store : OpenVault D
   pub counts : Result SessionCounts Failed
-  pub joined : IsJoined (λ s rows origin history. IsSharedStore views.folder since s rows origin history) draws_for views.listener views.entropy views.link second
+  pub joined : IsJoined (λ s rows origin history. IsSharedStore views.folder since s rows origin history) draws_for views.listener views.entropy views.link views.clock
       service.sessions (min service.at_once (length workers)) rows origin store workers workers' counts
   pub ended : all_ends joined.shares ≡ ends
   pub folder : D
@@ -73,15 +73,15 @@ pub record IsUnasked {D : Type 0} (view : D → FolderView) (start : Rows → Or
   pub shared : IsSharedStore view since (record { store = store; threshold = threshold; folder = folder }) rows origin []
 
 -- there was no memory to serve, and no worker did anything; a store that is left stood for no entries
-pub record HasServedNone {D N C E : Type 0} (start : Rows → Origin → Type 0) (since : FolderView → KeyPair → Rows → Type 0) (views : Views D N C E) (workers workers' : List (Worker N E)) (back : HandedBack D) : Type 0 where
+pub record HasServedNone {D N C E K : Type 0} (start : Rows → Origin → Type 0) (since : FolderView → KeyPair → Rows → Type 0) (views : Views D N C E K) (workers workers' : List (Worker N E K)) (back : HandedBack D) : Type 0 where
   pub outcome : back.outcome ≡ outcomes.NoMemory
   pub store : back.store ≡ None
   pub same : workers' ≡ workers
   pub folder : IfSome back.folder (λ folder. IsUnasked views.folder start since folder)
 
-abbrev pub HasServed : {D N C E : Type 0} → (Rows → Origin → Type 0) → (FolderView → KeyPair → Rows → Type 0) → Views D N C E → Option ℕ → Service → List (Worker N E) → List (Worker N E) → List SessionEnd → HandedBack D → Type 0
-HasServed start since views second service workers workers' ends back =
-    HasServedAll start since views second service workers workers' ends back ⊎ HasServedNone start since views workers workers' back
+abbrev pub HasServed : {D N C E K : Type 0} → (Rows → Origin → Type 0) → (FolderView → KeyPair → Rows → Type 0) → Views D N C E K → Service → List (Worker N E K) → List (Worker N E K) → List SessionEnd → HandedBack D → Type 0
+HasServed start since views service workers workers' ends back =
+    HasServedAll start since views service workers workers' ends back ⊎ HasServedNone start since views workers workers' back
 
 -- the sessions that an outcome counts, if it does
 abbrev pub AreCounted : List SessionEnd → Outcome → Type 0
@@ -113,10 +113,10 @@ unreported outcomes.FolderFault = 4
 unreported outcomes.NoMemory = 5
 
 -- all workers served over an open vault, and it was reported
-pub record HasServedVault {D N C E : Type 0} (start : Rows → Origin → Type 0) (since : FolderView → KeyPair → Rows → Type 0) (views : Views D N C E) (second : Option ℕ) (service : Service) (workers workers' : List (Worker N E)) (sink : Course SinkView) (ended : Ended D) : Type 0 where
+pub record HasServedVault {D N C E K : Type 0} (start : Rows → Origin → Type 0) (since : FolderView → KeyPair → Rows → Type 0) (views : Views D N C E K) (service : Service) (workers workers' : List (Worker N E K)) (sink : Course SinkView) (ended : Ended D) : Type 0 where
   pub ends : List SessionEnd
   pub back : HandedBack D
-  pub served : HasServed start since views second service workers workers' ends back
+  pub served : HasServed start since views service workers workers' ends back
   pub ending : Ending
   pub may : MayEnd ends back.outcome ending
   pub folder_is : ended.folder ≡ back.folder

@@ -2,7 +2,7 @@
 use Rattle.std.specs.Prelude.{◌≡◌, ◌⊎◌, ℕ, List, length, Option, IsSome, IsNone, IsOk, IsErr}
 use Rattle.std.specs.List.{AllByRecursion}
 use Rattle.outside.specs.Calls.{Rose}
-use Rattle.siv_mode.specs.Keys.{KeyPair}
+use Rattle.vault_keys.specs.Keys.{KeyPair}
 use Rattle.tree_model.specs.History.{tally_of}
 use Rattle.session_server.specs.declared.ending.SessionEnd.{SessionEnd}
 use Rattle.session_server.specs.declared.ending.SessionEnd.TheVariants.{Done}
@@ -14,11 +14,11 @@ use Rattle.vault_top.specs.Opening.{IsUnlocked}
 
 -- The vault was served under the keys that were unlocked by a secret of this kind: of so many sessions, which so many workers share, each worker its share, which ended so, and
 -- what was asked in them is one legal history, whatever the interleaving, of which a stop leaves a prefix. `MayStop` is what may have kept a worker from its share.
-pub record IsServedTo {D N C E : Type 0} (views : Views D N C E) (span : Span C) (kind : SecretKind) (sessions sharing : ℕ) (MayStop : WorkerSpan C → Type 0) (ends : List SessionEnd) : Type 0 where
+pub record IsServedTo {D N C E K : Type 0} (views : Views D N C E K) (span : Span C) (kind : SecretKind) (sessions sharing : ℕ) (MayStop : WorkerSpan C → Type 0) (ends : List SessionEnd) : Type 0 where
   pub vault : UnlockedVault
   pub unlocked : IsUnlocked span.given kind vault
   pub shares : List (Share C)
-  pub are : AreShares views.link span.given.second MayStop sessions sharing 0 span.workers shares
+  pub are : AreShares views.link MayStop sessions sharing 0 span.workers shares
   pub history : HasHistory span vault.keys shares
   pub ended : all_ends shares ≡ ends
 
@@ -45,7 +45,7 @@ abbrev pub Never : {C : Type 0} → WorkerSpan C → Type 0
 Never worker = ⊥
 
 -- All sessions were held, and each one's input ended between two messages; no commit failed, and all entries, which are so many, are on the disk.
-pub record IsServedWhole {D N C E : Type 0} (views : Views D N C E) (span : Span C) (kind : SecretKind) (sessions sharing entries : ℕ) : Type 0 where
+pub record IsServedWhole {D N C E K : Type 0} (views : Views D N C E K) (span : Span C) (kind : SecretKind) (sessions sharing entries : ℕ) : Type 0 where
   pub ends : List SessionEnd
   pub served : IsServedTo views span kind sessions sharing Never ends
   pub many : length ends ≡ sessions

@@ -5,7 +5,7 @@ use Rattle.outside.specs.Images.{disk_in, moment, now}
 use Rattle.outside.specs.Views.{FolderView}
 use Rattle.tree_model.specs.Rows.{Rows}
 use Rattle.tree_model.specs.History.{Entry, Origin}
-use Rattle.siv_mode.specs.Keys.{KeyPair}
+use Rattle.vault_keys.specs.Keys.{KeyPair}
 use Rattle.store_laws.specs.Store.{IsStoreOf}
 use Rattle.store_laws.specs.Ends.{IsFoundClear}
 use Rattle.unlocking.specs.FromFiles.{UnlockedVault}
@@ -25,13 +25,13 @@ pub record IsSharedStore {D : Type 0} (view : D → FolderView) (since : FolderV
 
 -- The counts at which a run's history begins: the folder's faults as they were, and its moment as the vault had been opened; and each worker's random source's
 -- faults as they were.
-pub record Begins {D N C E : Type 0} (views : Views D N C E) (folder : D) (workers : List (Worker N E)) (rows : Rows) (origin : Origin) : Type 0 where
+pub record Begins {D N C E K : Type 0} (views : Views D N C E K) (folder : D) (workers : List (Worker N E K)) (rows : Rows) (origin : Origin) : Type 0 where
   pub folder_faults : origin.folder_faults ≡ (views.folder folder).faults
   pub entropy_faults : origin.entropy_faults ≡ entropy_before (worker_spans views workers workers)
   pub moment : Told (views.folder folder).log (λ log. moment log ≤ origin.moment)
 
 -- these are the rows and counts from which a run's history may begin
-pub record AreBeginnings {D N C E : Type 0} (start : Rows → Origin → Type 0) (views : Views D N C E) (folder : D) (workers : List (Worker N E)) : Type 0 where
+pub record AreBeginnings {D N C E K : Type 0} (start : Rows → Origin → Type 0) (views : Views D N C E K) (folder : D) (workers : List (Worker N E K)) : Type 0 where
   pub all : (rows : Rows) (origin : Origin) → Begins views folder workers rows origin → start rows origin
   pub only : (rows : Rows) (origin : Origin) → start rows origin → Begins views folder workers rows origin
 

@@ -6,7 +6,7 @@ use Rattle.outside.specs.Calls.{Rose, Told}
 use Rattle.outside.specs.Disk.{Disk, Path, IsFolder}
 use Rattle.outside.specs.Images.{Log, log_at, now, disk_in}
 use Rattle.outside.specs.Views.{LinkView}
-use Rattle.siv_mode.specs.Keys.{KeyPair}
+use Rattle.vault_keys.specs.Keys.{KeyPair}
 use Rattle.tree_model.specs.Rows.{Rows}
 use Rattle.tree_model.specs.History.{Made, Entry, Origin, entry_at, rows_at, tally_of}
 use Rattle.tree_model.specs.Laws.{AreStepped, IsPlaceTaken}
@@ -32,7 +32,9 @@ use Rattle.vault_top.specs.declared.cause.Cause.TheVariants.{Words, Memory}
 use Rattle.vault_top.specs.Words.{Ask, kind_of}
 use Rattle.vault_top.specs.Span.{Course, SourceView, SinkView, Views, WorkerSpan, Span, span_of}
 use Rattle.vault_top.specs.Served.{Share, HasHistory}
-use Rattle.vault_top.specs.Ending.{Ending, refused, usage_said, version_said, made, no_memory_to_serve, served, listener_fault, closing_fault, no_memory_to_report, demonstrated, SomeFailed, HasReason, HasRun}
+use Rattle.outside_mem.specs.Links.{Ends}
+use Rattle.vault_top.specs.Demonstrated.{own_span, own_views}
+use Rattle.vault_top.specs.Ending.{Ending, refused, usage_said, version_said, made, no_memory_to_serve, served, listener_fault, closing_fault, no_memory_to_report, demonstrated, SomeFailed, IsDemonstration, HasReason, HasRun}
 use Rattle.shared_tree.specs.declared.workers.Worker.{Worker}
 use Rattle.vault_top.specs.declared.program.Ended.{Ended}
 
@@ -118,7 +120,7 @@ abbrev pub IsSoundJob : {C : Type 0} → Span C → Type 0
 IsSoundJob span = IsSound span ⊎ (IsSoundToMake span × ¬ (SomeRandomFailed span.workers)) ⊎ ((demonstration : Demonstration) × Ask span.words (demo demonstration))
 
 -- a run with a sound job, in which nothing failed, the sink neither
-pub record IsSoundRun {D N C E : Type 0} (views : Views D N C E) (words : List (List ℕ)) (secret : Course SourceView) (second : Option ℕ) (folder : D) (workers workers' : List (Worker N E)) (sink : Course SinkView) (ended : Ended D) : Type 0 where
+pub record IsSoundRun {D N C E K : Type 0} (views : Views D N C E K) (words : List (List ℕ)) (secret : Course SourceView) (second : Option ℕ) (folder : D) (workers workers' : List (Worker N E K)) (sink : Course SinkView) (ended : Ended D) : Type 0 where
   pub run : HasRun views words secret second folder workers workers' sink ended
   pub sound : IsSoundJob (span_of views words secret second folder run.kept workers workers' ended.store)
   pub faultless : IsFaultless (span_of views words secret second folder run.kept workers workers' ended.store)
@@ -166,8 +168,21 @@ pub record IsServedSoundly {C : Type 0} (view : C → LinkView) {span : Span C} 
   pub rightly : Told span.given.folder.after.log (AreRightlyTaken keys history.rows history.origin history.entries)
   pub sessions : AllByRecursion (λ share. AllByRecursion (IsServedOut view) share.links) shares
 
--- of a run that served a vault, whatever became of its report
-abbrev pub HasServedSoundly : {D N C E : Type 0} (views : Views D N C E) (span : Span C) (ending : Ending) → HasReason views span ending → Type 0
+-- no count of faults of the folder or of a random source rose
+pub record HasNoFault {C : Type 0} (span : Span C) : Type 0 where
+  pub folder : Rose span.given.folder.before.faults span.given.folder.after.faults → ⊥
+  pub random : SomeRandomFailed span.workers → ⊥
+
+-- what a demonstration was given and left: its own vault, links and random sources
+abbrev pub held_span : {C : Type 0} (span : Span C) (text : List ℕ) → IsDemonstration span text → Span Ends
+held_span span text is = own_span is.demonstration is.held.secret is.held.folder is.held.kept is.held.workers_left is.closed
+
+-- a demonstration's vault was served soundly to its clients, if none of its own objects failed
+abbrev pub IsHeldSoundly : {C : Type 0} (span : Span C) (text : List ℕ) → IsDemonstration span text → Type 0
+IsHeldSoundly span text is = HasNoFault (held_span span text is) → IsServedSoundly own_views.link is.held.sessions.served.history
+
+-- of a run that served a vault, that of a demonstration among them, whatever became of its report
+abbrev pub HasServedSoundly : {D N C E K : Type 0} (views : Views D N C E K) (span : Span C) (ending : Ending) → HasReason views span ending → Type 0
 HasServedSoundly views span (refused cause) reason = ⊤
 HasServedSoundly views span usage_said reason = ⊤
 HasServedSoundly views span version_said reason = ⊤
@@ -177,4 +192,4 @@ HasServedSoundly views span (served ends) reason = IsServedSoundly views.link re
 HasServedSoundly views span (listener_fault ends) reason = ⊤
 HasServedSoundly views span (closing_fault ends) reason = ⊤
 HasServedSoundly views span (no_memory_to_report ends) reason = IsServedSoundly views.link reason.0.sessions.history
-HasServedSoundly views span (demonstrated text) reason = ⊤
+HasServedSoundly views span (demonstrated text) reason = IsHeldSoundly span text reason

@@ -4,8 +4,10 @@ use Rattle.outside.specs.Calls.{Changes, Told}
 use Rattle.outside.specs.Disk.{Disk, IsTree}
 use Rattle.outside.specs.Images.{Log, log_at, moment, now, IsImage, IsSound, LeavesOnly}
 use Rattle.outside.specs.Views.{FolderView}
-use Rattle.siv_mode.specs.Keys.{KeyPair}
-use Rattle.chunk_journal.specs.Opening.{IsOpenable}
+use Rattle.vault_keys.specs.Keys.{KeyPair}
+use Rattle.chunk_journal.specs.Journal.{IsTidy}
+use Rattle.chunk_journal.specs.Flushed.{IsFlushedWhole}
+use Rattle.chunk_journal.specs.Opening.{IsOpenable, StaysOpening}
 use Rattle.tree_model.specs.Rows.{Rows}
 use Rattle.tree_model.specs.History.{Entry, Origin}
 use Rattle.crash_laws.specs.Opening.{IsFoundAs, IsSoundlyFound, OpeningRecovers}
@@ -50,3 +52,19 @@ StoppedVaultsAreOpenable = (keys : KeyPair) (rows : Rows) (origin : Origin) (ent
 -- and so is a new vault's
 abbrev pub NewVaultsAreOpenable : Type 0
 NewVaultsAreOpenable = (password : List ℕ) (secrets : NewSecrets) (disk : Disk) → IsNewVault password secrets disk → IsOpenable disk
+
+-- ---- runs that were killed, on a host that lives on
+
+-- if what isn't on the disk is at loose paths, all is on it once these are flushed as they are read
+abbrev pub TidyLogsAreFlushed : Type 0
+TidyLogsAreFlushed = (log : Log) → IsTidy log → IsFlushedWhole log
+
+-- so it is at each moment of which something is said of a vault that was served
+abbrev pub KilledVaultsAreFlushed : Type 0
+KilledVaultsAreFlushed = (keys : KeyPair) (rows : Rows) (origin : Origin) (entries : List Entry) (before after : FolderView) (log : Log)
+    → HasStops keys rows origin entries before after → after.log ≡ Some log → (opened : ℕ) → IsSaidFrom before.log origin opened
+    → (m : ℕ) → opened ≤ m → m ≤ moment log → IsFlushedWhole (log_at log m)
+
+-- and from the first sync on, if the vault wasn't opened
+abbrev pub UnopenedVaultsAreFlushed : Type 0
+UnopenedVaultsAreFlushed = (old new : Log) → StaysOpening old new → IsSoundlyFound (now old) → (m : ℕ) → suc (moment old) ≤ m → m ≤ moment new → IsFlushedWhole (log_at new m)

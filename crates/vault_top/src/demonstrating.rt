@@ -1,6 +1,7 @@
 //! A demonstration: a vault in memory is served to clients that send their scripts.
 
 ghost use Rattle.std.specs.Prelude.{◌≡◌, ◌≤◌, ℕ, List, min, length, Some, IfOk, IfSome, vec_len};
+ghost use Rattle.outside.specs.Calls.{next_of};
 ghost use Rattle.outside.specs.Views.{folder_in};
 ghost use Rattle.masterkey_file.specs.Password.{line_of};
 ghost use Rattle.unlocking.specs.Secret.{raw_keys};
@@ -21,17 +22,15 @@ use demonstration::{client_listener, empty_vault, key_line, rows_left, summary, 
 use outside::{Clock, Entropy, Folder, Listener, Source};
 use outside_mem::{MemFolder, MemListener, MemSource, SeedEntropy, SetClock};
 use shared_tree::{Start, Worker};
-use siv_mode::VaultKeys;
 use std::alloc::{AllocError, Global};
 use std::marker::Brand;
 use std::sync::Wait;
 use std::thread::Threads;
 use tree_loading::load;
 use unlocking::{SecretKind, read_keys};
+use vault_keys::VaultKeys;
+use vault_layout::DEFAULT_THRESHOLD;
 use vault_store::ClosedStore;
-
-// The threshold of the vault. It decides nothing when a tree is loaded.
-const THRESHOLD: u32 = 220;
 
 /// The folder of a vault all of whose sessions were held, and its store, which was closed.
 #[derive(Drop)]
@@ -77,7 +76,7 @@ pub(crate) fn demonstrate<R: Threads + Wait + Sync>(
         folder,
         &mut workers,
         &mut secret,
-        &SetClock::new(0),
+        &mut SetClock::new(0),
     );
     match kept {
         Some(kept) => sum_up(alloc, scripts, &keys, kept),
@@ -100,7 +99,7 @@ fn keys_in(alloc: Global, line: &[u8]) -> Result<VaultKeys, AllocError>
 fn workers_of(
     alloc: Global,
     scripts: Scripts,
-) -> Result<Vec<Worker<MemListener, SeedEntropy>>, AllocError>
+) -> Result<Vec<Worker<MemListener, SeedEntropy, SetClock>>, AllocError>
     requires { scripts.clients ≤ 64 }
     ensures { IfOk result (λ workers. workers.items ≡ workers_of scripts.seed scripts.clients scripts.requests) }
 {
@@ -108,7 +107,12 @@ fn workers_of(
     for client in 0..scripts.clients {
         let listener = client_listener(alloc, scripts.seed, client, scripts.requests)?;
         let entropy = worker_entropy(alloc, scripts.seed, client);
-        workers.push(Worker { listener, entropy })?;
+        let clock = SetClock::new(0);
+        workers.push(Worker {
+            listener,
+            entropy,
+            clock,
+        })?;
     }
     Ok(workers)
 }
@@ -122,34 +126,34 @@ fn hold_sessions<
     N: Listener + Send,
     E: Entropy + Send,
     S: Source,
-    K: Clock + Sync,
+    K: Clock + Send,
 >(
     rt: &R,
     alloc: Global,
     service: Service,
     folder: D,
-    workers: &mut Vec<Worker<N, E>>,
+    workers: &mut Vec<Worker<N, E, K>>,
     secret: &mut S,
-    clock: &K,
+    clock: &mut K,
 ) -> Option<Kept<D>>
 where
     N::Conn: Send,
     requires some { 1 ≤ vec_len workers.old }
     requires start { AreBeginnings B.is
-        (views_of D.Reads N.Listener N.Conn.Link E.Entropy)
+        (views_of D.Reads N.Listener N.Conn.Link E.Entropy K.Clock)
         folder workers.old.items }
     requires since { IsAlone B.since service.kind (folder_in D.Reads folder)
-        (source_in S.Source secret.old) (K.second clock.now) }
+        (source_in S.Source secret.old) (next_of (K.to_give clock.old)) }
     ensures whole { IfSome result (λ kept. (words : List (List ℕ)) → IsServedWhole
-        (views_of D.Reads N.Listener N.Conn.Link E.Entropy)
-        (span_of (views_of D.Reads N.Listener N.Conn.Link E.Entropy)
-        words (course (source_in S.Source) secret.old secret.new) (K.second clock.now)
+        (views_of D.Reads N.Listener N.Conn.Link E.Entropy K.Clock)
+        (span_of (views_of D.Reads N.Listener N.Conn.Link E.Entropy K.Clock)
+        words (course (source_in S.Source) secret.old secret.new) (next_of (K.to_give clock.old))
         folder kept.folder workers.old.items workers.new.items (Some kept.store))
         service.kind service.sessions (min service.at_once (length workers.old.items)) kept.store.store.entries) }
 {
     match open_vault(alloc, service.kind, folder, secret, clock) {
         Ok(store) => kept_of(
-            serve_workers::<R, D, B, N, E, K>(rt, alloc, store, service, workers, clock),
+            serve_workers::<R, D, B, N, E, K>(rt, alloc, store, service, workers),
             service.sessions,
         ),
         Err(_) => None,
@@ -189,7 +193,7 @@ fn sum_up(
     ensures { IfOk result (SumsUpKept scripts keys.now kept) }
 {
     let Kept { mut folder, store } = kept;
-    let Ok(tree) = load(alloc, &mut folder, keys, THRESHOLD) else {
+    let Ok(tree) = load(alloc, &mut folder, keys, DEFAULT_THRESHOLD) else {
         return Err(AllocError);
     };
     let Ok(rows) = rows_left(alloc, &mut folder, keys, &tree) else {

@@ -35,10 +35,11 @@ mod vault;
 
 pub use cause::Cause;
 pub use laws::{
-    a_demonstration_is_held, a_new_vault_is_its_root, a_sound_run_answers_as_the_step,
-    a_sound_run_ends_with_0_or_5, a_sound_vault_is_served, a_stopped_vault_is_soundly_found,
-    an_empty_folder_becomes_a_vault, no_stop_damages_a_journal, refused_words_are_bad,
+    a_demonstration_answers_as_the_step, a_demonstration_is_held, a_new_vault_is_its_root,
+    a_sound_run_answers_as_the_step, a_sound_run_ends_with_0_or_5, a_sound_vault_is_served,
+    a_stopped_vault_is_soundly_found, an_empty_folder_becomes_a_vault, no_stop_damages_a_journal,
+    refused_words_are_bad,
 };
 pub use line::Line;
-pub use program::{Ended, run};
+pub use program::{Ended, report_no_socket, run};
 pub use shared_tree::Worker;

@@ -1,6 +1,7 @@
 //! What comes before serving: the secret, the key files and the vault's tree.
 
 ghost use Rattle.std.specs.Prelude.{◌≡◌, IfOk, IfErr};
+ghost use Rattle.outside.specs.Calls.{next_of};
 ghost use Rattle.outside.specs.Views.{folder_in};
 ghost use Rattle.vault_top.specs.Span.{course, source_in, given_of};
 ghost use Rattle.vault_top.specs.Opening.{IsUnlockedStore, IsUnopened, of_opening};
@@ -11,19 +12,19 @@ use std::alloc::Global;
 use unlocking::{SecretKind, unlock};
 use vault_store::{OpenErr, Store};
 
-/// Unlocks the vault in a folder by the secret, and opens it.
+/// Unlocks the vault in a folder by the secret, and opens it at the clock's next second.
 pub(crate) fn open_vault<D: Folder, S: Source, K: Clock>(
     alloc: Global,
     kind: SecretKind,
     mut folder: D,
     secret: &mut S,
-    clock: &K,
+    clock: &mut K,
 ) -> Result<Store<D>, Refused<D, Cause>>
     ensures opened { IfOk result (λ store. IsUnlockedStore (folder_in D.Reads)
-        (given_of (folder_in D.Reads) (course (source_in S.Source) secret.old secret.new) (K.second clock.now) folder folder)
+        (given_of (folder_in D.Reads) (course (source_in S.Source) secret.old secret.new) (next_of (K.to_give clock.old)) folder folder)
         kind folder store) }
     ensures unopened { IfErr result (λ refused. IsUnopened
-        (given_of (folder_in D.Reads) (course (source_in S.Source) secret.old secret.new) (K.second clock.now) folder refused.folder)
+        (given_of (folder_in D.Reads) (course (source_in S.Source) secret.old secret.new) (next_of (K.to_give clock.old)) folder refused.folder)
         kind refused.cause) }
 {
     let unlocked = match unlock(alloc, kind, &mut folder, secret) {

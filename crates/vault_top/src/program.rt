@@ -1,12 +1,12 @@
 ghost use Rattle.std.specs.Prelude.{◌≡◌, ℕ, ◌<◌, ◌≤◌, ◌∷◌, ◌++◌, [], List, Option, Some, OnOk, OnErr, IsErr, vec_len, vec_capacity};
-ghost use Rattle.outside.specs.Calls.{HasCause, Changes};
+ghost use Rattle.outside.specs.Calls.{HasCause, Changes, next_of};
 ghost use Rattle.session_server.specs.declared.ending.SessionEnd.{SessionEnd};
 ghost use Rattle.vault_words.specs.Jobs.{Serving, Demonstration, serve, make};
 ghost use Rattle.vault_top.specs.Words.{Ask, words_of};
 ghost use Rattle.vault_top.specs.Tasks.{AreScriptsOf, IsServiceOf};
 ghost use Rattle.vault_top.specs.Span.{course, source_in, sink_in, views_of};
 ghost use Rattle.vault_top.specs.Report.{TakesPart};
-ghost use Rattle.vault_top.specs.Ending.{HasRun, serving};
+ghost use Rattle.vault_top.specs.Ending.{HasRun, SaysNoSocket, serving};
 ghost use Rattle.vault_top.specs.Sharing.{AreBeginnings, IsAlone, IsSharedStore};
 ghost use Rattle.vault_top.specs.Serving.{HasServedVault, HasDemonstrated, AreCounted, HasLastLine};
 ghost use Rattle.outside.specs.Views.{folder_in};
@@ -79,7 +79,8 @@ pub struct Ended<D> {
 ///
 /// If writing the report failed, a prefix of it was written, and a status of 0 or 7 becomes 4.
 ///
-/// `rt` starts the workers' threads, and `gate` is passed by no session.
+/// The vault is unlocked at the second that `clock` gives next, and each worker's own clock gives the seconds of what its sessions ask, one for
+/// each message. `rt` starts the workers' threads, and `gate` is passed by no session.
 pub fn run<
     R: Threads + Wait + Sync,
     D: Folder + Send,
@@ -87,17 +88,17 @@ pub fn run<
     E: Entropy + Send,
     S: Source,
     O: Sink,
-    K: Clock + Sync,
+    K: Clock + Send,
     G: Gate,
 >(
     rt: &R,
     alloc: Global,
     words: &[String],
     folder: D,
-    workers: &mut Vec<Worker<N, E>>,
+    workers: &mut Vec<Worker<N, E, K>>,
     secret: &mut S,
     out: &mut O,
-    clock: &K,
+    clock: &mut K,
     gate: &G,
 ) -> Ended<D>
 where
@@ -105,8 +106,8 @@ where
     requires { (1 ≤ vec_len workers.old) × (vec_len workers.old ≤ 64) }
     // The program has one ending, which has its reason; its status and its report are that ending's.
     ensures run { HasRun
-        (views_of D.Reads N.Listener N.Conn.Link E.Entropy)
-        (words_of words.now) (course (source_in S.Source) secret.old secret.new) (K.second clock.now)
+        (views_of D.Reads N.Listener N.Conn.Link E.Entropy K.Clock)
+        (words_of words.now) (course (source_in S.Source) secret.old secret.new) (next_of (K.to_give clock.old))
         folder workers.old.items workers.new.items (course (sink_in O.Sink) out.old out.new) result }
 {
     let _ = gate;
@@ -139,6 +140,14 @@ where
     }
 }
 
+/// Reports that no client can connect, as the socket for them isn't bound, and returns the program's status: 7, or 4 if the sink failed. For whoever finds
+/// that before a run.
+pub fn report_no_socket<O: Sink>(out: &mut O) -> u8
+    ensures { SaysNoSocket (course (sink_in O.Sink) out.old out.new) result }
+{
+    report(out, b"listener fault\n", 7, CUT_STATUS)
+}
+
 // Serves the vault that the secret unlocks. B says from where the history of all sessions may begin, how the folder was then, and which keys
 // are unlocked.
 fn serve<
@@ -149,34 +158,32 @@ fn serve<
     E: Entropy + Send,
     S: Source,
     O: Sink,
-    K: Clock + Sync,
+    K: Clock + Send,
 >(
     rt: &R,
     alloc: Global,
     service: Service,
     folder: D,
-    workers: &mut Vec<Worker<N, E>>,
+    workers: &mut Vec<Worker<N, E, K>>,
     secret: &mut S,
     out: &mut O,
-    clock: &K,
+    clock: &mut K,
 ) -> Ended<D>
 where
     N::Conn: Send,
     requires some { 1 ≤ vec_len workers.old }
     requires start { AreBeginnings B.is
-        (views_of D.Reads N.Listener N.Conn.Link E.Entropy)
+        (views_of D.Reads N.Listener N.Conn.Link E.Entropy K.Clock)
         folder workers.old.items }
     requires since { IsAlone B.since service.kind (folder_in D.Reads folder)
-        (source_in S.Source secret.old) (K.second clock.now) }
+        (source_in S.Source secret.old) (next_of (K.to_give clock.old)) }
     ensures { (words : List (List ℕ)) (serving : Serving) → Ask words (serve serving) → IsServiceOf serving service → HasRun
-        (views_of D.Reads N.Listener N.Conn.Link E.Entropy)
-        words (course (source_in S.Source) secret.old secret.new) (K.second clock.now)
+        (views_of D.Reads N.Listener N.Conn.Link E.Entropy K.Clock)
+        words (course (source_in S.Source) secret.old secret.new) (next_of (K.to_give clock.old))
         folder workers.old.items workers.new.items (course (sink_in O.Sink) out.old out.new) result }
 {
     match open_vault(alloc, service.kind, folder, secret, clock) {
-        Ok(store) => serve_vault::<R, D, B, N, E, O, K>(
-            rt, alloc, store, service, workers, out, clock,
-        ),
+        Ok(store) => serve_vault::<R, D, B, N, E, O, K>(rt, alloc, store, service, workers, out),
         Err(Refused { folder, cause }) => Ended {
             status: refuse(out, &cause),
             folder: Some(folder),
@@ -186,25 +193,33 @@ where
 }
 
 // Makes a vault under the secret's password, of what the first worker's random source gives.
-fn make<D: Folder, N: Listener, E: Entropy, S: Source, O: Sink>(
+fn make<D: Folder, N: Listener, E: Entropy, S: Source, O: Sink, K: Clock>(
     alloc: Global,
     mut folder: D,
-    workers: &mut Vec<Worker<N, E>>,
+    workers: &mut Vec<Worker<N, E, K>>,
     secret: &mut S,
     out: &mut O,
 ) -> Ended<D>
     requires { 1 ≤ vec_len workers.old }
     ensures { (words : List (List ℕ)) (dir : List ℕ) (second : Option ℕ) → Ask words (make dir) → HasRun
-        (views_of D.Reads N.Listener N.Conn.Link E.Entropy)
+        (views_of D.Reads N.Listener N.Conn.Link E.Entropy K.Clock)
         words (course (source_in S.Source) secret.old secret.new) second
         folder workers.old.items workers.new.items (course (sink_in O.Sink) out.old out.new) result }
 {
     let Worker {
         listener,
         mut entropy,
+        clock,
     } = workers.remove(0);
     let made = make_vault(alloc, &mut folder, &mut entropy, secret);
-    put_back(workers, Worker { listener, entropy });
+    put_back(
+        workers,
+        Worker {
+            listener,
+            entropy,
+            clock,
+        },
+    );
     let status = match made {
         Ok(()) => report(out, b"made\n", 0, CUT_STATUS),
         Err(cause) => refuse(out, &cause),
@@ -225,15 +240,14 @@ fn serve_vault<
     N: Listener + Send,
     E: Entropy + Send,
     O: Sink,
-    K: Clock + Sync,
+    K: Clock + Send,
 >(
     rt: &R,
     alloc: Global,
     store: Store<D>,
     service: Service,
-    workers: &mut Vec<Worker<N, E>>,
+    workers: &mut Vec<Worker<N, E, K>>,
     out: &mut O,
-    clock: &K,
 ) -> Ended<D>
 where
     N::Conn: Send,
@@ -241,11 +255,11 @@ where
     requires right { StandsFor B.is (λ s rows origin history. IsSharedStore (folder_in D.Reads) B.since s rows origin history) store [] }
     requires since { (rows : Rows) (origin : Origin) → B.is rows origin → AreSince E.faults origin 0 workers.old.items }
     ensures served { HasServedVault B.is B.since
-        (views_of D.Reads N.Listener N.Conn.Link E.Entropy)
-        (K.second clock.now) service workers.old.items workers.new.items (course (sink_in O.Sink) out.old out.new) result }
+        (views_of D.Reads N.Listener N.Conn.Link E.Entropy K.Clock)
+        service workers.old.items workers.new.items (course (sink_in O.Sink) out.old out.new) result }
 {
     let serving = announce(out);
-    let served = serve_workers::<R, D, B, N, E, K>(rt, alloc, store, service, workers, clock);
+    let served = serve_workers::<R, D, B, N, E, K>(rt, alloc, store, service, workers);
     let status = match serving {
         Ok(()) => report_outcome(alloc, out, served.outcome),
         Err(_) => served.outcome.unreported(),
@@ -294,7 +308,7 @@ fn report_demonstration<R: Threads + Wait + Sync, D, O: Sink>(
 }
 
 // Puts a worker back to the front of the others, from where it was taken.
-fn put_back<N, E>(workers: &mut Vec<Worker<N, E>>, worker: Worker<N, E>)
+fn put_back<N, E, K>(workers: &mut Vec<Worker<N, E, K>>, worker: Worker<N, E, K>)
     requires { vec_len workers.old < vec_capacity workers.old }
     ensures { workers.new.items ≡ worker ∷ workers.old.items }
 {

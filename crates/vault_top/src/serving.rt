@@ -61,14 +61,13 @@ pub(crate) fn serve_workers<
     B: Start + Since + Send + Sync,
     N: Listener + Send,
     E: Entropy + Send,
-    K: Clock + Sync,
+    K: Clock + Send,
 >(
     rt: &R,
     alloc: Global,
     store: Store<D>,
     service: Service,
-    workers: &mut Vec<Worker<N, E>>,
-    clock: &K,
+    workers: &mut Vec<Worker<N, E, K>>,
 ) -> HandedBack<D>
 where
     N::Conn: Send,
@@ -76,8 +75,8 @@ where
     requires right { StandsFor B.is (λ s rows origin history. IsSharedStore (folder_in D.Reads) B.since s rows origin history) store [] }
     requires since { (rows : Rows) (origin : Origin) → B.is rows origin → AreSince E.faults origin 0 workers.old.items }
     ensures served { (ends : List ends.SessionEnd) × HasServed B.is B.since
-        (views_of D.Reads N.Listener N.Conn.Link E.Entropy)
-        (K.second clock.now) service workers.old.items workers.new.items ends result }
+        (views_of D.Reads N.Listener N.Conn.Link E.Entropy K.Clock)
+        service workers.old.items workers.new.items ends result }
 {
     let vault = SharedVault::<D, B>::new(store);
     let at_once = sharers(service.at_once, workers.len());
@@ -88,7 +87,6 @@ where
         service.sessions,
         at_once,
         workers,
-        clock,
     ) {
         Ok(Served { tree, counts }) => {
             let (folder, closed) = tree.into_store().close();

@@ -10,7 +10,7 @@ use vault_store::Store;
 /// that each call of a function picks in its proof.
 pub(crate) trait Since {
     ghost use Rattle.outside.specs.Views.{FolderView};
-    ghost use Rattle.siv_mode.specs.Keys.{KeyPair};
+    ghost use Rattle.vault_keys.specs.Keys.{KeyPair};
     ghost use Rattle.tree_model.specs.Rows.{Rows};
 
     ghost since: { FolderView → KeyPair → Rows → Type 0 };

@@ -3,9 +3,18 @@
 ghost use Rattle.std.specs.Prelude.{◌≡◌, List};
 ghost use Rattle.clap.specs.Words.{Text};
 ghost use Rattle.vault_words.specs.Jobs.{AsksFor, IsRefused, Job};
+ghost use Rattle.vault_words.specs.Texts.{usage, version};
+
+use crate::job::{USAGE, VERSION};
 
 /// Words ask for one thing: a job, help, the version, or they are refused. It does nothing.
 pub fn words_ask_for_one_thing()
     ensures one { (words : List Text) (job other : Job) → AsksFor job words → AsksFor other words → job ≡ other }
     ensures taken { (words : List Text) (job : Job) → AsksFor job words → IsRefused words → ⊥ }
+{}
+
+/// The texts of the code are those of the definitions. It does nothing.
+pub fn texts_are_the_definitions()
+    ensures usage { USAGE.now ≡ usage }
+    ensures version { VERSION.now ≡ version }
 {}

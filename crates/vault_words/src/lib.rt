@@ -17,5 +17,5 @@ mod number;
 mod starting;
 
 pub use job::{Job, Places, USAGE, VERSION, WordsErr, read_words};
-pub use laws::words_ask_for_one_thing;
+pub use laws::{texts_are_the_definitions, words_ask_for_one_thing};
 pub use starting::places;

@@ -4,24 +4,26 @@ ghost use Rattle.std.specs.Prelude.{◌≡◌, ◌≤◌, drop, IfOk, vec_len};
 ghost use Rattle.std.specs.List.{AllByRecursion};
 ghost use Rattle.outside_real.specs.Behind.{base_of};
 ghost use Rattle.host_links.specs.declared.stream.NullSink.{NullSink};
+ghost use Rattle.host_links.specs.Behind.{socket_of};
 ghost use Rattle.vault_top.specs.Words.{words_of};
 ghost use Rattle.vault_top.specs.Span.{sink_in, views_of};
-ghost use Rattle.vaultd.specs.Starting.{HasLink, IsSound, IsRunOf, IsStarted};
+ghost use Rattle.vaultd.specs.Starting.{HasLink, IsListening, IsOverStreams, IsRunAtAddress, IsRunAtSocket, IsRunOf, IsStarted};
 
 use host_links::{
-    HostLink, HostListen, NullSink, Output, Socket, SocketLink, SocketListen, StdSink, StdSource,
+    HostLink, HostListen, NullSink, SocketLink, SocketListen, StdSink, StdSource, address_named,
+    host_at_port_0,
 };
-use outside::{Entropy, Gate, Link, Listener, Reads, Sink, Stage};
+use host_sockets::{Output, Socket};
+use outside::{Clock, Entropy, Gate, Link, Listener, Reads, Sink, Stage};
 use outside_real::{HostClock, HostFolder, OsEntropy};
 use std::alloc::AllocError;
-use std::fs;
 use std::io::Input;
 use std::net::{Net, TcpListener, TcpStream};
-use std::rt::{Clock, Files};
+use std::rt::{Clock as SystemClock, Files};
 use std::sync::Wait;
 use std::thread::Threads;
-use vault_top::{Worker, run};
-use vault_words::places;
+use vault_top::{Worker, report_no_socket, run};
+use vault_words::{Places, places};
 
 // Nobody waits at this gate.
 struct OpenGate;
@@ -30,21 +32,29 @@ impl Gate for OpenGate {
     fn pass(&self, _stage: Stage) {}
 }
 
+/// How the program ended that was started: its exit status, and the file of a Unix socket that it removed.
+#[derive(Drop)]
+pub struct Started {
+    pub status: u8,
+    pub removed: Option<String>,
+}
+
 // So many workers, each with a listener at a socket.
-fn workers_at<'a, 's, R: Clock + Files + AllocGlobal>(
+fn workers_at<'a, 's, R: SystemClock + Files + AllocGlobal>(
     rt: &'a R,
     socket: &'s Socket,
     count: u64,
-) -> Result<Vec<Worker<SocketListen<'s, &'a R>, OsEntropy<&'a R>>>, AllocError>
+) -> Result<Vec<Worker<SocketListen<'s, &'a R>, OsEntropy<&'a R>, HostClock<&'a R>>>, AllocError>
     requires { (1 ≤ count) × (count ≤ 64) }
     ensures count { IfOk result (λ workers. vec_len workers ≡ count) }
-    ensures sound { IfOk result (λ workers. AllByRecursion (λ worker. IsSound ⟦<SocketListen<'s, &'a R> as Listener>⟧.faults worker.listener) workers.items) }
+    ensures listening { IfOk result (λ workers. AllByRecursion (λ worker. IsListening ⟦<SocketListen<'s, &'a R> as Listener>⟧.faults socket_of socket.now worker.listener) workers.items) }
 {
     let mut workers = Vec::new(rt.alloc());
     for _ in 0..count {
         workers.push(Worker {
             listener: SocketListen::new(rt, socket),
             entropy: OsEntropy::new(rt),
+            clock: HostClock::new(rt),
         })?;
     }
     Ok(workers)
@@ -53,22 +63,23 @@ fn workers_at<'a, 's, R: Clock + Files + AllocGlobal>(
 // Makes the objects of the outside over the folder at a path and the standard streams, and runs the job that these words are.
 fn serve_streams<
     'a,
-    R: Clock + Files + Input + Print + Threads + Wait + Sync + AllocGlobal,
+    R: SystemClock + Files + Input + Print + Threads + Wait + Sync + AllocGlobal,
     O: Sink,
->(rt: &'a R, words: &[String], path: &str, out: &mut O) -> Result<u8, AllocError>
+>(rt: &'a R, words: &[String], path: &str, out: &mut O) -> Result<Started, AllocError>
 where
     R::Reader: Send,
     R::File: Send,
     R::Dir: Send,
-    ensures { IfOk result (IsRunOf
-        (views_of ⟦<HostFolder<&'a R> as Reads>⟧ ⟦<HostListen<&'a R> as Listener>⟧ ⟦<HostLink<&'a R> as Link>⟧ ⟦<OsEntropy<&'a R> as Entropy>⟧)
-        base_of HasLink (sink_in O.Sink) (words_of words.now) path.now 1) }
+    ensures { IfOk result (IsOverStreams
+        (views_of ⟦<HostFolder<&'a R> as Reads>⟧ ⟦<HostListen<&'a R> as Listener>⟧ ⟦<HostLink<&'a R> as Link>⟧ ⟦<OsEntropy<&'a R> as Entropy>⟧ ⟦<HostClock<&'a R> as Clock>⟧)
+        base_of HasLink (sink_in O.Sink) (words_of words.now) path.now) }
 {
     let folder = HostFolder::new(rt, rt.alloc(), path)?;
     let mut workers = Vec::new(rt.alloc());
     workers.push(Worker {
         listener: HostListen::new(rt),
         entropy: OsEntropy::new(rt),
+        clock: HostClock::new(rt),
     })?;
     let ended = run(
         rt,
@@ -78,17 +89,20 @@ where
         &mut workers,
         &mut StdSource::new(rt),
         out,
-        &HostClock::new(rt),
+        &mut HostClock::new(rt),
         &OpenGate,
     );
-    Ok(ended.status)
+    Ok(Started {
+        status: ended.status,
+        removed: None,
+    })
 }
 
 // Like `serve_streams`, for a socket and `at_once` clients.
 fn serve_socket<
     'a,
     's,
-    R: Clock + Files + Input + Print + Threads + Wait + Sync + AllocGlobal,
+    R: SystemClock + Files + Input + Print + Threads + Wait + Sync + AllocGlobal,
     O: Sink,
 >(
     rt: &'a R,
@@ -104,8 +118,8 @@ where
     R::Dir: Send,
     requires { (1 ≤ at_once) × (at_once ≤ 64) }
     ensures { IfOk result (IsRunOf
-        (views_of ⟦<HostFolder<&'a R> as Reads>⟧ ⟦<SocketListen<'s, &'a R> as Listener>⟧ ⟦<SocketLink as Link>⟧ ⟦<OsEntropy<&'a R> as Entropy>⟧)
-        base_of (IsSound ⟦<SocketListen<'s, &'a R> as Listener>⟧.faults) (sink_in O.Sink) (words_of words.now) path.now at_once) }
+        (views_of ⟦<HostFolder<&'a R> as Reads>⟧ ⟦<SocketListen<'s, &'a R> as Listener>⟧ ⟦<SocketLink as Link>⟧ ⟦<OsEntropy<&'a R> as Entropy>⟧ ⟦<HostClock<&'a R> as Clock>⟧)
+        base_of (IsListening ⟦<SocketListen<'s, &'a R> as Listener>⟧.faults socket_of socket.now) (sink_in O.Sink) (words_of words.now) path.now at_once) }
 {
     let folder = HostFolder::new(rt, rt.alloc(), path)?;
     let mut workers = workers_at(rt, socket, at_once)?;
@@ -117,7 +131,7 @@ where
         &mut workers,
         &mut StdSource::new(rt),
         out,
-        &HostClock::new(rt),
+        &mut HostClock::new(rt),
         &OpenGate,
     );
     Ok(ended.status)
@@ -130,38 +144,18 @@ fn behind_name(args: &[String]) -> &[String]
     &args[args.len().min(1)..]
 }
 
-// The socket at an address: `unix:` and a path where nothing is, or a socket that nobody listens at, or HOST:PORT.
-fn socket_at<R: Files + Net<Listener = TcpListener, Stream = TcpStream>>(
-    rt: &R,
-    address: &str,
-) -> Socket {
-    match address.strip_prefix("unix:") {
-        Some(path) => Socket::unix(rt, path),
-        None => Socket::tcp(rt, address),
-    }
-}
-
 // Says on standard error at which port a socket listens that was asked for at port 0: the report has no place for it, and a client has to know.
 fn tell_port<R: Eprint>(rt: &R, address: &str, socket: &Socket) {
-    if let (Some(host), Some(port)) = (address.strip_suffix(":0"), socket.port()) {
+    if let (Some(host), Some(port)) = (host_at_port_0(address), socket.port()) {
         // if standard error is closed it is lost
         let _ = eprintln!(rt; "listening at {host}:{port}");
     }
 }
 
-// Removes the file of a Unix socket that was bound.
-fn remove_socket<R: Files>(rt: &R, address: &str, socket: &Socket) {
-    if let Some(path) = address.strip_prefix("unix:") {
-        if socket.is_bound() {
-            let _ = fs::remove_file(rt, path);
-        }
-    }
-}
-
-/// Runs the job that the words after the program's name are. If standard output is the client's, nothing is reported.
-pub fn start<
+// Serves at a socket, which is closed then; if it isn't bound, that alone is reported.
+fn serve_if_bound<
     'a,
-    R: Clock
+    R: SystemClock
         + Files
         + Input
         + Print
@@ -171,15 +165,92 @@ pub fn start<
         + Sync
         + AllocGlobal
         + Net<Listener = TcpListener, Stream = TcpStream>,
->(rt: &'a R, args: &[String]) -> Result<u8, AllocError>
+    O: Sink,
+>(
+    rt: &'a R,
+    words: &[String],
+    places: &Places<'_>,
+    socket: Socket,
+    out: &mut O,
+) -> Result<Started, AllocError>
+where
+    R::Reader: Send,
+    R::File: Send,
+    R::Dir: Send,
+    ensures { IfOk result (IsRunAtSocket
+        (views_of ⟦<HostFolder<&'a R> as Reads>⟧ ⟦<SocketListen<'static, &'a R> as Listener>⟧ ⟦<SocketLink as Link>⟧ ⟦<OsEntropy<&'a R> as Entropy>⟧ ⟦<HostClock<&'a R> as Clock>⟧)
+        base_of (IsListening ⟦<SocketListen<'static, &'a R> as Listener>⟧.faults socket_of) (sink_in O.Sink) (words_of words.now) places.now.dir.now places.now.at_once socket) }
+{
+    if !socket.is_bound() {
+        return Ok(Started {
+            status: report_no_socket(out),
+            removed: None,
+        });
+    }
+    tell_port(rt, places.address, &socket);
+    let at_once = places.at_once.clamp(1, 64);
+    match serve_socket(rt, words, places.dir, &socket, at_once, out) {
+        Ok(status) => {
+            let removed = socket.close(rt);
+            Ok(Started { status, removed })
+        }
+        Err(error) => {
+            let _ = socket.close(rt);
+            Err(error)
+        }
+    }
+}
+
+// Serves at the address that the words name.
+fn serve_at<
+    'a,
+    R: SystemClock
+        + Files
+        + Input
+        + Print
+        + Eprint
+        + Threads
+        + Wait
+        + Sync
+        + AllocGlobal
+        + Net<Listener = TcpListener, Stream = TcpStream>,
+    O: Sink,
+>(rt: &'a R, words: &[String], places: &Places<'_>, out: &mut O) -> Result<Started, AllocError>
+where
+    R::Reader: Send,
+    R::File: Send,
+    R::Dir: Send,
+    ensures { IfOk result (IsRunAtAddress
+        (views_of ⟦<HostFolder<&'a R> as Reads>⟧ ⟦<SocketListen<'static, &'a R> as Listener>⟧ ⟦<SocketLink as Link>⟧ ⟦<OsEntropy<&'a R> as Entropy>⟧ ⟦<HostClock<&'a R> as Clock>⟧)
+        base_of (IsListening ⟦<SocketListen<'static, &'a R> as Listener>⟧.faults socket_of) (sink_in O.Sink) (words_of words.now) places.now.dir.now places.now.address.now places.now.at_once) }
+{
+    let address = address_named(rt.alloc(), places.address)?;
+    let socket = Socket::bind(rt, address);
+    serve_if_bound(rt, words, places, socket, out)
+}
+
+/// Runs the job that the words after the program's name are. If standard output is the client's, nothing is reported.
+pub fn start<
+    'a,
+    R: SystemClock
+        + Files
+        + Input
+        + Print
+        + Eprint
+        + Threads
+        + Wait
+        + Sync
+        + AllocGlobal
+        + Net<Listener = TcpListener, Stream = TcpStream>,
+>(rt: &'a R, args: &[String]) -> Result<Started, AllocError>
 where
     R::Reader: Send,
     R::File: Send,
     R::Dir: Send,
     ensures { IfOk result (IsStarted
-        (views_of ⟦<HostFolder<&'a R> as Reads>⟧ ⟦<HostListen<&'a R> as Listener>⟧ ⟦<HostLink<&'a R> as Link>⟧ ⟦<OsEntropy<&'a R> as Entropy>⟧)
-        (views_of ⟦<HostFolder<&'a R> as Reads>⟧ ⟦<SocketListen<'static, &'a R> as Listener>⟧ ⟦<SocketLink as Link>⟧ ⟦<OsEntropy<&'a R> as Entropy>⟧)
-        base_of HasLink (IsSound ⟦<SocketListen<'static, &'a R> as Listener>⟧.faults) (sink_in ⟦<NullSink as Sink>⟧)
+        (views_of ⟦<HostFolder<&'a R> as Reads>⟧ ⟦<HostListen<&'a R> as Listener>⟧ ⟦<HostLink<&'a R> as Link>⟧ ⟦<OsEntropy<&'a R> as Entropy>⟧ ⟦<HostClock<&'a R> as Clock>⟧)
+        (views_of ⟦<HostFolder<&'a R> as Reads>⟧ ⟦<SocketListen<'static, &'a R> as Listener>⟧ ⟦<SocketLink as Link>⟧ ⟦<OsEntropy<&'a R> as Entropy>⟧ ⟦<HostClock<&'a R> as Clock>⟧)
+        base_of HasLink (IsListening ⟦<SocketListen<'static, &'a R> as Listener>⟧.faults socket_of) (sink_in ⟦<NullSink as Sink>⟧)
         (sink_in ⟦<StdSink<Output<&'a R>> as Sink>⟧)
         (words_of (drop 1 args.now))) }
 {
@@ -190,18 +261,6 @@ where
     } else if places.address == "" {
         serve_streams(rt, words, places.dir, &mut StdSink::new(rt))
     } else {
-        let socket = socket_at(rt, places.address);
-        tell_port(rt, places.address, &socket);
-        let at_once = places.at_once.clamp(1, 64);
-        let status = serve_socket(
-            rt,
-            words,
-            places.dir,
-            &socket,
-            at_once,
-            &mut StdSink::new(rt),
-        );
-        remove_socket(rt, places.address, &socket);
-        status
+        serve_at(rt, words, &places, &mut StdSink::new(rt))
     }
 }

@@ -26,7 +26,7 @@ some_put path size before first bytes old some =
     let parts = first_piece bytes some in
     ap (λ (l : List (List ℕ)). puts_or_cut path size before first l old) parts ∙ sym (ap (λ (l : List (List ℕ)). chunks_in path size before first l old) parts)
 
-module _ (path : Path) (size first before : ℕ) (bytes : List ℕ) (old : List PlainDeed) (left : List ℕ) (count reached : ℕ) (deeds : List PlainDeed)
+module _ {path : Path} {size first before : ℕ} {bytes : List ℕ} {old : List PlainDeed} {left : List ℕ} {count reached : ℕ} {deeds : List PlainDeed}
     (so_far : IsBehindSoFar path size first before bytes old left count reached deeds) where
   -- all of them, once nothing is left
   pub all_behind : length left ≡ 0 → 0 < length bytes → deeds ≡ puts_or_cut path size before first (chunks_of 32796 bytes) old

@@ -12,6 +12,7 @@ use Rattle.pending_files.specs.Laid.{laid, CanWait, outline, LookAlike}
 use Rattle.pending_files.proofs.Laying.{same_kinds}
 use Rattle.chunk_journal.specs.Journal.{IsQuiet, IsAlike, IsBeforeOrAfter, AnyMoment, HasCommitted}
 use Rattle.chunk_journal.proofs.Gate.{shut_reopens}
+use Rattle.chunk_journal.proofs.Tidy.{steady_tidy}
 
 -- ---- a flush
 
@@ -27,14 +28,17 @@ same_alike : (a b : Disk) → b ≡ a → IsAlike a b
 same_alike a b same = λ q journal beside. ap (λ (d : Disk). node_at d q) same
 
 quiet_moment : (l : Log) → IsQuiet l → AnyMoment [] l l
-quiet_moment l quiet = λ after does. record {
-  start = refl;
-  later = ([], refl);
-  each = λ m from to image is.
-      let none : length l.calls - m ≡ 0 = omega arith in
-      let here : IsImage l image = subst (λ (n : ℕ). IsImage (record { start = l.start; calls = drop n l.calls }) image) none is in
-      let same : image ≡ now l = quiet.steady.durable image here in
-      subst (IsBeforeOrAfter (now l) after) (sym same) (now l, inl (quiet.closed, refl), inl (same_alike (now l) (now l) refl), shut_reopens (now l) quiet.closed quiet.no_folder);
+quiet_moment l quiet = record {
+  recovers = λ after does. record {
+    start = refl;
+    later = ([], refl);
+    each = λ m from to image is.
+        let none : length l.calls - m ≡ 0 = omega arith in
+        let here : IsImage l image = subst (λ (n : ℕ). IsImage (record { start = l.start; calls = drop n l.calls }) image) none is in
+        let same : image ≡ now l = quiet.steady.durable image here in
+        subst (IsBeforeOrAfter (now l) after) (sym same) (now l, inl (quiet.closed, refl), inl (same_alike (now l) (now l) refl), shut_reopens (now l) quiet.closed quiet.no_folder);
+  };
+  tidy = steady_tidy l quiet.steady;
 }
 
 pub nothing_moved : (log : Option Log) (ds : List PlainDeed) → ds ≡ [] → Told log IsQuiet → Changes log log (AnyMoment ds)

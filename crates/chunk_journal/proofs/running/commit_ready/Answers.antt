@@ -84,7 +84,7 @@ write_synced-requires-2-clause-can g c =
     let l2 = g.D.Reads.log c.write_synced.new.folder in
     let s2 = told_opened bs k r.repeatable p r.journal l0 l1 l2 s1 c.in_ok-write_synced.ensures.written c.in_ok-write_synced.ensures.any_moment in
     let l3 = g.D.Reads.log c.do_deeds.new.folder in
-    let s3 = told_done bs k r.repeatable p r.journal l0 l2 l3 s2 c.in_ok-do_deeds.ensures.amid c.in_ok-do_deeds.ensures.done in
+    let s3 = told_done bs k r.repeatable p r.journal l0 l2 l3 s2 c.in_ok-do_deeds.ensures.grown c.in_ok-do_deeds.ensures.amid c.in_ok-do_deeds.ensures.done in
     subst (λ (q : Path). Told l3 (λ log. CanDo (Write q 0 (0 ∷ [])) (now log))) (sym r.journal) (told_new l0 l3 (AreDone bs k r.repeatable) (λ log. CanDo (Write journal_file 0 (0 ∷ [])) (now log)) (can_close bs k r.repeatable) s3)
 
 pub returns-in_err-stage-clause-any_moment : goal.returns-in_err-stage-clause-any_moment
@@ -121,7 +121,7 @@ returns-in_err-do_deeds-clause-any_moment g c =
     let l2 = g.D.Reads.log c.write_synced.new.folder in
     let s2 = told_opened bs k r.repeatable p r.journal l0 l1 l2 s1 c.in_ok-write_synced.ensures.written c.in_ok-write_synced.ensures.any_moment in
     let l3 = g.D.Reads.log c.do_deeds.new.folder in
-    told_deeds_leave bs k r.repeatable p r.journal l0 l2 l3 s2 c.in_err-do_deeds.ensures.amid
+    told_deeds_leave bs k r.repeatable p r.journal l0 l2 l3 s2 c.in_err-do_deeds.ensures.grown c.in_err-do_deeds.ensures.amid
 
 pub returns-in_err-write_synced-2-clause-any_moment : goal.returns-in_err-write_synced-2-clause-any_moment
 returns-in_err-write_synced-2-clause-any_moment g c =
@@ -135,7 +135,7 @@ returns-in_err-write_synced-2-clause-any_moment g c =
     let l2 = g.D.Reads.log c.write_synced.new.folder in
     let s2 = told_opened bs k r.repeatable p r.journal l0 l1 l2 s1 c.in_ok-write_synced.ensures.written c.in_ok-write_synced.ensures.any_moment in
     let l3 = g.D.Reads.log c.do_deeds.new.folder in
-    let s3 = told_done bs k r.repeatable p r.journal l0 l2 l3 s2 c.in_ok-do_deeds.ensures.amid c.in_ok-do_deeds.ensures.done in
+    let s3 = told_done bs k r.repeatable p r.journal l0 l2 l3 s2 c.in_ok-do_deeds.ensures.grown c.in_ok-do_deeds.ensures.amid c.in_ok-do_deeds.ensures.done in
     let l4 = g.D.Reads.log c.write_synced-2.new.folder in
     told_close_leaves bs k r.repeatable p r.journal l0 l3 l4 s3 c.in_err-write_synced-2.ensures.any_moment
 
@@ -151,7 +151,7 @@ returns-clause-any_moment g c =
     let l2 = g.D.Reads.log c.write_synced.new.folder in
     let s2 = told_opened bs k r.repeatable p r.journal l0 l1 l2 s1 c.in_ok-write_synced.ensures.written c.in_ok-write_synced.ensures.any_moment in
     let l3 = g.D.Reads.log c.do_deeds.new.folder in
-    let s3 = told_done bs k r.repeatable p r.journal l0 l2 l3 s2 c.in_ok-do_deeds.ensures.amid c.in_ok-do_deeds.ensures.done in
+    let s3 = told_done bs k r.repeatable p r.journal l0 l2 l3 s2 c.in_ok-do_deeds.ensures.grown c.in_ok-do_deeds.ensures.amid c.in_ok-do_deeds.ensures.done in
     let l4 = g.D.Reads.log c.write_synced-2.new.folder in
     told_close_leaves bs k r.repeatable p r.journal l0 l3 l4 s3 c.in_ok-write_synced-2.ensures.any_moment
 
@@ -167,7 +167,7 @@ returns-clause-committed g c =
     let l2 = g.D.Reads.log c.write_synced.new.folder in
     let s2 = told_opened bs k r.repeatable p r.journal l0 l1 l2 s1 c.in_ok-write_synced.ensures.written c.in_ok-write_synced.ensures.any_moment in
     let l3 = g.D.Reads.log c.do_deeds.new.folder in
-    let s3 = told_done bs k r.repeatable p r.journal l0 l2 l3 s2 c.in_ok-do_deeds.ensures.amid c.in_ok-do_deeds.ensures.done in
+    let s3 = told_done bs k r.repeatable p r.journal l0 l2 l3 s2 c.in_ok-do_deeds.ensures.grown c.in_ok-do_deeds.ensures.amid c.in_ok-do_deeds.ensures.done in
     let l4 = g.D.Reads.log c.write_synced-2.new.folder in
     told_closed bs k r.repeatable p r.journal l0 l3 l4 s3 c.in_ok-write_synced-2.ensures.written
 

@@ -1,11 +1,13 @@
 use Rattle.std.proofs.Common.{◌≡◌, Option, sym, subst, arith}
 use Rattle.outside.specs.Calls.{Changes}
-use Rattle.outside.specs.Changes.{Put, CanDo, IsPartOf}
-use Rattle.outside.specs.Images.{Log, Synced, now, adds, IsSteady, HasKept, HasDone, HasBroken, LeavesOnly}
+use Rattle.outside.specs.Changes.{Put, CanDo}
+use Rattle.outside.specs.Images.{Log, Synced, now, adds, IsSteady, HasKept, HasDone, HasBroken}
 use Rattle.outside.proofs.Told.{changed_from, told_through}
-use Rattle.outside.proofs.Steady.{kept, part_did, part_broke, part_synced, whole_part}
+use Rattle.outside.proofs.Steady.{kept}
 use Rattle.deeds.proofs.Phases.{cause_then}
+use Rattle.chunk_journal.specs.Stages.{LeavesParts}
 use Rattle.chunk_journal.proofs.Faults.{err_cause, sync_cause}
+use Rattle.chunk_journal.proofs.Tidy.{parts_broke, parts_did, parts_synced}
 use Rattle.chunk_journal.proofs.steps.put_synced.Goals as goal
 
 pub returns-clause-put : goal.returns-clause-put
@@ -17,21 +19,21 @@ returns-clause-put g c =
 pub returns-clause-any_moment : goal.returns-clause-any_moment
 returns-clause-any_moment g c =
     let w = Put c.args.path.now c.args.bytes.now in
-    told_through (g.D.Reads.log c.args.folder.now) (g.D.Reads.log c.put.new.self) (g.D.Reads.log c.sync.new.self) IsSteady (HasDone w) (λ mid new. new ≡ adds mid Synced) (λ old new. LeavesOnly old new (IsPartOf w (now old)))
-    (λ old mid new steady did is. part_synced old mid new w steady did is (whole_part w (now old) did.0)) c.requires.steady c.in_ok-put.ensures.done c.in_ok-sync.ensures.synced
+    told_through (g.D.Reads.log c.args.folder.now) (g.D.Reads.log c.put.new.self) (g.D.Reads.log c.sync.new.self) IsSteady (HasDone w) (λ mid new. new ≡ adds mid Synced) (LeavesParts w)
+    (λ old mid new steady did is. parts_synced w old mid new steady did is) c.requires.steady c.in_ok-put.ensures.done c.in_ok-sync.ensures.synced
 
 pub returns-in_err-put-clause-any_moment : goal.returns-in_err-put-clause-any_moment
 returns-in_err-put-clause-any_moment g c =
     let w = Put c.args.path.now c.args.bytes.now in
-    changed_from (g.D.Reads.log c.args.folder.now) (g.D.Reads.log c.put.new.self) IsSteady (HasBroken w) (λ old new. LeavesOnly old new (IsPartOf w (now old)))
-    (λ old new steady broke. part_broke old new w steady broke) c.requires.steady c.in_err-put.ensures.broken
+    changed_from (g.D.Reads.log c.args.folder.now) (g.D.Reads.log c.put.new.self) IsSteady (HasBroken w) (LeavesParts w)
+    (λ old new steady broke. parts_broke w old new steady broke) c.requires.steady c.in_err-put.ensures.broken
 
 pub returns-in_err-sync-clause-any_moment : goal.returns-in_err-sync-clause-any_moment
 returns-in_err-sync-clause-any_moment g c =
     let w = Put c.args.path.now c.args.bytes.now in
-    subst (λ (o : Option Log). Changes (g.D.Reads.log c.args.folder.now) o (λ old new. LeavesOnly old new (IsPartOf w (now old)))) (sym c.in_err-sync.ensures.failed)
-    (changed_from (g.D.Reads.log c.args.folder.now) (g.D.Reads.log c.put.new.self) IsSteady (HasDone w) (λ old new. LeavesOnly old new (IsPartOf w (now old)))
-    (λ old new steady did. part_did old new w steady did) c.requires.steady c.in_ok-put.ensures.done)
+    subst (λ (o : Option Log). Changes (g.D.Reads.log c.args.folder.now) o (LeavesParts w)) (sym c.in_err-sync.ensures.failed)
+    (changed_from (g.D.Reads.log c.args.folder.now) (g.D.Reads.log c.put.new.self) IsSteady (HasDone w) (LeavesParts w)
+    (λ old new steady did. parts_did w old new steady did) c.requires.steady c.in_ok-put.ensures.done)
 
 pub returns-in_err-put-clause-cause : goal.returns-in_err-put-clause-cause
 returns-in_err-put-clause-cause g c =

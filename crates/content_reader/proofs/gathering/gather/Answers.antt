@@ -1,6 +1,6 @@
 use Rattle.std.proofs.Common.{◌≤◌, ◌+◌, ◌%◌, length, refl, arith, length-take}
 use Rattle.std.proofs.lemmas.Result.{err_from_is_err_and}
-use Rattle.content_reader.proofs.Pieces.{SliceLaws, IsNextPiece, gathered_none, gathered_more, not_short, put_is}
+use Rattle.content_reader.proofs.Pieces.{NextPiece, SliceLaws, IsNextPiece, gathered_none, gathered_more, not_short, put_is}
 use Rattle.content_reader.proofs.gathering.gather.Goals as goal
 
 pub open_chunk-requires-clause-sealed : goal.open_chunk-requires-clause-sealed
@@ -18,9 +18,23 @@ returns-in_err-opened-clause-damaged c = λ keys bytes span.
     let laws : SliceLaws = record { sealed = law.sealed; damaged = law.damaged; opened = law.opened; joined = law.joined } in
     let next : IsNextPiece c.args.at (length c.args.out.now) c.loop-done.done _ c.args.sealed.now c.chunk_in-chunk.result.now =
     record { more = c.loop-done-test.true; place = refl; bytes = c.chunk_in-chunk.ensures } in
+    let piece : NextPiece = record {
+      keys = keys;
+      head = c.args.header.now;
+      at = c.args.at;
+      count = length c.args.out.now;
+      done = c.loop-done.done;
+      index = _;
+      sealed = c.args.sealed.now;
+      chunk = c.chunk_in-chunk.result.now;
+      bytes = bytes;
+      out = c.loop-done.out;
+      span = span;
+      next = next;
+      so_far = c.loop-done.invariant.so_far keys bytes span;
+    } in
     rw p.1
-    (gathered_none laws keys c.args.header.now c.args.at (length c.args.out.now) c.loop-done.done _ c.args.sealed.now c.chunk_in-chunk.result.now bytes c.loop-done.out span next
-    (c.loop-done.invariant.so_far keys bytes span) c.in_err-opened.ensures.damaged)
+    (gathered_none laws piece c.in_err-opened.ensures.damaged)
 
 pub returns-then-opened-offset-clause-damaged : goal.returns-then-opened-offset-clause-damaged
 returns-then-opened-offset-clause-damaged c = λ keys bytes span.
@@ -28,9 +42,23 @@ returns-then-opened-offset-clause-damaged c = λ keys bytes span.
     let laws : SliceLaws = record { sealed = law.sealed; damaged = law.damaged; opened = law.opened; joined = law.joined } in
     let next : IsNextPiece c.args.at (length c.args.out.now) c.loop-done.done _ c.args.sealed.now c.chunk_in-chunk.result.now =
     record { more = c.loop-done-test.true; place = refl; bytes = c.chunk_in-chunk.ensures } in
+    let piece : NextPiece = record {
+      keys = keys;
+      head = c.args.header.now;
+      at = c.args.at;
+      count = length c.args.out.now;
+      done = c.loop-done.done;
+      index = _;
+      sealed = c.args.sealed.now;
+      chunk = c.chunk_in-chunk.result.now;
+      bytes = bytes;
+      out = c.loop-done.out;
+      span = span;
+      next = next;
+      so_far = c.loop-done.invariant.so_far keys bytes span;
+    } in
     absurd
-    (not_short laws keys c.args.header.now c.args.at (length c.args.out.now) c.loop-done.done _ c.args.sealed.now c.chunk_in-chunk.result.now bytes c.loop-done.out span next
-    (c.loop-done.invariant.so_far keys bytes span) c.min-more.result c.in_ok-opened.opened (omega arith) (omega arith) c.in_ok-opened.ensures.count c.if-opened-offset.true)
+    (not_short laws piece c.min-more.result c.in_ok-opened.opened (omega arith) (omega arith) c.in_ok-opened.ensures.count c.if-opened-offset.true)
 
 pub loop-done-preserved : goal.loop-done-preserved
 loop-done-preserved c =
@@ -45,8 +73,22 @@ loop-done-preserved c =
       within = omega arith;
       room = omega (arith, c.open_chunk.auto.out, c.loop-done.invariant.room);
       so_far = λ keys bytes span.
-          gathered_more laws keys c.args.header.now c.args.at (length c.args.out.now) c.loop-done.done _ c.args.sealed.now c.chunk_in-chunk.result.now bytes c.loop-done.out span next
-          (c.loop-done.invariant.so_far keys bytes span) c.min-more.result c.in_ok-opened.opened (omega arith) (omega arith)
+          let piece : NextPiece = record {
+            keys = keys;
+            head = c.args.header.now;
+            at = c.args.at;
+            count = length c.args.out.now;
+            done = c.loop-done.done;
+            index = _;
+            sealed = c.args.sealed.now;
+            chunk = c.chunk_in-chunk.result.now;
+            bytes = bytes;
+            out = c.loop-done.out;
+            span = span;
+            next = next;
+            so_far = c.loop-done.invariant.so_far keys bytes span;
+          } in
+          gathered_more laws piece c.min-more.result c.in_ok-opened.opened (omega arith) (omega arith)
           c.open_chunk.new.out c.put.new.out c.in_ok-opened.ensures.opened c.if-opened-offset.false clear_fits (omega (arith, c.loop-done.auto.out, c.loop-done-test.true))
           (put_is ((c.args.at + c.loop-done.done) % 32768) c.min-more.result c.loop-done.done c.open_chunk.new.out c.loop-done.out c.put.new.out (omega (arith, clear_fits, c.if-opened-offset.false)) c.put.ensures);
     }

@@ -7,6 +7,7 @@ use Rattle.deeds.specs.Deeds.{PlainDeed, Does, DoesAll, StaysAmid, is_of, of_pha
 use Rattle.deeds.specs.Applying.{StaysApplied, StaysRefused}
 use Rattle.deeds.specs.Plain.{plain}
 use Rattle.deeds.proofs.Applying.{one_applied, one_stopped}
+use Rattle.deeds.proofs.Growing.{still_grown}
 use Rattle.deeds.proofs.Phases.{of_one}
 use Rattle.deeds.proofs.deed.do_at.Goals as goal
 
@@ -35,3 +36,6 @@ returns-in-Err-Unfit-clause-left g c =
 
 pub returns-in-Err-Failed-clause-applied : goal.returns-in-Err-Failed-clause-applied
 returns-in-Err-Failed-clause-applied g c = applied_at c.args.phase (plain c.args.deed.now) (sym c.if-not-is_of.ensures) (g.F.Reads.log c.args.folder.now) (g.F.Reads.log c.do_deed.new.folder) c.do_deed.ensures.amid c.do_deed.ensures.refused
+
+pub returns-then-not-is_of-clause-grown : goal.returns-then-not-is_of-clause-grown
+returns-then-not-is_of-clause-grown g c = still_grown (g.F.Reads.log c.args.folder.now) (g.F.Reads.log c.args.folder.now) refl

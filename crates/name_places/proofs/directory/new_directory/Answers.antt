@@ -19,6 +19,6 @@ returns c =
       identifier = c.copy_from_slice.ensures.after ∙ is;
       valid = valid_text c.copy_from_slice.new.self (ap (λ (t : List ℕ). length t) (c.copy_from_slice.ensures.after ∙ is) ∙ length-identifier_of c.args.drawn.now)
           (subst IsUtf8 (sym (c.copy_from_slice.ensures.after ∙ c.as_bytes.ensures.value)) c.encode_lower-text.utf8);
-      folder = c.folder_of-folder.ensures.folder;
-      path = c.folder_of-folder.ensures.path;
+      folder = c.directory_folder-folder.ensures.folder;
+      path = c.directory_folder-folder.ensures.path;
     }

@@ -12,8 +12,8 @@ loop-crew-init g c =
 pub loop-crew-preserved : goal.loop-crew-preserved
 loop-crew-preserved g c =
     let inv = c.loop-crew.invariant in
-    let served = link_of g.B.TreeObject.stands c.loop-crew.crew.object c.serve_next.new.object _ _ _ _ c.serve_next.result c.in-Ok-Some.field-0 c.in-Ok-Some.end c.serve_next.ensures.served c.in-Ok-Some.is c.in-Ok-Some.field-0-is in
-    let so = one_more _ _ _ _ _ _ _ _ _ _ _ c.in-Ok-Some.end inv.so served c.add.ensures in
+    let served = link_of g.B.TreeObject.stands c.loop-crew.crew.object c.serve_next.new.object _ _ _ _ _ c.serve_next.result c.in-Ok-Some.field-0 c.in-Ok-Some.end c.serve_next.ensures.served c.in-Ok-Some.is c.in-Ok-Some.field-0-is in
+    let so = one_more _ _ _ _ _ _ _ _ _ _ _ _ _ c.in-Ok-Some.end inv.so served c.add.ensures in
     let is = (c.add.ensures _ inv.so.counted).sessions in
     let was = inv.so.counted.sessions in
     let more = length-append (ends_of inv.so.share) (c.in-Ok-Some.end ∷ []) in

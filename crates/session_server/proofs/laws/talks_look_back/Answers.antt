@@ -12,10 +12,10 @@ held_snoc : (s : State) (past : List Exchange) (t : State) (e : Exchange) (next 
 held_snoc s [] t e next held leads = (next, subst (λ (u : State). Leads u e next) held leads, refl)
 held_snoc s (x ∷ past) t e next held leads = (held.0, held.1, held_snoc held.0 past t e next held.2 leads)
 
-looks_back : LooksBack → (past : List Exchange) (s : State) → AreHeld fresh past s → (frames : List (List ℕ)) (asked : List Asked) (answers : List (List ℕ)) (last : State)
-    → Answered s frames asked answers last → AnsweredBack past frames asked answers
-looks_back law past s held [] asked answers last h = (h.0, h.1)
-looks_back law past s held (frame ∷ frames) asked answers last h =
+looks_back : LooksBack → (past : List Exchange) (s : State) → AreHeld fresh past s → (frames : List (List ℕ)) (seconds : List ℕ) (asked : List Asked) (answers : List (List ℕ)) (last : State)
+    → Answered s frames seconds asked answers last → AnsweredBack past frames seconds asked answers
+looks_back law past s held [] seconds asked answers last h = (h.0, h.1, h.2)
+looks_back law past s held (frame ∷ frames) seconds asked answers last h =
     let e : Exchange = record { given = message_in frame; answer = h.exchanged.answer } in
     let leads : Leads s e h.next = record {
       frame = frame;
@@ -34,9 +34,11 @@ looks_back law past s held (frame ∷ frames) asked answers last h =
       answer = h.answer;
       next = h.next;
       exchanged = h.exchanged;
+      other_seconds = h.other_seconds;
       others = h.others;
       other_answers = h.other_answers;
-      rest = looks_back law (past ++ e ∷ []) h.next (held_snoc fresh past s e h.next held leads) frames h.others h.other_answers last h.rest;
+      rest = looks_back law (past ++ e ∷ []) h.next (held_snoc fresh past s e h.next held leads) frames h.other_seconds h.others h.other_answers last h.rest;
+      seconds_are = h.seconds_are;
       asked_is = h.asked_is;
       answers_are = h.answers_are;
     }

@@ -3,13 +3,13 @@ use Rattle.std.proofs.lemmas.List.{length-take}
 use Rattle.outside.specs.Calls.{Rose}
 use Rattle.outside.specs.Views.{link_in}
 use Rattle.session_server.specs.Steps.{Reads, Writes}
-use Rattle.session_server.proofs.TalkSoFar.{SoFar, OneAnswered, so_far_none, so_far_more, at_clock, talked_stop, talked_fault, talked_limit}
+use Rattle.session_server.proofs.TalkSoFar.{SoFar, OneAnswered, so_far_none, so_far_more, talked_stop, talked_fault, talked_limit}
 use Rattle.session_server.proofs.server.answer_messages.Goals as goal
 
 pub loop-answered-init : goal.loop-answered-init
 loop-answered-init g c = record {
   so_far = so_far_none g.B.TreeObject.stands c.args.object.now (link_in g.L.Link c.args.link.now)
-      (g.K.Clock.second c.args.clock.now) c.args.session c.requires.fresh;
+      (g.K.Clock.to_give c.args.clock.now) c.args.session c.requires.fresh;
   few = omega arith;
 }
 
@@ -20,7 +20,8 @@ returns-in-Err g c =
           (link_in g.L.Link c.args.link.now)
           (link_in g.L.Link c.loop-answered.link)
           (link_in g.L.Link c.read_frame.new.link)
-          (g.K.Clock.second c.args.clock.now) c.loop-answered.answered c.loop-answered.session c.in-Err.end
+          (g.K.Clock.to_give c.args.clock.now)
+          (g.K.Clock.to_give c.loop-answered.clock) c.loop-answered.answered c.loop-answered.session c.in-Err.end
           c.loop-answered.invariant.so_far c.loop-answered-test.true c.in-Err.ensures.stops c.read_frame.ensures.taken
           (record { later = c.in-Err.ensures.cause.later; rose = λ is. c.in-Err.ensures.cause.rose (ap Err is) })
           (omega (arith, c.read_frame.ensures.writes));
@@ -38,7 +39,9 @@ loop-answered-preserved g c =
           (link_in g.L.Link c.args.link.now)
           (link_in g.L.Link c.loop-answered.link)
           (link_in g.L.Link c.write_full.new.link)
-          (g.K.Clock.second c.args.clock.now) c.loop-answered.answered c.loop-answered.session frame c.now-now.result e.asked answer c.answer-answer.new.self
+          (g.K.Clock.to_give c.args.clock.now)
+          (g.K.Clock.to_give c.loop-answered.clock)
+          (g.K.Clock.to_give c.now-now.new.self) c.loop-answered.answered c.loop-answered.session frame c.now-now.result e.asked answer c.answer-answer.new.self
           c.loop-answered.invariant.so_far one
           (record {
             read = subst (λ (l : Option (List ℕ)). Reads (g.L.Link.left c.loop-answered.link) l frame) (sym c.write_full.ensures.left) c.in-Ok.ensures.bytes;
@@ -46,7 +49,7 @@ loop-answered-preserved g c =
             read_faults = omega (arith, c.read_frame.ensures.cause.later, c.write_full.ensures.reads);
             write_faults = omega (arith, c.read_frame.ensures.writes, c.write_full.ensures.cause.later);
           })
-          (at_clock (g.K.Clock.second c.args.clock.now) c.loop-answered.session frame c.now-now.result e.asked answer c.answer-answer.new.self c.now-now.ensures e.exchanged) e.extends;
+          c.now-now.ensures e.extends;
       few = omega (arith, c.loop-answered.invariant.few, c.loop-answered-test.true);
     }
 
@@ -63,7 +66,9 @@ returns-in-Err-write_full g c =
           (link_in g.L.Link c.args.link.now)
           (link_in g.L.Link c.loop-answered.link)
           (link_in g.L.Link c.write_full.new.link)
-          (g.K.Clock.second c.args.clock.now) c.loop-answered.answered c.loop-answered.session frame c.now-now.result e.asked answer p.0 c.answer-answer.new.self
+          (g.K.Clock.to_give c.args.clock.now)
+          (g.K.Clock.to_give c.loop-answered.clock)
+          (g.K.Clock.to_give c.now-now.new.self) c.loop-answered.answered c.loop-answered.session frame c.now-now.result e.asked answer p.0 c.answer-answer.new.self
           c.loop-answered.invariant.so_far c.loop-answered-test.true one p.1
           (record {
             read = subst (λ (l : Option (List ℕ)). Reads (g.L.Link.left c.loop-answered.link) l frame) (sym c.write_full.ensures.left) c.in-Ok.ensures.bytes;
@@ -75,7 +80,7 @@ returns-in-Err-write_full g c =
             later = omega (arith, c.read_frame.ensures.writes, c.write_full.ensures.cause.later);
             rose = λ failed. subst (λ (n : ℕ). Rose n (g.L.Link.write_faults c.write_full.new.link)) c.read_frame.ensures.writes (c.in-Err-write_full.ensures.cause.rose refl);
           })
-          (at_clock (g.K.Clock.second c.args.clock.now) c.loop-answered.session frame c.now-now.result e.asked answer c.answer-answer.new.self c.now-now.ensures e.exchanged) e.extends;
+          c.now-now.ensures e.extends;
     }
 
 pub returns : goal.returns
@@ -85,9 +90,11 @@ returns g c =
       talked = talked_limit g.B.TreeObject.stands c.args.object.now c.loop-answered.object
           (link_in g.L.Link c.args.link.now)
           (link_in g.L.Link c.loop-answered.link)
-          (g.K.Clock.second c.args.clock.now) c.loop-answered.session
+          (g.K.Clock.to_give c.args.clock.now)
+          (g.K.Clock.to_give c.loop-answered.clock) c.loop-answered.session
           (subst (λ (n : ℕ). SoFar g.B.TreeObject.stands c.args.object.now c.loop-answered.object
           (link_in g.L.Link c.args.link.now)
           (link_in g.L.Link c.loop-answered.link)
-          (g.K.Clock.second c.args.clock.now) n c.loop-answered.session) all c.loop-answered.invariant.so_far);
+          (g.K.Clock.to_give c.args.clock.now)
+          (g.K.Clock.to_give c.loop-answered.clock) n c.loop-answered.session) all c.loop-answered.invariant.so_far);
     }

@@ -8,7 +8,8 @@ invariant-loop-answered g l = record {
   so_far : SoFar g.B.TreeObject.stands l.fn.object l.object
       (link_in g.L.Link l.fn.link)
       (link_in g.L.Link l.link)
-      (g.K.Clock.second l.fn.clock) l.answered l.session;
+      (g.K.Clock.to_give l.fn.clock)
+      (g.K.Clock.to_give l.clock) l.answered l.session;
   few : l.answered ≤ 2 ^ 32;
 }
 

@@ -30,6 +30,6 @@ loop-crew-preserved g c =
       dismissed = (
         crew ∷ inv.dismissed.0,
         behind _ _ _ _ crew inv.dismissed.1 is,
-        dismissed_more _ _ _ _ _ c.leave-seat.result.0 _ crew c.push_reserved.ensures.items c.push_reserved-in-Some.ensures.items (record { listener = refl; object = c.leave-seat.ensures.client }) inv.dismissed.2,
+        dismissed_more _ _ _ _ _ c.leave-seat.result.0 _ crew c.push_reserved.ensures.items c.push_reserved-in-Some.ensures.items (record { listener = refl; object = c.leave-seat.ensures.client; clock = refl }) inv.dismissed.2,
       );
     }

@@ -44,7 +44,7 @@ loop-seat-preserved g c =
         gone_workers = worker ∷ hired.gone_workers;
         seats_are = behind _ _ _ _ seat hired.seats_are seats;
         workers_are = behind _ _ _ _ worker hired.workers_are workers;
-        crews_are = hired_more hired.gone_seats hired.gone_workers _ _ seat worker c.new-crew.result c.push_reserved.ensures.items (record { listener = c.new-crew.ensures.listener; object = c.new-crew.ensures.object ∙ c.new-client.ensures }) hired.crews_are;
+        crews_are = hired_more hired.gone_seats hired.gone_workers _ _ seat worker c.new-crew.result c.push_reserved.ensures.items (record { listener = c.new-crew.ensures.listener; object = c.new-crew.ensures.object ∙ c.new-client.ensures; clock = c.new-crew.ensures.clock }) hired.crews_are;
       };
     }
 

@@ -26,8 +26,7 @@ loop-count-preserved c =
     record {
       room = omega (arith, length-set c.loop-count.qids c.loop-count.count c.qid_of.result);
       names = names_after N k c.loop-count.bytes.now c.split_name.result.1.now below c.loop-count.invariant.names c.split_name.ensures.rest;
-      way = goes_further c.args.tree.now c.args.from (names_in N c.args.names.now.bytes.now) c.loop-count.at N k c.loop-count.bytes.now
-          c.split_name.result.0.now c.split_name.result.1.now qids c.in_ok-node.field-0 c.in-Ok.node c.qid_of.result
+      way = goes_further c.args.tree.now c.args.from (names_in N c.args.names.now.bytes.now) c.loop-count.at N k c.loop-count.bytes.now qids
           c.requires.tree below (omega arith) c.loop-count.invariant.names c.split_name.ensures.name c.split_name.ensures.rest c.in_ok-node.ensures.stands c.in-Ok.is c.qid_of.ensures c.loop-count.invariant.way;
     }
 

@@ -11,7 +11,7 @@ use Rattle.tree_loading.proofs.place.long_shown.Goals as goal
 pub returns-in-Some-2-clause-shown : goal.returns-in-Some-2-clause-shown
 returns-in-Some-2-clause-shown g c =
     let size : Some c.in-Some-2.size ≡ c.in_ok-size-in-None.field-0 = sym c.in-Some-2.is in
-    let contents : c.inner.result ≡ c.args.node.now ++ text_contents ∷ [] = c.inner.ensures ∙ ap (λ (x : List ℕ). c.args.node.now ++ x ∷ []) c.as_bytes.ensures.value in
+    let contents : c.inner.result ≡ c.args.node.now ++ text_contents ∷ [] = c.inner.ensures in
     told_kept2 (g.R.Reads.log c.args.from.now) (g.R.Reads.log c.args.from.now) (g.R.Reads.log c.short_shown.new.from)
     (λ d. Shows (short_kind d c.args.node.now) c.in_ok-shown.field-0)
     (λ d. c.in_ok-size-in-None.field-0 ≡ option_map length (file_at d c.inner.result))
@@ -23,7 +23,7 @@ returns-in-Some-2-clause-shown g c =
 pub returns-in-None-2-clause-shown : goal.returns-in-None-2-clause-shown
 returns-in-None-2-clause-shown g c =
     let size : None ≡ c.in_ok-size-in-None.field-0 = sym c.in-None-2.is in
-    let contents : c.inner.result ≡ c.args.node.now ++ text_contents ∷ [] = c.inner.ensures ∙ ap (λ (x : List ℕ). c.args.node.now ++ x ∷ []) c.as_bytes.ensures.value in
+    let contents : c.inner.result ≡ c.args.node.now ++ text_contents ∷ [] = c.inner.ensures in
     told_kept2 (g.R.Reads.log c.args.from.now) (g.R.Reads.log c.args.from.now) (g.R.Reads.log c.short_shown.new.from)
     (λ d. Shows (short_kind d c.args.node.now) c.in_ok-shown.field-0)
     (λ d. c.in_ok-size-in-None.field-0 ≡ option_map length (file_at d c.inner.result))

@@ -1,7 +1,7 @@
 use Rattle.std.proofs.Common.{length, ap}
 use Rattle.std.proofs.lemmas.Bool.{lt-ltb}
 use Rattle.std.specs.Result.{result_map_both}
-use Rattle.siv_mode.specs.Keys.{KeyPair}
+use Rattle.vault_keys.specs.Keys.{KeyPair}
 use Rattle.masterkey_file.proofs.Members.{keys_of-long}
 use Rattle.vault_config.proofs.Reading.{config_of-long}
 use Rattle.unlocking.specs.FromFiles.{bad_masterkey_file}

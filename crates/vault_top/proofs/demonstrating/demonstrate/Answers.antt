@@ -22,7 +22,7 @@ hold_sessions-kept-requires-clause-some g c κs within =
     let scripts = c.args.scripts in
     let some = c.requires.0 in
     let many = length-map-range_with_len (worker_of scripts.seed scripts.requests) 0 scripts.clients in
-    let are = ap (λ (workers : List (Worker Links Drawing)). length workers) c.in_ok-workers.ensures in
+    let are = ap (λ (workers : List (Worker Links Drawing ℕ)). length workers) c.in_ok-workers.ensures in
     let ok = c.in_ok-workers.workers.ok in
     omega arith
 

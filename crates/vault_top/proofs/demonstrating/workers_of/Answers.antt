@@ -1,4 +1,4 @@
-use Rattle.std.proofs.Common.{◌∙◌, ◌≡◌, ◌++◌, [], ◌∷◌, List, map, sym, ap, arith}
+use Rattle.std.proofs.Common.{◌∙◌, ◌≡◌, ◌++◌, ℕ, [], ◌∷◌, List, map, sym, ap, arith}
 use Rattle.std.specs.List.{range_with_len}
 use Rattle.std.proofs.lemmas.List.FromFn.{map-range_with_len_more}
 use Rattle.outside_mem.specs.Links.{Links}
@@ -11,14 +11,15 @@ pub loop-client-preserved : goal.loop-client-preserved
 loop-client-preserved c =
     let client = c.loop-client.client in
     let worker = worker_of c.args.scripts.seed c.args.scripts.requests in
-    let next : record { listener = c.in_ok-listener.listener; entropy = c.worker_entropy-entropy.result } ≡ worker client = λ i. record {
+    let next : record { listener = c.in_ok-listener.listener; entropy = c.worker_entropy-entropy.result; clock = c.new-clock.result } ≡ worker client = λ i. record {
       listener = c.in_ok-listener.ensures i;
       entropy = c.worker_entropy-entropy.ensures i;
+      clock = c.new-clock.ensures i;
     }
     in
     record {
       made = c.in_ok-push.ensures.items
-          ∙ ap (λ (workers : List (Worker Links Drawing)). workers ++ record { listener = c.in_ok-listener.listener; entropy = c.worker_entropy-entropy.result } ∷ []) c.loop-client.invariant.made
-          ∙ ap (λ (w : Worker Links Drawing). map worker (range_with_len 0 client) ++ w ∷ []) next
+          ∙ ap (λ (workers : List (Worker Links Drawing ℕ)). workers ++ record { listener = c.in_ok-listener.listener; entropy = c.worker_entropy-entropy.result; clock = c.new-clock.result } ∷ []) c.loop-client.invariant.made
+          ∙ ap (λ (w : Worker Links Drawing ℕ). map worker (range_with_len 0 client) ++ w ∷ []) next
           ∙ sym (map-range_with_len_more worker 0 client client (omega arith));
     }

@@ -1,11 +1,11 @@
 use Rattle.std.proofs.Common.{Option, subst, inr, arith}
-use Rattle.outside.specs.Calls.{Changes}
+use Rattle.outside.specs.Calls.{Changes, next_of}
 use Rattle.outside.specs.Images.{Log}
 use Rattle.outside.specs.Views.{folder_in}
 use Rattle.chunk_journal.specs.Opening.{StaysOpening}
 use Rattle.unlocking.specs.Found.{unlocked_data}
 use Rattle.vault_top.specs.Span.{course, source_in, IsOnlyRead}
-use Rattle.vault_top.proofs.Opened.{closed_by, recovers}
+use Rattle.vault_top.proofs.Opened.{closed_by, now_first, recovers}
 use Rattle.vault_top.proofs.opening.open_vault.Goals as goal
 
 pub returns-in-Ok-open-clause-opened : goal.returns-in-Ok-open-clause-opened
@@ -18,10 +18,10 @@ returns-in-Ok-open-clause-opened g c =
       read = record { log = e.log; changes = e.changes; faults = e.folder.later };
       unseen = e.unseen;
       now = c.now.result;
-      second = c.now.ensures;
-      opened = c.in-Ok-open.ensures.opened;
-      threshold = c.in-Ok-open.ensures.threshold;
-      later = c.in-Ok-open.ensures.later;
+      second = now_first _ _ _ c.now.ensures;
+      opened = c.in-Ok-open.ensures.opened.opened;
+      threshold = c.in-Ok-open.ensures.opened.threshold_is;
+      later = c.in-Ok-open.ensures.opened.later;
     }
 
 pub returns-in-Err-open-clause-unopened : goal.returns-in-Err-open-clause-unopened
@@ -30,7 +30,7 @@ returns-in-Err-open-clause-unopened g c =
     let looked = c.unlock.new.folder in
     let kept = c.in-Err-open.field-0.folder in
     let e = c.in-Ok.ensures in
-    let o = c.in-Err-open.ensures in
+    let o = c.in-Err-open.ensures.refused in
     let vault = unlocked_data c.in-Ok.unlocked in
     let read : IsOnlyRead (view c.args.folder) (view looked) = record { log = e.log; changes = e.changes; faults = e.folder.later } in
     let stays : Changes (view c.args.folder).log (view kept).log StaysOpening = subst (λ (l : Option Log). Changes l (view kept).log StaysOpening) read.log o.refused in
@@ -40,7 +40,7 @@ returns-in-Err-open-clause-unopened g c =
         unlocked = record { gave = e.unlocked; line = e.line };
         error = c.in-Err-open.field-0.cause;
         is = c.cause_of.ensures;
-        closed = closed_by view (course (source_in g.S.Source) c.args.secret.now c.unlock.new.secret) (g.K.Clock.second c.args.clock.now)
+        closed = closed_by view (course (source_in g.S.Source) c.args.secret.now c.unlock.new.secret) (next_of (g.K.Clock.to_give c.args.clock.now))
             c.args.folder looked kept vault c.in-Err-open.field-0.cause read (record {
               damaged = o.damaged;
               left = o.left;

@@ -9,7 +9,7 @@ use Rattle.vault_top.proofs.program.make.Goals.{in-Ok, in-Err+in-NotEmpty-1, in-
 
 pub returns : goal.returns
 returns g c = λ words dir second asked.
-    let views = views_of g.D.Reads g.N.Listener g.N.Conn.Link g.E.Entropy in
+    let views = views_of g.D.Reads g.N.Listener g.N.Conn.Link g.E.Entropy g.K.Clock in
     let secret = course (source_in g.S.Source) c.args.secret.now c.make_vault-made.new.secret in
     let sink = course (sink_in g.O.Sink) c.args.out.now c.match-made.out in
     let kept = c.make_vault-made.new.folder in

@@ -1,5 +1,6 @@
 use Rattle.std.proofs.Common.{Option, refl, sym, subst, inl, inr}
 use Rattle.std.specs.Prelude.{IsSome}
+use Rattle.outside.specs.Calls.{next_of}
 use Rattle.vault_store.specs.Open.{ClosedVault}
 use Rattle.vault_top.specs.declared.cause.Cause.TheVariants.{Words, Memory}
 use Rattle.vault_top.specs.Words.{words_of}
@@ -23,13 +24,13 @@ returns-in-Ok-Serve g c =
 pub returns-in-Ok-Make : goal.returns-in-Ok-Make
 returns-in-Ok-Make g c =
     let asked = rw c.in-Ok-Make.field-0-is at c.in-Ok-Make.ensures.task in
-    record { run = c.make.ensures (words_of c.args.words.now) asked.0 (g.K.Clock.second c.args.clock.now) asked.1 }
+    record { run = c.make.ensures (words_of c.args.words.now) asked.0 (next_of (g.K.Clock.to_give c.args.clock.now)) asked.1 }
 
 pub returns-in-Ok-Usage : goal.returns-in-Ok-Usage
 returns-in-Ok-Usage g c =
-    let views = views_of g.D.Reads g.N.Listener g.N.Conn.Link g.E.Entropy in
+    let views = views_of g.D.Reads g.N.Listener g.N.Conn.Link g.E.Entropy g.K.Clock in
     record {
-      run = run_untouched views (words_of c.args.words.now) (source_in g.S.Source c.args.secret.now) (g.K.Clock.second c.args.clock.now)
+      run = run_untouched views (words_of c.args.words.now) (source_in g.S.Source c.args.secret.now) (next_of (g.K.Clock.to_give c.args.clock.now))
           c.args.folder c.args.workers.now.items (course (sink_in g.O.Sink) c.args.out.now c.report.new.out) _ usage_said refl refl
           (λ untouched. (rw c.in-Ok-Usage.field-0-is at c.in-Ok-Usage.ensures.task, untouched))
           (written_as _ _ _ _ _ 0 4 c.report.result c.as_bytes.ensures.value c.report.ensures.written);
@@ -37,9 +38,9 @@ returns-in-Ok-Usage g c =
 
 pub returns-in-Ok-Version : goal.returns-in-Ok-Version
 returns-in-Ok-Version g c =
-    let views = views_of g.D.Reads g.N.Listener g.N.Conn.Link g.E.Entropy in
+    let views = views_of g.D.Reads g.N.Listener g.N.Conn.Link g.E.Entropy g.K.Clock in
     record {
-      run = run_untouched views (words_of c.args.words.now) (source_in g.S.Source c.args.secret.now) (g.K.Clock.second c.args.clock.now)
+      run = run_untouched views (words_of c.args.words.now) (source_in g.S.Source c.args.secret.now) (next_of (g.K.Clock.to_give c.args.clock.now))
           c.args.folder c.args.workers.now.items (course (sink_in g.O.Sink) c.args.out.now c.report-in-Ok-Version.new.out) _ version_said refl refl
           (λ untouched. (rw c.in-Ok-Version.field-0-is at c.in-Ok-Version.ensures.task, untouched))
           (written_as _ _ _ _ _ 0 4 c.report-in-Ok-Version.result c.as_bytes-in-Ok-Version.ensures.value c.report-in-Ok-Version.ensures.written);
@@ -47,17 +48,17 @@ returns-in-Ok-Version g c =
 
 pub returns-in-Err-Refused : goal.returns-in-Err-Refused
 returns-in-Err-Refused g c =
-    let views = views_of g.D.Reads g.N.Listener g.N.Conn.Link g.E.Entropy in
+    let views = views_of g.D.Reads g.N.Listener g.N.Conn.Link g.E.Entropy g.K.Clock in
     record {
-      run = run_badly_asked views (words_of c.args.words.now) (source_in g.S.Source c.args.secret.now) (g.K.Clock.second c.args.clock.now)
+      run = run_badly_asked views (words_of c.args.words.now) (source_in g.S.Source c.args.secret.now) (next_of (g.K.Clock.to_give c.args.clock.now))
           c.args.folder c.args.workers.now.items (course (sink_in g.O.Sink) c.args.out.now c.refuse.new.out) _ Words refl refl (inl (refl, rw c.in-Err-Refused.field-0-is at c.in-Err-Refused.ensures.cause)) c.refuse.ensures;
     }
 
 pub returns-in-Err-Memory : goal.returns-in-Err-Memory
 returns-in-Err-Memory g c =
-    let views = views_of g.D.Reads g.N.Listener g.N.Conn.Link g.E.Entropy in
+    let views = views_of g.D.Reads g.N.Listener g.N.Conn.Link g.E.Entropy g.K.Clock in
     record {
-      run = run_badly_asked views (words_of c.args.words.now) (source_in g.S.Source c.args.secret.now) (g.K.Clock.second c.args.clock.now)
+      run = run_badly_asked views (words_of c.args.words.now) (source_in g.S.Source c.args.secret.now) (next_of (g.K.Clock.to_give c.args.clock.now))
           c.args.folder c.args.workers.now.items (course (sink_in g.O.Sink) c.args.out.now c.refuse-in-Err-Memory.new.out) _ Memory refl refl (inr refl) c.refuse-in-Err-Memory.ensures;
     }
 
@@ -68,17 +69,17 @@ report_demonstration-requires g c =
 
 pub returns-in-Ok-Demo : goal.returns-in-Ok-Demo
 returns-in-Ok-Demo g c =
-    let views = views_of g.D.Reads g.N.Listener g.N.Conn.Link g.E.Entropy in
+    let views = views_of g.D.Reads g.N.Listener g.N.Conn.Link g.E.Entropy g.K.Clock in
     let asked = rw c.in-Ok-Demo.field-0-is at c.in-Ok-Demo.ensures.task in
     let words = words_of c.args.words.now in
     let secret = source_in g.S.Source c.args.secret.now in
     let sink = course (sink_in g.O.Sink) c.args.out.now c.report_demonstration.new.out in
     record {
       run = elim (c.report_demonstration.ensures.demonstrated asked.0 asked.2.are) [
-        | inl h ↦ run_untouched views words secret (g.K.Clock.second c.args.clock.now) c.args.folder c.args.workers.now.items sink c.report_demonstration.result (demonstrated h.text)
+        | inl h ↦ run_untouched views words secret (next_of (g.K.Clock.to_give c.args.clock.now)) c.args.folder c.args.workers.now.items sink c.report_demonstration.result (demonstrated h.text)
             c.report_demonstration.ensures.folder (subst (λ (store : Option ClosedVault). IsSome store) (sym h.store_is) refl)
             (λ untouched. record { demonstration = asked.0; words = asked.1; untouched = untouched; closed = h.closed; is = h.store_is; held = h.held }) h.reported
-        | inr h ↦ run_badly_asked views words secret (g.K.Clock.second c.args.clock.now) c.args.folder c.args.workers.now.items sink c.report_demonstration.result Memory
+        | inr h ↦ run_badly_asked views words secret (next_of (g.K.Clock.to_give c.args.clock.now)) c.args.folder c.args.workers.now.items sink c.report_demonstration.result Memory
             c.report_demonstration.ensures.folder h.0 (inr refl) h.1
       ];
     }

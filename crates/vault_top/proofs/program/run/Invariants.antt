@@ -1,3 +1,4 @@
+use Rattle.outside.specs.Calls.{next_of}
 use Rattle.outside.specs.Views.{folder_in}
 use Rattle.vault_top.specs.Span.{source_in, views_of}
 use Rattle.vault_top.specs.Sharing.{Begins, IsBegun}
@@ -6,12 +7,12 @@ use Rattle.vault_top.proofs.program.run.Given as goal
 abbrev pub ghosts-serve-B-Start : goal.ghosts-serve-B-Start
 ghosts-serve-B-Start g a = record {
   is = λ rows origin. Begins
-      (views_of g.D.Reads g.N.Listener g.N.Conn.Link g.E.Entropy)
+      (views_of g.D.Reads g.N.Listener g.N.Conn.Link g.E.Entropy g.K.Clock)
       a.folder a.workers.now.items rows origin;
 }
 
 abbrev pub ghosts-serve-B-Since : goal.ghosts-serve-B-Since
 ghosts-serve-B-Since g a = record {
   since = λ start keys rows. IsBegun a.service.kind (folder_in g.D.Reads a.folder)
-      (source_in g.S.Source a.secret.now) (g.K.Clock.second a.clock.now) start keys rows;
+      (source_in g.S.Source a.secret.now) (next_of (g.K.Clock.to_give a.clock.now)) start keys rows;
 }

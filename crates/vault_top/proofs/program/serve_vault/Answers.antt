@@ -10,7 +10,7 @@ returns g c =
     let outcome = c.serve_workers-served.result.outcome in
     let before = sink_in g.O.Sink c.args.out.now in
     let after = sink_in g.O.Sink c.match-serving.out in
-    let counted = counted_in _ _ _ _ _ _ _ e.0 c.serve_workers-served.result e.1 in
+    let counted = counted_in _ _ _ _ _ _ e.0 c.serve_workers-served.result e.1 in
     let reported : Reports e.0 outcome before after c.match-serving.status =
     elim c.match-serving.branch [
       | in-Ok w ↦

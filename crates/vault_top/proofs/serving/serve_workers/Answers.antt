@@ -10,11 +10,11 @@ use Rattle.vault_top.proofs.serving.serve_workers.Goals as goal
 
 pub returns-in-Ok : goal.returns-in-Ok
 returns-in-Ok g c =
-    let views = views_of g.D.Reads g.N.Listener g.N.Conn.Link g.E.Entropy in
+    let views = views_of g.D.Reads g.N.Listener g.N.Conn.Link g.E.Entropy g.K.Clock in
     let many : c.len.result ≡ length c.args.workers.now.items = (let len = c.len.ensures in let ok = c.args.workers.now.ok in omega arith) in
     let store = c.into_store.result in
     record {
-      served = served_all _ g.B.Start.is g.B.Since.since views (g.K.Clock.second c.args.clock.now) c.args.service c.args.workers.now.items c.serve_all.new.workers.items
+      served = served_all _ g.B.Start.is g.B.Since.since views c.args.service c.args.workers.now.items c.serve_all.new.workers.items
           c.in-Ok.field-0.tree store c.in-Ok.field-0.counts _ c.close-folder.result.0 c.sharers-at_once.result
           (c.sharers-at_once.ensures ∙ ap (λ (n : ℕ). min c.args.service.at_once n) many)
           c.in-Ok.ensures.joined

@@ -9,7 +9,7 @@ returns g c = record {
   second = _;
   workers = _;
   many = (let count = c.in_ok-workers.ensures.count in let ok = c.in_ok-workers.workers.ok in omega arith);
-  new = c.in_ok-workers.ensures.sound;
+  new = c.in_ok-workers.ensures.listening;
   workers_after = _;
   before = _;
   after = _;

@@ -3,17 +3,20 @@ use Rattle.vaultd.proofs.starting.serve_streams.Goals as goal
 
 pub returns : goal.returns
 returns g c = record {
-  folder = c.in_ok-folder.folder;
-  base = c.in_ok-folder.ensures.base;
-  secret = _;
-  second = _;
-  workers = _;
-  many = search rules;
-  new = search rules;
-  workers_after = _;
-  before = _;
-  after = _;
-  ended = c.run-ended.result;
-  run = c.run-ended.ensures.run;
-  status_is = refl;
+  run = record {
+    folder = c.in_ok-folder.folder;
+    base = c.in_ok-folder.ensures.base;
+    secret = _;
+    second = _;
+    workers = _;
+    many = search rules;
+    new = search rules;
+    workers_after = _;
+    before = _;
+    after = _;
+    ended = c.run-ended.result;
+    run = c.run-ended.ensures.run;
+    status_is = refl;
+  };
+  removed = refl;
 }

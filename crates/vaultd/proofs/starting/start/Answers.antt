@@ -23,5 +23,5 @@ returns-else-eq-2 g c =
     false≢true (sym c.if-eq.false ∙ c.eq.ensures ∙ (bytes_eq-Decides c.in_ok-places.places.address.now (codes "-")).1 e) in
     let some : c.in_ok-places.places.address.now ≡ [] → ⊥ = λ e.
     false≢true (sym c.if-eq-2.false ∙ c.eq-else-eq.ensures ∙ (bytes_eq-Decides c.in_ok-places.places.address.now []).1 e) in
-    started_open _ _ _ _ _ _ _ (words_of c.behind_name-words.result.now) (words_of (drop 1 c.args.args.now)) _ _ _ c.serve_socket-status.result
-    (ap words_of c.behind_name-words.ensures) c.in_ok-places.ensures isnt some c.clamp-at_once.ensures c.serve_socket-status.ensures
+    started_open _ _ _ _ _ _ _ (words_of c.behind_name-words.result.now) (words_of (drop 1 c.args.args.now)) _ _ _ c.serve_at.result
+    (ap words_of c.behind_name-words.ensures) c.in_ok-places.ensures isnt some c.serve_at.ensures

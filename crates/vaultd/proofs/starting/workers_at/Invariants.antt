@@ -6,5 +6,5 @@ use Rattle.vaultd.proofs.starting.workers_at.Given as goal
 abbrev pub invariant-loop : goal.invariant-loop
 invariant-loop g l = record {
   count : vec_len l.workers ≡ l.counter;
-  sound : AllByRecursion (λ worker. worker.listener.faults ≡ 0) l.workers.items;
+  listening : AllByRecursion (λ worker. (worker.listener.faults ≡ 0) × (worker.listener.socket.now ≡ l.socket)) l.workers.items;
 }

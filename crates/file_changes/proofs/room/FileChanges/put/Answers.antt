@@ -1,8 +1,8 @@
 use Rattle.std.proofs.Common.{◌≡◌, ℕ, None, sym, ap, subst, arith, length}
-use Rattle.outside.specs.Calls.{Told}
+use Rattle.outside.specs.Calls.{Changes, Told}
 use Rattle.outside.proofs.Told.{told_then}
 use Rattle.chunk_journal.specs.Journal.{IsQuiet}
-use Rattle.siv_mode.specs.Keys.{KeyPair}
+use Rattle.vault_keys.specs.Keys.{KeyPair}
 use Rattle.tree_loading.specs.Format.{sealing_of}
 use Rattle.content_laws.specs.Rewriting.{Rewriting, CanPutChunks}
 use Rattle.content_writer.specs.Sealed.{chunks_of}
@@ -12,8 +12,10 @@ use Rattle.file_changes.specs.Held.{rewritten_tree}
 use Rattle.file_changes.specs.Waiting.{IsAtRestOver}
 use Rattle.file_changes.proofs.Places.{is_held_file}
 use Rattle.file_changes.proofs.Putting.{same_rewriting}
-use Rattle.file_changes.proofs.Behind.{chunk_count_is, put_behind, ready, rests_after, told_file_behind, writes_put}
+use Rattle.file_changes.proofs.Behind.{FileBehind, IsPutBehind, chunk_count_is, put_behind, ready, rests_after, told_file_behind, writes_put}
 use Rattle.file_changes.proofs.room.FileChanges.put.Goals as goal
+use Rattle.file_changes.proofs.Standing.{TreeAfter, file_of}
+use Rattle.file_changes.proofs.room.FileChanges.put.Given.{Over}
 
 pub make_room-requires-clause-quiet : goal.make_room-requires-clause-quiet
 make_room-requires-clause-quiet g c =
@@ -40,38 +42,51 @@ put-requires-clause-file g c =
     let file = c.args.file.now in
     let back = c.args.back.now in
     let log = g.D.Reads.log back.folder in
+    let at : FileBehind = record { file = file_of tree c.args.number file.size c.requires.file.0 c.requires.file.1; path = file.path; path_is = c.requires.path; inside = c.requires.inside; waiting = back.waiting; log = log; rest = c.requires.rest } in
     told_file_behind back.waiting c.make_room.new.back.waiting file.path file.size c.requires.inside log (g.D.Reads.log c.make_room.new.back.folder)
-    (ready tree.keys tree.live tree.claims c.args.number file.size c.requires.file.0 c.requires.file.1 file.path c.requires.path c.requires.inside back.waiting log c.requires.rest) c.in_ok-make_room.ensures.flushed
+    (ready at) c.in_ok-make_room.ensures.flushed
 
 pub put_size-requires : goal.put_size-requires
 put_size-requires g c = record { file = is_held_file c.args.tree.now.live c.args.number c.args.file.now.size c.requires.file.0 c.requires.file.1 }
 
-pub returns-clause-written : goal.returns-clause-written
-returns-clause-written g c = λ change request answer drew drew' sealed its drawn.
-    let tree = c.args.tree.now in
+-- the file, with what waits laid over its folder
+abbrev at_of : (g : Over) (c : goal.After-put_size g) → FileBehind
+at_of g c = record {
+  file = file_of c.args.tree.now c.args.number c.args.file.now.size c.requires.file.0 c.requires.file.1;
+  path = c.args.file.now.path;
+  path_is = c.requires.path;
+  inside = c.requires.inside;
+  waiting = c.args.back.now.waiting;
+  log = g.D.Reads.log c.args.back.now.folder;
+  rest = c.requires.rest;
+}
+
+-- the tree in memory after it
+abbrev after_of : (g : Over) (c : goal.After-put_size g) → TreeAfter (at_of g c).file c.args.self.now.writer None c.args.now
+after_of g c = record {
+  live = c.put_size.new.tree.live;
+  claims = c.put_size.new.tree.claims;
+  live_is = subst (λ (size : ℕ). c.put_size.new.tree.live ≡ rewritten_tree c.args.tree.now.live c.args.number size None c.args.now) c.size.ensures c.put_size.ensures.live;
+  claims_are = c.put_size.ensures.claims;
+}
+
+-- what was sealed is behind what waited
+is_behind : (g : Over) (c : goal.After-put_size g) → Changes (g.D.Reads.log c.args.back.now.folder) (g.D.Reads.log c.put.new.self.folder)
+    (IsPutBehind c.args.file.now.path c.args.file.now.size c.args.self.now.writer c.args.back.now.waiting c.put.new.self.waiting)
+is_behind g c =
     let file = c.args.file.now in
-    let back = c.args.back.now in
-    let log = g.D.Reads.log back.folder in
     let r = c.args.self.now.writer in
     let same = same_rewriting r c.first.result c.size.result (chunks_of SEALED_LENGTH c.sealed.result.now) c.first.ensures c.sealed.ensures c.size.ensures in
-    let behind = put_behind file.path file.size r _ back.waiting c.make_room.new.back.waiting c.put.new.self.waiting log (g.D.Reads.log c.make_room.new.back.folder) (g.D.Reads.log c.put.new.self.folder) same
-    (ap (λ folder. g.D.Reads.log folder) c.put.ensures.folder) c.in_ok-make_room.ensures.flushed c.put.ensures.waiting c.put.ensures.waits c.put.ensures.rewritten in
-    let live_is = subst (λ (size : ℕ). c.put_size.new.tree.live ≡ rewritten_tree tree.live c.args.number size None c.args.now) c.size.ensures c.put_size.ensures.live in
-    writes_put tree.keys tree.live tree.claims c.args.number file.size c.requires.file.0 c.requires.file.1 file.path c.requires.path c.requires.inside back.waiting log c.requires.rest r change sealed c.args.now
-    c.put_size.new.tree.live c.put_size.new.tree.claims live_is c.put_size.ensures.claims c.put.new.self.waiting (g.D.Reads.log c.put.new.self.folder) behind request answer drew drew' its c.put_size.ensures.rows drawn
+    put_behind file.path file.size r _ c.args.back.now.waiting c.make_room.new.back.waiting c.put.new.self.waiting (g.D.Reads.log c.args.back.now.folder) (g.D.Reads.log c.make_room.new.back.folder) (g.D.Reads.log c.put.new.self.folder) same
+    (ap (λ folder. g.D.Reads.log folder) c.put.ensures.folder) c.in_ok-make_room.ensures.flushed c.put.ensures.waiting c.put.ensures.waits c.put.ensures.rewritten
+
+pub returns-clause-written : goal.returns-clause-written
+returns-clause-written g c = λ change request answer drew drew' sealed its drawn.
+    writes_put (at_of g c) c.args.self.now.writer change sealed c.args.now (after_of g c) c.put.new.self.waiting (g.D.Reads.log c.put.new.self.folder) (is_behind g c) request answer drew drew' its
+    c.put_size.ensures.rows drawn
 
 pub returns-clause-rest : goal.returns-clause-rest
 returns-clause-rest g c = λ change sealed.
-    let tree = c.args.tree.now in
     let new = c.put_size.new.tree in
-    let file = c.args.file.now in
-    let back = c.args.back.now in
-    let log = g.D.Reads.log back.folder in
-    let r = c.args.self.now.writer in
-    let same = same_rewriting r c.first.result c.size.result (chunks_of SEALED_LENGTH c.sealed.result.now) c.first.ensures c.sealed.ensures c.size.ensures in
-    let behind = put_behind file.path file.size r _ back.waiting c.make_room.new.back.waiting c.put.new.self.waiting log (g.D.Reads.log c.make_room.new.back.folder) (g.D.Reads.log c.put.new.self.folder) same
-    (ap (λ folder. g.D.Reads.log folder) c.put.ensures.folder) c.in_ok-make_room.ensures.flushed c.put.ensures.waiting c.put.ensures.waits c.put.ensures.rewritten in
-    let live_is = subst (λ (size : ℕ). c.put_size.new.tree.live ≡ rewritten_tree tree.live c.args.number size None c.args.now) c.size.ensures c.put_size.ensures.live in
     subst (λ (k : KeyPair). Told (g.D.Reads.log c.put.new.self.folder) (IsAtRestOver (sealing_of k) new.live new.claims c.put.new.self.waiting)) (sym c.put_size.ensures.keys)
-    (rests_after tree.keys tree.live tree.claims c.args.number file.size c.requires.file.0 c.requires.file.1 file.path c.requires.path c.requires.inside back.waiting log c.requires.rest r change sealed c.args.now
-    new.live new.claims live_is c.put_size.ensures.claims c.put.new.self.waiting (g.D.Reads.log c.put.new.self.folder) behind)
+    (rests_after (at_of g c) c.args.self.now.writer change sealed c.args.now (after_of g c) c.put.new.self.waiting (g.D.Reads.log c.put.new.self.folder) (is_behind g c))

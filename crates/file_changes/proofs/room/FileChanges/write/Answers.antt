@@ -1,17 +1,19 @@
 use Rattle.std.proofs.Common.{arith, None, length, refl, sym, ap, ◌∙◌}
-use Rattle.std.specs.Option.{option_map}
-use Rattle.pending_files.specs.Laid.{laid_log}
-use Rattle.tree_model.specs.Rows.{Content}
 use Rattle.tree_model.specs.Contents.{written}
 use Rattle.tree_model.specs.Asked.{write, count}
 use Rattle.tree_model.specs.Step.{says}
-use Rattle.siv_mode.specs.Keys.{KeyPair}
+use Rattle.vault_keys.specs.Keys.{KeyPair}
 use Rattle.tree_loading.specs.Format.{sealing_of}
 use Rattle.file_changes.specs.Waiting.{HasWritten, IsAtRestOver}
 use Rattle.file_changes.proofs.Telling.{never_early, content_refused, content_cause, request_cause}
-use Rattle.file_changes.proofs.Behind.{changed_since, kept_log, kept_waiting, not_flushed, put_of, sealed_still, stands_laid, told_still}
-use Rattle.file_changes.proofs.Writes.{writes_content}
+use Rattle.file_changes.proofs.Behind.{behind_read, changed_since, kept_log, kept_waiting, not_flushed, put_of, sealed_still, told_still}
+use Rattle.file_changes.proofs.Writes.{writing_of}
 use Rattle.file_changes.proofs.room.FileChanges.write.Goals as goal
+use Rattle.file_changes.proofs.Standing.{file_of}
+use Rattle.file_changes.proofs.room.FileChanges.write.Given.{Over}
+use Rattle.file_changes.specs.Files.{IsSealedIn}
+use Rattle.std.specs.Option.{option_map}
+use Rattle.pending_files.specs.Laid.{laid_log}
 
 pub seal_write-requires-clause-sized : goal.seal_write-requires-clause-sized
 seal_write-requires-clause-sized g c = (c.requires.file.clear, (c.sealed_file-file.ensures.file _ _ c.requires.file.is).sized, omega (arith, c.requires.file.gap))
@@ -26,26 +28,31 @@ put-requires-clause-rest g c =
 pub put-requires-clause-file : goal.put-requires-clause-file
 put-requires-clause-file g c = (c.requires.file.clear, c.sealed_file-file.ensures.file _ _ c.requires.file.is)
 
+-- what is sealed is still so on what was read
+sealed_amid : (g : Over) (c : goal.In-Ok-put g) → IsSealedIn c.args.tree.now.keys c.sealed_file-file.result.path c.sealed_file-file.result.size c.seal_write.new.self (λ content. written content c.args.at c.args.bytes.now)
+    (option_map (laid_log c.seal_write.new.folder.waiting) (g.D.Reads.log c.seal_write.new.folder.folder))
+sealed_amid g c =
+    let file = c.sealed_file-file.result in
+    let back = c.args.back.now in
+    let between = c.seal_write.new.folder in
+    sealed_still back.waiting between.waiting (g.D.Reads.log back.folder) (g.D.Reads.log between.folder) c.in-Ok.ensures.log c.args.tree.now.keys c.keys-2.result.now file.path file.size c.seal_write.new.self
+    (λ content. written content c.args.at c.args.bytes.now) c.keys-2.ensures c.in-Ok.ensures.written
+
 pub returns-in-Ok-put-clause-nonces : goal.returns-in-Ok-put-clause-nonces
 returns-in-Ok-put-clause-nonces g c =
     let tree = c.args.tree.now in
     let new = c.put.new.tree in
-    let file = c.sealed_file-file.result in
+    let file = file_of c.args.tree.now c.args.number c.sealed_file-file.result.size c.requires.file.clear (c.sealed_file-file.ensures.file _ _ c.requires.file.is) in
+    let asked = writing_of file (sym (ap (λ (k : KeyPair). length k.enc) c.keys.ensures) ∙ c.have_32_bytes.ensures.enc) c.args.at c.args.bytes.now c.requires.some c.requires.file c.args.now in
     let back = c.args.back.now in
     let between = c.seal_write.new.folder in
     let before = g.D.Reads.log back.folder in
     let amid = g.D.Reads.log between.folder in
-    let request = write c.args.number c.args.at c.args.bytes.now in
-    let answer = says (count (length c.args.bytes.now)) in
-    let change = λ (content : Content). written content c.args.at c.args.bytes.now in
-    let key = sym (ap (λ (k : KeyPair). length k.enc) c.keys.ensures) ∙ c.have_32_bytes.ensures.enc in
-    let its = writes_content tree.keys key tree.live tree.claims c.args.number c.args.at c.args.bytes.now c.requires.some c.requires.file c.args.now in
-    let sealed = sealed_still back.waiting between.waiting before amid c.in-Ok.ensures.log tree.keys c.keys-2.result.now file.path file.size c.seal_write.new.self change c.keys-2.ensures c.in-Ok.ensures.written in
     let drew = g.E.Entropy.drawn c.args.entropy.now in
     let drew' = g.E.Entropy.drawn c.seal_write.new.entropy in
     changed_since back.waiting between.waiting before amid c.in-Ok.ensures.log
-    (λ waiting. HasWritten (sealing_of tree.keys) request c.args.now answer tree.live new.live tree.claims new.claims waiting c.put.new.back.waiting drew drew') (g.D.Reads.log c.put.new.back.folder)
-    (c.in-Ok-put.ensures.written change request answer drew drew' sealed its c.in-Ok.ensures.drawn)
+    (λ waiting. HasWritten (sealing_of tree.keys) asked.request c.args.now asked.answer tree.live new.live tree.claims new.claims waiting c.put.new.back.waiting drew drew') (g.D.Reads.log c.put.new.back.folder)
+    (c.in-Ok-put.ensures.written asked.change asked.request asked.answer drew drew' (sealed_amid g c) asked.its c.in-Ok.ensures.drawn)
 
 pub returns-in-Ok-put-clause-put : goal.returns-in-Ok-put-clause-put
 returns-in-Ok-put-clause-put g c =
@@ -56,43 +63,24 @@ returns-in-Ok-put-clause-put g c =
     (g.E.Entropy.drawn c.args.entropy.now) (g.E.Entropy.drawn c.seal_write.new.entropy) (g.D.Reads.log back.folder) (g.D.Reads.log c.put.new.back.folder) (returns-in-Ok-put-clause-nonces g c)
 
 pub returns-in-Ok-put-clause-rest_after : goal.returns-in-Ok-put-clause-rest_after
-returns-in-Ok-put-clause-rest_after g c =
-    let tree = c.args.tree.now in
-    let file = c.sealed_file-file.result in
-    let back = c.args.back.now in
-    let between = c.seal_write.new.folder in
-    let change = λ (content : Content). written content c.args.at c.args.bytes.now in
-    c.in-Ok-put.ensures.rest change
-    (sealed_still back.waiting between.waiting (g.D.Reads.log back.folder) (g.D.Reads.log between.folder) c.in-Ok.ensures.log tree.keys c.keys-2.result.now file.path file.size c.seal_write.new.self change c.keys-2.ensures
-    c.in-Ok.ensures.written)
+returns-in-Ok-put-clause-rest_after g c = c.in-Ok-put.ensures.rest (λ content. written content c.args.at c.args.bytes.now) (sealed_amid g c)
 
 pub returns-in-Err-put-clause-broken : goal.returns-in-Err-put-clause-broken
 returns-in-Err-put-clause-broken g c =
-    let tree = c.args.tree.now in
+    let file = file_of c.args.tree.now c.args.number c.sealed_file-file.result.size c.requires.file.clear (c.sealed_file-file.ensures.file _ _ c.requires.file.is) in
+    let asked = writing_of file (sym (ap (λ (k : KeyPair). length k.enc) c.keys.ensures) ∙ c.have_32_bytes.ensures.enc) c.args.at c.args.bytes.now c.requires.some c.requires.file c.args.now in
     let back = c.args.back.now in
     let between = c.seal_write.new.folder in
-    let request = write c.args.number c.args.at c.args.bytes.now in
-    let key = sym (ap (λ (k : KeyPair). length k.enc) c.keys.ensures) ∙ c.have_32_bytes.ensures.enc in
-    let its = writes_content tree.keys key tree.live tree.claims c.args.number c.args.at c.args.bytes.now c.requires.some c.requires.file c.args.now in
-    not_flushed back.waiting between.waiting (g.D.Reads.log back.folder) (g.D.Reads.log between.folder) c.in-Ok.ensures.log (sealing_of tree.keys) request tree.live tree.claims
-    (never_early (sealing_of tree.keys) tree.live tree.claims c.args.number (λ content. written content c.args.at c.args.bytes.now) None c.args.now request (says (count (length c.args.bytes.now))) its)
+    not_flushed back.waiting between.waiting (g.D.Reads.log back.folder) (g.D.Reads.log between.folder) c.in-Ok.ensures.log (sealing_of file.keys) asked.request file.live file.claims
+    (never_early (sealing_of file.keys) file.live file.claims c.args.number asked.change None c.args.now asked.request asked.answer asked.its)
     (g.D.Reads.log c.put.new.back.folder) c.in-Err-put.ensures.any_moment
 
 pub returns-in-Err-clause-refused : goal.returns-in-Err-clause-refused
 returns-in-Err-clause-refused g c =
-    let keys = c.args.tree.now.keys in
-    let live = c.args.tree.now.live in
-    let claims = c.args.tree.now.claims in
-    let file = c.sealed_file-file.result in
-    let is = c.sealed_file-file.ensures.file _ _ c.requires.file.is in
-    let path_is = c.sealed_file-file.ensures.path in
-    let back = c.args.back.now in
-    let key = sym (ap (λ (k : KeyPair). length k.enc) c.keys.ensures) ∙ c.have_32_bytes.ensures.enc in
-    let its = writes_content keys key live claims c.args.number c.args.at c.args.bytes.now c.requires.some c.requires.file c.args.now in
-    let log = option_map (laid_log back.waiting) (g.D.Reads.log back.folder) in
-    let stands = stands_laid (sealing_of keys) live claims back.waiting (g.D.Reads.log back.folder) c.requires.rest in
-    content_refused keys c.keys-2.result.now c.keys-2.ensures live claims c.args.number file.size c.requires.file.clear is file.path path_is log stands
-    (λ content. written content c.args.at c.args.bytes.now) None c.args.now (write c.args.number c.args.at c.args.bytes.now) (says (count (length c.args.bytes.now))) its c.in-Err.cause c.refusal_of.result c.refusal_of.ensures c.in-Err.ensures.damaged
+    let file = file_of c.args.tree.now c.args.number c.sealed_file-file.result.size c.requires.file.clear (c.sealed_file-file.ensures.file _ _ c.requires.file.is) in
+    let at = behind_read file c.sealed_file-file.result.path c.sealed_file-file.ensures.path c.keys-2.result.now c.keys-2.ensures c.args.back.now.waiting (g.D.Reads.log c.args.back.now.folder) c.requires.rest in
+    let asked = writing_of file (sym (ap (λ (k : KeyPair). length k.enc) c.keys.ensures) ∙ c.have_32_bytes.ensures.enc) c.args.at c.args.bytes.now c.requires.some c.requires.file c.args.now in
+    content_refused at asked c.in-Err.cause c.refusal_of.result c.refusal_of.ensures c.in-Err.ensures.damaged
 
 pub returns-in-Err-clause-unchanged : goal.returns-in-Err-clause-unchanged
 returns-in-Err-clause-unchanged g c =
@@ -108,28 +96,12 @@ returns-in-Err-clause-waiting g c =
 
 pub returns-in-Err-clause-cause : goal.returns-in-Err-clause-cause
 returns-in-Err-clause-cause g c =
-    let keys = c.args.tree.now.keys in
-    let live = c.args.tree.now.live in
-    let claims = c.args.tree.now.claims in
-    let file = c.sealed_file-file.result in
-    let is = c.sealed_file-file.ensures.file _ _ c.requires.file.is in
-    let path_is = c.sealed_file-file.ensures.path in
-    let back = c.args.back.now in
-    let log = option_map (laid_log back.waiting) (g.D.Reads.log back.folder) in
-    let stands = stands_laid (sealing_of keys) live claims back.waiting (g.D.Reads.log back.folder) c.requires.rest in
-    request_cause keys c.keys-2.result.now c.keys-2.ensures live claims c.args.number file.size c.requires.file.clear is file.path path_is log stands
-    c.in-Err.cause c.refusal_of.result c.refusal_of.ensures _ _ _ c.in-Err.ensures.device c.in-Err.ensures.random (write c.args.number c.args.at c.args.bytes.now)
+    let file = file_of c.args.tree.now c.args.number c.sealed_file-file.result.size c.requires.file.clear (c.sealed_file-file.ensures.file _ _ c.requires.file.is) in
+    let at = behind_read file c.sealed_file-file.result.path c.sealed_file-file.ensures.path c.keys-2.result.now c.keys-2.ensures c.args.back.now.waiting (g.D.Reads.log c.args.back.now.folder) c.requires.rest in
+    request_cause at c.in-Err.cause c.refusal_of.result c.refusal_of.ensures _ _ _ c.in-Err.ensures.device c.in-Err.ensures.random (write c.args.number c.args.at c.args.bytes.now)
 
 pub returns-in-Err-clause-own : goal.returns-in-Err-clause-own
 returns-in-Err-clause-own g c =
-    let keys = c.args.tree.now.keys in
-    let live = c.args.tree.now.live in
-    let claims = c.args.tree.now.claims in
-    let file = c.sealed_file-file.result in
-    let is = c.sealed_file-file.ensures.file _ _ c.requires.file.is in
-    let path_is = c.sealed_file-file.ensures.path in
-    let back = c.args.back.now in
-    let log = option_map (laid_log back.waiting) (g.D.Reads.log back.folder) in
-    let stands = stands_laid (sealing_of keys) live claims back.waiting (g.D.Reads.log back.folder) c.requires.rest in
-    content_cause keys c.keys-2.result.now c.keys-2.ensures live claims c.args.number file.size c.requires.file.clear is file.path path_is log stands
-    c.in-Err.cause c.refusal_of.result c.refusal_of.ensures _ _ _ c.in-Err.ensures.device c.in-Err.ensures.random
+    let file = file_of c.args.tree.now c.args.number c.sealed_file-file.result.size c.requires.file.clear (c.sealed_file-file.ensures.file _ _ c.requires.file.is) in
+    let at = behind_read file c.sealed_file-file.result.path c.sealed_file-file.ensures.path c.keys-2.result.now c.keys-2.ensures c.args.back.now.waiting (g.D.Reads.log c.args.back.now.folder) c.requires.rest in
+    content_cause at c.in-Err.cause c.refusal_of.result c.refusal_of.ensures _ _ _ c.in-Err.ensures.device c.in-Err.ensures.random

@@ -3,7 +3,7 @@ use Rattle.outside.specs.Images.{disk_in}
 use Rattle.outside.proofs.Told.{told_then, told_always}
 use Rattle.deeds.specs.Plain.{plains}
 use Rattle.tree_loading.specs.Format.{sealing_of}
-use Rattle.node_changes.proofs.Named.{name_refused, memory_refused, place_refused, deeds_refused, can_be_given}
+use Rattle.node_changes.proofs.Named.{naming_of, name_refused, memory_refused, place_refused, deeds_refused, can_be_given}
 use Rattle.node_changes.proofs.tree.VaultTree.give_name.Goals as goal
 
 pub returns-in_err-new-clause-refused : goal.returns-in_err-new-clause-refused
@@ -16,23 +16,32 @@ pub returns-in_err-check_place-clause-refused : goal.returns-in_err-check_place-
 returns-in_err-check_place-clause-refused g c =
     let p = err_from_is_err_and c.from_residual-in_err-check_place.result c.from_residual-in_err-check_place.ensures.1 in
     rw (p.1, p.2, ← c.in_ok-new.ensures.name)
-    (place_refused c.args.self.now.keys c.entries_are_parts.ensures c.args.self.now.live c.args.self.now.claims c.args.number c.in_ok-new.new c.in_ok-new.ensures.new c.args.modified c.args.now
+    (place_refused (naming_of c.args.self.now c.entries_are_parts.ensures c.args.number c.in_ok-new.new c.in_ok-new.ensures.new c.args.modified c.args.now)
     (disk_in (g.R.Reads.log c.args.folder.now)) _ c.in_err-check_place.field-0.0 c.in_err-check_place.ensures.refusal)
 
 pub returns-in_err-deeds-clause-refused : goal.returns-in_err-deeds-clause-refused
 returns-in_err-deeds-clause-refused g c =
     let p = err_from_is_err_and c.from_residual-in_err-deeds.result c.from_residual-in_err-deeds.ensures.1 in
     rw (p.1, p.2, ← c.in_ok-new.ensures.name)
-    (deeds_refused c.args.self.now.keys c.entries_are_parts.ensures c.args.self.now.live c.args.self.now.claims c.args.number c.in_ok-new.new c.in_ok-new.ensures.new c.args.modified c.args.now
+    (deeds_refused (naming_of c.args.self.now c.entries_are_parts.ensures c.args.number c.in_ok-new.new c.in_ok-new.ensures.new c.args.modified c.args.now)
     c.are_texts.ensures (disk_in (g.R.Reads.log c.args.folder.now)) c.in_ok-check_place.ensures.untaken c.in_err-deeds.field-0.0 c.in_err-deeds.ensures.refusal)
 
 pub returns-in-Ok-clause-made : goal.returns-in-Ok-clause-made
 returns-in-Ok-clause-made g c =
     rw (← c.in_ok-new.ensures.name, c.put_name.ensures.claims)
     (told_then (disk_in (g.R.Reads.log c.args.folder.now)) _ _ c.in_ok-check_place.ensures.untaken (λ d untaken contents stands.
-    can_be_given c.args.self.now.keys c.entries_are_parts.ensures c.args.self.now.live c.args.self.now.claims c.args.number c.in_ok-new.new c.in_ok-new.ensures.new c.args.modified c.args.now
-    c.are_texts.ensures c.kept_claims.ensures c.claims_are_whole.ensures c.put_name.new.self.live (plains c.in_ok-deeds.deeds.items) c.in_ok-deeds.ensures.deeds c.in-Ok.ensures.live c.in-Ok.ensures.rows
-    d untaken contents stands))
+    can_be_given (naming_of c.args.self.now c.entries_are_parts.ensures c.args.number c.in_ok-new.new c.in_ok-new.ensures.new c.args.modified c.args.now) (record {
+      texts = c.are_texts.ensures;
+      kept = c.kept_claims.ensures;
+      whole = c.claims_are_whole.ensures;
+      live' = c.put_name.new.self.live;
+      deeds = plains c.in_ok-deeds.deeds.items;
+      naming = c.in_ok-deeds.ensures.deeds;
+      named = c.in-Ok.ensures.live;
+      rows = c.in-Ok.ensures.rows;
+      d = d;
+      untaken = untaken;
+    }) contents stands))
 
 pub returns-in-Err-clause-refused : goal.returns-in-Err-clause-refused
 returns-in-Err-clause-refused g c =

@@ -13,7 +13,7 @@ use Rattle.name_places.specs.Asked.{IsTaken}
 use Rattle.name_places.specs.Asked.{identifier_in as drawn_in}
 use Rattle.node_changes.specs.Placed.{GoesOn, IsIdentifierOf}
 use Rattle.node_changes.specs.Creating.{DrawsHead, DrawsIf, IsPlaceRefusal, IsRefusal, IsUntaken, MakesOn, new_qid}
-use Rattle.node_changes.proofs.Draws.{no_draw, file_draw, drew_directory, found_taken, never_taken, own_folder, directory_drawn, header_drawn, head_changes, header_partly, cause_more, site_refused, random_refused, memory_refused, place_refused, untaken}
+use Rattle.node_changes.proofs.Draws.{asked_of, no_draw, file_draw, drew_directory, found_taken, never_taken, own_folder, directory_drawn, header_drawn, head_changes, header_partly, cause_more, site_refused, random_refused, memory_refused, place_refused, untaken}
 use Rattle.node_changes.proofs.tree.VaultTree.make.Goals as goal
 
 pub returns-in_err-site-clause-refused : goal.returns-in_err-site-clause-refused
@@ -39,65 +39,51 @@ returns-in_err-site-clause-cause g c = λ mode.
 
 pub returns-in_default-clause-refused : goal.returns-in_default-clause-refused
 returns-in_default-clause-refused g c = λ mode.
-    let old = c.args.self.now in
-    let s = sealing_of c.args.self.now.keys in
-    let asked = create c.args.parent c.args.name.now c.args.is_dir mode in
+    let asked = asked_of c.args.self.now c.entries_are_parts.ensures c.args.parent c.in_ok-site.site c.in_ok-site.ensures.site c.len-count.ensures.tree c.args.name.now c.in_ok-site.ensures.name c.args.is_dir mode c.args.now in
     let drew = g.E.Entropy.drawn c.args.entropy.now in
     let drew' = g.E.Entropy.drawn c.draw_directory.new.entropy in
     record {
       drawn = None;
       draw = no_draw c.args.is_dir drew drew' c.in_default.ensures.unspent;
-      refused = told_always (disk_in (g.R.Reads.log c.args.folder.now)) (IsRefusal s asked c.args.now None refusals.RandomFault old.live old.claims)
-          (random_refused old.keys c.entries_are_parts.ensures old.live old.claims c.args.parent c.in_ok-site.site c.in_ok-site.ensures.site c.len-count.ensures.tree c.args.name.now c.in_ok-site.ensures.name c.args.is_dir mode c.args.now None);
+      refused = told_always (disk_in (g.R.Reads.log c.args.folder.now)) _ (random_refused asked None);
       found = λ path is file. c.in_default.ensures.unspent;
     }
 
 pub returns-in_err-check_places-clause-refused : goal.returns-in_err-check_places-clause-refused
 returns-in_err-check_places-clause-refused g c = λ mode.
-    let old = c.args.self.now in
+    let asked = asked_of c.args.self.now c.entries_are_parts.ensures c.args.parent c.in_ok-site.site c.in_ok-site.ensures.site c.len-count.ensures.tree c.args.name.now c.in_ok-site.ensures.name c.args.is_dir mode c.args.now in
     let drew = g.E.Entropy.drawn c.args.entropy.now in
     let drew' = g.E.Entropy.drawn c.draw_directory.new.entropy in
-    let disk = disk_in (g.R.Reads.log c.args.folder.now) in
     let failed = Rose (g.R.Reads.faults c.args.folder.now) (g.R.Reads.faults c.check_places.new.folder) in
-    let directory = c.in-Ok.directory in
-    let draws = c.in-Ok.ensures.drawn in
     let p = err_from_is_err_and c.from_residual-in_err-check_places.result c.from_residual-in_err-check_places.ensures.1 in
     rw (p.1, p.2) (record {
-      drawn = drawn_in directory;
-      draw = drew_directory old.keys c.args.is_dir directory drew drew' draws;
-      refused = place_refused old.keys c.entries_are_parts.ensures old.live old.claims c.args.parent c.in_ok-site.site c.in_ok-site.ensures.site c.len-count.ensures.tree c.args.name.now c.in_ok-site.ensures.name c.args.is_dir mode c.args.now
-          disk directory (own_folder old.keys c.args.is_dir directory drew drew' draws) failed c.in_err-check_places.field-0.0
+      drawn = drawn_in c.in-Ok.directory;
+      draw = drew_directory c.args.self.now.keys c.args.is_dir c.in-Ok.directory drew drew' c.in-Ok.ensures.drawn;
+      refused = place_refused asked (disk_in (g.R.Reads.log c.args.folder.now)) c.in-Ok.directory (own_folder c.args.self.now.keys c.args.is_dir c.in-Ok.directory drew drew' c.in-Ok.ensures.drawn) failed c.in_err-check_places.field-0.0
           (subst (λ (o : Option NewDirectory). IsPlaceRefusal c.in_ok-site.site o c.args.self.now.live c.args.self.now.claims (disk_in (g.R.Reads.log c.args.folder.now)) (Rose (g.R.Reads.faults c.args.folder.now) (g.R.Reads.faults c.check_places.new.folder)) c.in_err-check_places.field-0.0)
           c.as_ref.ensures.value c.in_err-check_places.ensures.refusal);
-      found = found_taken old.keys c.args.is_dir directory drew drew' c.in_err-check_places.field-0.0 draws;
+      found = found_taken c.args.self.now.keys c.args.is_dir c.in-Ok.directory drew drew' c.in_err-check_places.field-0.0 c.in-Ok.ensures.drawn;
     })
 
 pub returns-in_default-draw_header-clause-refused : goal.returns-in_default-draw_header-clause-refused
 returns-in_default-draw_header-clause-refused g c = λ mode.
-    let old = c.args.self.now in
-    let s = sealing_of c.args.self.now.keys in
-    let asked = create c.args.parent c.args.name.now c.args.is_dir mode in
+    let asked = asked_of c.args.self.now c.entries_are_parts.ensures c.args.parent c.in_ok-site.site c.in_ok-site.ensures.site c.len-count.ensures.tree c.args.name.now c.in_ok-site.ensures.name c.args.is_dir mode c.args.now in
     let drew = g.E.Entropy.drawn c.args.entropy.now in
-    let mid = g.E.Entropy.drawn c.draw_directory.new.entropy in
     let drew' = g.E.Entropy.drawn c.draw_header.new.entropy in
     let none = subst (λ (o : Option NewDirectory). DrawsIf c.args.self.now.keys c.args.is_dir o (g.E.Entropy.drawn c.args.entropy.now) (g.E.Entropy.drawn c.draw_directory.new.entropy)) c.in-None.is c.in-Ok.ensures.drawn in
     record {
       drawn = None;
-      draw = file_draw c.args.is_dir drew drew' none.0 (header_partly drew mid drew' none.1 c.in_default-draw_header.ensures.partly);
-      refused = told_always (disk_in (g.R.Reads.log c.args.folder.now)) (IsRefusal s asked c.args.now None refusals.RandomFault old.live old.claims)
-          (random_refused old.keys c.entries_are_parts.ensures old.live old.claims c.args.parent c.in_ok-site.site c.in_ok-site.ensures.site c.len-count.ensures.tree c.args.name.now c.in_ok-site.ensures.name c.args.is_dir mode c.args.now None);
+      draw = file_draw c.args.is_dir drew drew' none.0 (header_partly drew (g.E.Entropy.drawn c.draw_directory.new.entropy) drew' none.1 c.in_default-draw_header.ensures.partly);
+      refused = told_always (disk_in (g.R.Reads.log c.args.folder.now)) _ (random_refused asked None);
       found = never_taken c.args.is_dir drew drew' refusals.RandomFault (λ path is. absurd cc);
     }
 
 pub returns-in-Ok-make_directory-clause-ready : goal.returns-in-Ok-make_directory-clause-ready
 returns-in-Ok-make_directory-clause-ready g c = λ mode.
-    let old = c.args.self.now in
+    let asked = asked_of c.args.self.now c.entries_are_parts.ensures c.args.parent c.in_ok-site.site c.in_ok-site.ensures.site c.len-count.ensures.tree c.args.name.now c.in_ok-site.ensures.name c.args.is_dir mode c.args.now in
     let new = c.make_directory.new.self in
     let drew = g.E.Entropy.drawn c.args.entropy.now in
     let drew' = g.E.Entropy.drawn c.draw_directory.new.entropy in
-    let disk = disk_in (g.R.Reads.log c.args.folder.now) in
-    let directory = c.in-Ok.directory in
-    let draws = c.in-Ok.ensures.drawn in
     let some = subst (λ (o : Option NewDirectory). DrawsIf c.args.self.now.keys c.args.is_dir o (g.E.Entropy.drawn c.args.entropy.now) (g.E.Entropy.drawn c.draw_directory.new.entropy)) c.in-Some.is c.in-Ok.ensures.drawn in
     let made = c.in-Ok-make_directory.ensures.deeds in
     record {
@@ -112,72 +98,58 @@ returns-in-Ok-make_directory-clause-ready g c = λ mode.
           c.args.self.now.live c.make_directory.new.self.live c.args.self.now.claims c.make_directory.new.self.claims (plains c.in-Ok-make_directory.deeds.items)) (sym some.0)
           (c.in-Ok-make_directory.ensures.makes c.args.name.now mode c.in_ok-site.ensures.name);
       untaken = subst (λ (o : Option NewDirectory). Told (disk_in (g.R.Reads.log c.args.folder.now)) (IsUntaken (sealing_of c.args.self.now.keys) (create c.args.parent c.args.name.now c.args.is_dir mode) (drawn_in o) c.args.self.now.live c.args.self.now.claims)) c.in-Some.is
-          (untaken old.keys c.entries_are_parts.ensures old.live old.claims c.args.parent c.in_ok-site.site c.in_ok-site.ensures.site c.len-count.ensures.tree c.args.name.now c.in_ok-site.ensures.name c.args.is_dir mode c.args.now
-          disk directory (own_folder old.keys c.args.is_dir directory drew drew' draws)
+          (untaken asked (disk_in (g.R.Reads.log c.args.folder.now)) c.in-Ok.directory (own_folder c.args.self.now.keys c.args.is_dir c.in-Ok.directory drew drew' c.in-Ok.ensures.drawn)
           (subst (λ (o : Option NewDirectory). Told (disk_in (g.R.Reads.log c.args.folder.now)) (IsTaken c.in_ok-site.site.folder c.in_ok-site.site.place o c.args.self.now.live c.args.self.now.claims None)) c.as_ref.ensures.value c.in_ok-check_places.ensures.untaken));
       made_of = record {
-        directory = directory_drawn old.keys drew drew' c.in-Some.directory some.1 made.0 made.1 (plains c.in-Ok-make_directory.deeds.items) made.2;
+        directory = directory_drawn c.args.self.now.keys drew drew' c.in-Some.directory some.1 made.0 made.1 (plains c.in-Ok-make_directory.deeds.items) made.2;
         file = λ e. absurd cc;
       };
     }
 
 pub returns-in-Err-clause-refused : goal.returns-in-Err-clause-refused
 returns-in-Err-clause-refused g c = λ mode.
-    let old = c.args.self.now in
-    let s = sealing_of c.args.self.now.keys in
-    let asked = create c.args.parent c.args.name.now c.args.is_dir mode in
+    let asked = asked_of c.args.self.now c.entries_are_parts.ensures c.args.parent c.in_ok-site.site c.in_ok-site.ensures.site c.len-count.ensures.tree c.args.name.now c.in_ok-site.ensures.name c.args.is_dir mode c.args.now in
     let drew = g.E.Entropy.drawn c.args.entropy.now in
     let drew' = g.E.Entropy.drawn c.draw_directory.new.entropy in
-    let directory = c.in-Ok.directory in
     record {
-      drawn = drawn_in directory;
-      draw = drew_directory old.keys c.args.is_dir directory drew drew' c.in-Ok.ensures.drawn;
-      refused = told_always (disk_in (g.R.Reads.log c.args.folder.now)) (IsRefusal s asked c.args.now (drawn_in directory) refusals.OutOfMemory old.live old.claims)
-          (memory_refused old.keys c.entries_are_parts.ensures old.live old.claims c.args.parent c.in_ok-site.site c.in_ok-site.ensures.site c.len-count.ensures.tree c.args.name.now c.in_ok-site.ensures.name c.args.is_dir mode c.args.now (drawn_in directory));
+      drawn = drawn_in c.in-Ok.directory;
+      draw = drew_directory c.args.self.now.keys c.args.is_dir c.in-Ok.directory drew drew' c.in-Ok.ensures.drawn;
+      refused = told_always (disk_in (g.R.Reads.log c.args.folder.now)) _ (memory_refused asked (drawn_in c.in-Ok.directory));
       found = never_taken c.args.is_dir drew drew' refusals.OutOfMemory (λ path is. absurd cc);
     }
 
 pub returns-in-Ok-make_file-clause-ready : goal.returns-in-Ok-make_file-clause-ready
 returns-in-Ok-make_file-clause-ready g c = λ mode.
-    let old = c.args.self.now in
+    let asked = asked_of c.args.self.now c.entries_are_parts.ensures c.args.parent c.in_ok-site.site c.in_ok-site.ensures.site c.len-count.ensures.tree c.args.name.now c.in_ok-site.ensures.name c.args.is_dir mode c.args.now in
     let drew = g.E.Entropy.drawn c.args.entropy.now in
-    let mid = g.E.Entropy.drawn c.draw_directory.new.entropy in
     let drew' = g.E.Entropy.drawn c.draw_header.new.entropy in
-    let disk = disk_in (g.R.Reads.log c.args.folder.now) in
-    let directory = c.in-Ok.directory in
-    let draws = c.in-Ok.ensures.drawn in
     let none = subst (λ (o : Option NewDirectory). DrawsIf c.args.self.now.keys c.args.is_dir o (g.E.Entropy.drawn c.args.entropy.now) (g.E.Entropy.drawn c.draw_directory.new.entropy)) c.in-None.is c.in-Ok.ensures.drawn in
     let head = subst (λ (d : Option (List ℕ)). DrawsHead c.args.self.now.keys d (g.E.Entropy.drawn c.draw_header.new.entropy) c.in-Ok-draw_header.header) none.1 c.in-Ok-draw_header.ensures.drawn in
     let made = c.in-Ok-make_file.ensures.deeds in
     record {
       drawn = None;
-      draw = file_draw c.args.is_dir drew drew' none.0 (head_changes old.keys drew drew' c.in-Ok-draw_header.header head);
+      draw = file_draw c.args.is_dir drew drew' none.0 (head_changes c.args.self.now.keys drew drew' c.in-Ok-draw_header.header head);
       makes = subst (λ (b : Bool). MakesOn (sealing_of c.args.self.now.keys) (create c.args.parent c.args.name.now b mode) c.args.now (says (qid (new_qid c.args.self.now.live b))) None
           c.args.self.now.live c.make_file.new.self.live c.args.self.now.claims c.make_file.new.self.claims (plains c.in-Ok-make_file.deeds.items)) (sym none.0)
           (c.in-Ok-make_file.ensures.makes c.args.name.now mode c.in_ok-site.ensures.name);
       untaken = subst (λ (o : Option NewDirectory). Told (disk_in (g.R.Reads.log c.args.folder.now)) (IsUntaken (sealing_of c.args.self.now.keys) (create c.args.parent c.args.name.now c.args.is_dir mode) (drawn_in o) c.args.self.now.live c.args.self.now.claims)) c.in-None.is
-          (untaken old.keys c.entries_are_parts.ensures old.live old.claims c.args.parent c.in_ok-site.site c.in_ok-site.ensures.site c.len-count.ensures.tree c.args.name.now c.in_ok-site.ensures.name c.args.is_dir mode c.args.now
-          disk directory (own_folder old.keys c.args.is_dir directory drew mid draws)
+          (untaken asked (disk_in (g.R.Reads.log c.args.folder.now)) c.in-Ok.directory (own_folder c.args.self.now.keys c.args.is_dir c.in-Ok.directory drew (g.E.Entropy.drawn c.draw_directory.new.entropy) c.in-Ok.ensures.drawn)
           (subst (λ (o : Option NewDirectory). Told (disk_in (g.R.Reads.log c.args.folder.now)) (IsTaken c.in_ok-site.site.folder c.in_ok-site.site.place o c.args.self.now.live c.args.self.now.claims None)) c.as_ref.ensures.value c.in_ok-check_places.ensures.untaken));
       made_of = record {
         directory = tt;
-        file = λ e. header_drawn old.keys drew drew' c.in-Ok-draw_header.header head made.0 made.1 (plains c.in-Ok-make_file.deeds.items) made.2;
+        file = λ e. header_drawn c.args.self.now.keys drew drew' c.in-Ok-draw_header.header head made.0 made.1 (plains c.in-Ok-make_file.deeds.items) made.2;
       };
     }
 
 pub returns-in-Err-make_file-clause-refused : goal.returns-in-Err-make_file-clause-refused
 returns-in-Err-make_file-clause-refused g c = λ mode.
-    let old = c.args.self.now in
-    let s = sealing_of c.args.self.now.keys in
-    let asked = create c.args.parent c.args.name.now c.args.is_dir mode in
+    let asked = asked_of c.args.self.now c.entries_are_parts.ensures c.args.parent c.in_ok-site.site c.in_ok-site.ensures.site c.len-count.ensures.tree c.args.name.now c.in_ok-site.ensures.name c.args.is_dir mode c.args.now in
     let drew = g.E.Entropy.drawn c.args.entropy.now in
-    let mid = g.E.Entropy.drawn c.draw_directory.new.entropy in
     let drew' = g.E.Entropy.drawn c.draw_header.new.entropy in
     let none = subst (λ (o : Option NewDirectory). DrawsIf c.args.self.now.keys c.args.is_dir o (g.E.Entropy.drawn c.args.entropy.now) (g.E.Entropy.drawn c.draw_directory.new.entropy)) c.in-None.is c.in-Ok.ensures.drawn in
     record {
       drawn = None;
-      draw = file_draw c.args.is_dir drew drew' none.0 (header_partly drew mid drew' none.1 (head_changes old.keys mid drew' c.in-Ok-draw_header.header c.in-Ok-draw_header.ensures.drawn));
-      refused = told_always (disk_in (g.R.Reads.log c.args.folder.now)) (IsRefusal s asked c.args.now None refusals.OutOfMemory old.live old.claims)
-          (memory_refused old.keys c.entries_are_parts.ensures old.live old.claims c.args.parent c.in_ok-site.site c.in_ok-site.ensures.site c.len-count.ensures.tree c.args.name.now c.in_ok-site.ensures.name c.args.is_dir mode c.args.now None);
+      draw = file_draw c.args.is_dir drew drew' none.0 (header_partly drew (g.E.Entropy.drawn c.draw_directory.new.entropy) drew' none.1 (head_changes c.args.self.now.keys (g.E.Entropy.drawn c.draw_directory.new.entropy) drew' c.in-Ok-draw_header.header c.in-Ok-draw_header.ensures.drawn));
+      refused = told_always (disk_in (g.R.Reads.log c.args.folder.now)) _ (memory_refused asked None);
       found = never_taken c.args.is_dir drew drew' refusals.OutOfMemory (λ path is. absurd cc);
     }

@@ -27,8 +27,8 @@ returns-in-Err-clause-refusal c =
     (fault_refused c.args.self.now.live c.args.parent c.args.name.now held (sym c.in-Some.ensures) (kind_is held.kept.what c.in-Some-identifier_in.identifier.now c.in-Some-folder.folder.now dir)
     c.in-Err.fault c.in-Err.ensures.fault)
 
-pub returns-in_default-copied-clause-refusal : goal.returns-in_default-copied-clause-refusal
-returns-in_default-copied-clause-refusal c =
+pub returns-in_default-from_slice-clause-refusal : goal.returns-in_default-from_slice-clause-refusal
+returns-in_default-from_slice-clause-refusal c =
     let held = c.in-Some.node.now in
     let dir = directory_is held.kept.what c.in-Some-identifier_in.identifier.now c.in-Some-folder.folder.now
     (ap identifier_in (sym c.what.ensures) ∙ sym c.in-Some-identifier_in.ensures) (sym c.in-Some-folder.ensures.value) in
@@ -40,10 +40,10 @@ returns-then-is_some-clause-refusal c =
     let held = c.in-Some.node.now in
     let dir = directory_is held.kept.what c.in-Some-identifier_in.identifier.now c.in-Some-folder.folder.now
     (ap identifier_in (sym c.what.ensures) ∙ sym c.in-Some-identifier_in.ensures) (sym c.in-Some-folder.ensures.value) in
-    let n = c.in-Ok-copied.name in
+    let n = c.in-Ok-from_slice.name in
     let found = some_found c.look.result (IsNamed live c.args.parent n) c.look.ensures.found (sym c.is_some.ensures ∙ c.if-is_some.true) in
     exists_refused live c.args.parent c.args.name.now held (sym c.in-Some.ensures) (kind_is held.kept.what c.in-Some-identifier_in.identifier.now c.in-Some-folder.folder.now dir)
-    c.len-count.ensures.tree n (c.in-Ok.ensures.name ∙ ap (λ (m : List ℕ). Ok m) (sym (c.in-Ok-copied.ensures ∙ c.as_bytes.ensures.bytes))) found.0 found.1
+    c.len-count.ensures.tree n (c.in-Ok.ensures.name ∙ ap (λ (m : List ℕ). Ok m) (sym (c.in-Ok-from_slice.ensures ∙ c.as_bytes.ensures.bytes))) found.0 found.1
 
 pub returns-then-is_full-clause-refusal : goal.returns-then-is_full-clause-refusal
 returns-then-is_full-clause-refusal c =
@@ -51,9 +51,9 @@ returns-then-is_full-clause-refusal c =
     let held = c.in-Some.node.now in
     let dir = directory_is held.kept.what c.in-Some-identifier_in.identifier.now c.in-Some-folder.folder.now
     (ap identifier_in (sym c.what.ensures) ∙ sym c.in-Some-identifier_in.ensures) (sym c.in-Some-folder.ensures.value) in
-    let n = c.in-Ok-copied.name in
+    let n = c.in-Ok-from_slice.name in
     full_refused live c.args.parent c.args.name.now held (sym c.in-Some.ensures) (kind_is held.kept.what c.in-Some-identifier_in.identifier.now c.in-Some-folder.folder.now dir)
-    c.len-count.ensures.tree n (c.in-Ok.ensures.name ∙ ap (λ (m : List ℕ). Ok m) (sym (c.in-Ok-copied.ensures ∙ c.as_bytes.ensures.bytes)))
+    c.len-count.ensures.tree n (c.in-Ok.ensures.name ∙ ap (λ (m : List ℕ). Ok m) (sym (c.in-Ok-from_slice.ensures ∙ c.as_bytes.ensures.bytes)))
     (none_found c.look.result (IsFree live c.args.parent n) c.look.ensures.none (sym c.is_some.ensures ∙ c.if-is_some.false))
     (λ contents. c.is_full.ensures contents ∙ c.if-is_full.true)
 
@@ -62,8 +62,8 @@ returns-in-Ok-place_name-clause-site c =
     let live = c.args.self.now.live in
     let held = c.in-Some.node.now in
     let identifier = c.in-Some-identifier_in.identifier.now in
-    let n = c.in-Ok-copied.name in
-    let same : n ≡ c.in-Ok.clear = c.in-Ok-copied.ensures ∙ c.as_bytes.ensures.bytes in
+    let n = c.in-Ok-from_slice.name in
+    let same : n ≡ c.in-Ok.clear = c.in-Ok-from_slice.ensures ∙ c.as_bytes.ensures.bytes in
     let s = sealing_of c.args.self.now.keys in
     record {
       held = held;

@@ -1,25 +1,41 @@
-use Rattle.std.proofs.Common.{refl}
+use Rattle.std.proofs.Common.{refl, sym, subst}
 use Rattle.tree_loading.specs.Format.{sealing_of}
+use Rattle.vault_store.specs.Open.{IsResting, VaultView}
 use Rattle.vault_store.proofs.Rests.{rest_quiet, rests_flushed}
 use Rattle.vault_store.proofs.answering.Vault.flush.Goals as goal
+use Rattle.vault_store.proofs.answering.Vault.flush.Goals.{in-Ok, in-Err}
 
 pub flush-requires : goal.flush-requires
 flush-requires g c =
-    let tree = c.args.self.now.tree in
-    let back = c.args.self.now.back in
-    record { quiet = rest_quiet (sealing_of tree.keys) tree.live tree.claims back.waiting (g.D.Reads.log back.folder) c.requires.rest }
+    let rest = subst (λ (v : VaultView g.row.D.Denot). IsResting g.D.Reads v) (sym c.self.view_is) c.requires.rest in
+    let tree = c.self.inside.tree in
+    let back = c.self.inside.back in
+    record { quiet = rest_quiet (sealing_of tree.keys) tree.live tree.claims back.waiting (g.D.Reads.log back.folder) rest }
 
-pub returns-in-Ok-clause-flushed : goal.returns-in-Ok-clause-flushed
-returns-in-Ok-clause-flushed g c = λ entries. record {
-  running = refl;
-  new_is = refl;
-  faults = c.in-Ok.ensures.cause.later;
-  committed = c.in-Ok.ensures.committed;
-  any_moment = c.in-Ok.ensures.any_moment;
-}
+pub returns-clause-flushed : goal.returns-clause-flushed
+returns-clause-flushed g c =
+    rw (← c.self.view_is) (elim c.match-flush.branch [
+      | in-Ok w ↦
+          rw w.result-is (λ entries. record {
+            running = refl;
+            new_is = refl;
+            faults = w.in-Ok.ensures.cause.later;
+            committed = w.in-Ok.ensures.committed;
+            any_moment = w.in-Ok.ensures.any_moment;
+          })
+      | in-Err w ↦ rw w.result-is tt
+    ])
 
-pub returns-in-Ok-clause-rest : goal.returns-in-Ok-clause-rest
-returns-in-Ok-clause-rest g c =
-    let tree = c.args.self.now.tree in
-    let back = c.args.self.now.back in
-    rests_flushed (sealing_of tree.keys) tree.live tree.claims back.waiting (g.D.Reads.log back.folder) (g.D.Reads.log c.flush.new.self.folder) c.requires.rest c.in-Ok.ensures.committed
+pub returns-clause-rest : goal.returns-clause-rest
+returns-clause-rest g c =
+    let rest = subst (λ (v : VaultView g.row.D.Denot). IsResting g.D.Reads v) (sym c.self.view_is) c.requires.rest in
+    let tree = c.self.inside.tree in
+    let back = c.self.inside.back in
+    elim c.match-flush.branch [
+      | in-Ok w ↦
+          rw w.result-is (record {
+            none = c.flush.ensures.none;
+            rest = rests_flushed (sealing_of tree.keys) tree.live tree.claims back.waiting (g.D.Reads.log back.folder) (g.D.Reads.log c.flush.new.self.folder) rest w.in-Ok.ensures.committed;
+          })
+      | in-Err w ↦ rw w.result-is tt
+    ]

@@ -1,13 +1,13 @@
 use Rattle.std.proofs.Common.{ℕ, List, Option, None, refl, sym, ap, subst, ◌∙◌}
 use Rattle.std.specs.Option.{option_copied}
-use Rattle.siv_mode.specs.Keys.{KeyPair}
+use Rattle.vault_keys.specs.Keys.{KeyPair}
 use Rattle.outside.specs.Views.{EntropyView, folder_in}
 use Rattle.tree_loading.specs.Format.{sealing_of}
 use Rattle.tree_model.specs.declared.request.Request.{Request}
 use Rattle.tree_model.specs.Names.{names_in}
 use Rattle.tree_model.specs.Asked.{look, walk, open_node, read, list, stat_of, plain_reply, plain_request}
 use Rattle.tree_model.specs.Step.{IsReading}
-use Rattle.vault_store.specs.Open.{view_of}
+use Rattle.vault_store.specs.Open.{IsResting, VaultView, view_of}
 use Rattle.vault_store.specs.Sizes.{SizesAreHeld}
 use Rattle.vault_store.proofs.HostReads.{rest_contents}
 use Rattle.vault_store.proofs.Lookups.{kept_here, looked_up, plain_read, reading_keeps, sized_read}
@@ -18,100 +18,114 @@ use Rattle.vault_store.proofs.answering.Vault.look_up.Goals as goal
 
 pub read-requires-clause-contents : goal.read-requires-clause-contents
 read-requires-clause-contents g c =
-    rest_contents (g.D.Reads.log c.args.self.now.back.folder) c.args.self.now.back.waiting c.keys-in-Read.result.now c.args.self.now.tree.keys c.live-tree.result.now c.args.self.now.tree.live c.args.self.now.tree.claims c.keys-in-Read.ensures c.live-tree.ensures
-    c.requires.rest
+    let rest = subst (λ (v : VaultView g.row.D.Denot). IsResting g.D.Reads v) (sym c.self.view_is) c.requires.rest in
+    rest_contents (g.D.Reads.log c.self.inside.back.folder) c.self.inside.back.waiting c.keys-in-Read.result.now c.self.inside.tree.keys c.live-tree.result.now c.self.inside.tree.live c.self.inside.tree.claims c.keys-in-Read.ensures c.live-tree.ensures
+    rest
 
 pub returns-in-Read-clause-outcome : goal.returns-in-Read-clause-outcome
-returns-in-Read-clause-outcome g c = λ entries second source.
-    let tree = c.args.self.now.tree in
-    let back = c.args.self.now.back in
+returns-in-Read-clause-outcome g c =
+    let rest = subst (λ (v : VaultView g.row.D.Denot). IsResting g.D.Reads v) (sym c.self.view_is) c.requires.rest in
+    rw (← c.self.view_is) (λ second source entries.
+    let tree = c.self.inside.tree in
+    let back = c.self.inside.back in
     let back' = c.read.new.folder in
     let folder = folder_in g.D.Reads back.folder in
     let folder' = folder_in g.D.Reads back'.folder in
-    let can = rest_waits (sealing_of tree.keys) tree.live tree.claims back.waiting folder.log c.requires.rest in
+    let can = rest_waits (sealing_of tree.keys) tree.live tree.claims back.waiting folder.log rest in
     still_outcome (view_of tree back.waiting entries None) (view_of tree back'.waiting entries None) folder folder' source source (plain_request c.args.request.now) second can c.read.result c.args.buffer.now c.read.new.buffer
     (reading_loose (plain_request c.args.request.now) (plain_reply c.read.result) c.requires.reads c.requires.unsynced)
     (kept_here c.keys-in-Read.result.now tree.keys c.live-tree.result.now tree.live tree.claims entries (over back.waiting folder) (over back'.waiting folder') source (plain_request c.args.request.now) (read c.in-Read.node c.in-Read.at c.in-Read.count) second
-    c.read.result c.args.buffer.now c.read.new.buffer c.keys-in-Read.ensures c.live-tree.ensures (ap plain_request c.in-Read.is) (c.read.ensures tree.claims entries second source))
+    c.read.result c.args.buffer.now c.read.new.buffer c.keys-in-Read.ensures c.live-tree.ensures (ap plain_request c.in-Read.is) (c.read.ensures tree.claims entries second source)))
 
 pub returns-in-Read-clause-rest : goal.returns-in-Read-clause-rest
 returns-in-Read-clause-rest g c =
-    let tree = c.args.self.now.tree in
-    let back = c.args.self.now.back in
+    let rest = subst (λ (v : VaultView g.row.D.Denot). IsResting g.D.Reads v) (sym c.self.view_is) c.requires.rest in
+    let tree = c.self.inside.tree in
+    let back = c.self.inside.back in
     let back' = c.read.new.folder in
     let source : EntropyView = record { drawn = None; faults = 0 } in
     let still = c.read.ensures tree.claims 0 0 source in
-    rests_still (sealing_of tree.keys) tree.live tree.claims back.waiting back'.waiting (g.D.Reads.log back.folder) (g.D.Reads.log back'.folder) still.turn.is.log c.requires.rest
+    rests_still (sealing_of tree.keys) tree.live tree.claims back.waiting back'.waiting (g.D.Reads.log back.folder) (g.D.Reads.log back'.folder) still.turn.is.log rest
 
 pub returns-in-Read-clause-faults : goal.returns-in-Read-clause-faults
 returns-in-Read-clause-faults g c =
     let source : EntropyView = record { drawn = None; faults = 0 } in
-    let still = c.read.ensures c.args.self.now.tree.claims 0 0 source in
-    still.turn.is.is_turn.folder
+    let still = c.read.ensures c.self.inside.tree.claims 0 0 source in
+    rw (← c.self.view_is) still.turn.is.is_turn.folder
 
 pub returns-in-Look-clause-outcome : goal.returns-in-Look-clause-outcome
-returns-in-Look-clause-outcome g c = λ entries second source.
-    let back = c.args.self.now.back in
+returns-in-Look-clause-outcome g c =
+    let rest = subst (λ (v : VaultView g.row.D.Denot). IsResting g.D.Reads v) (sym c.self.view_is) c.requires.rest in
+    rw (← c.self.view_is) (λ second source entries.
+    let back = c.self.inside.back in
     let folder = folder_in g.D.Reads back.folder in
     let before = over back.waiting folder in
-    let store = view_of c.args.self.now.tree back.waiting entries None in
-    let can = rest_waits (sealing_of c.args.self.now.tree.keys) c.args.self.now.tree.live c.args.self.now.tree.claims back.waiting folder.log c.requires.rest in
+    let store = view_of c.self.inside.tree back.waiting entries None in
+    let can = rest_waits (sealing_of c.self.inside.tree.keys) c.self.inside.tree.live c.self.inside.tree.claims back.waiting folder.log rest in
     still_outcome store store folder folder source source (plain_request c.args.request.now) second can c.look.result c.args.buffer.now c.args.buffer.now (reading_loose (plain_request c.args.request.now) (plain_reply c.look.result) c.requires.reads c.requires.unsynced)
-    (looked_up c.args.self.now.tree.keys c.live-tree.result.now c.args.self.now.tree.live c.args.self.now.tree.claims entries before source (plain_request c.args.request.now) (look c.in-Look.node) second c.look.result c.args.buffer.now c.args.buffer.now c.live-tree.ensures (ap plain_request c.in-Look.is)
+    (looked_up c.self.inside.tree.keys c.live-tree.result.now c.self.inside.tree.live c.self.inside.tree.claims entries before source (plain_request c.args.request.now) (look c.in-Look.node) second c.look.result c.args.buffer.now c.args.buffer.now c.live-tree.ensures (ap plain_request c.in-Look.is)
     (record { never = λ may. may; path = λ s d live. refl })
-    (plain_read c.args.self.now.tree.keys c.live-tree.result.now c.args.self.now.tree.claims before before (look c.in-Look.node) c.look.result c.args.buffer.now (reading_keeps (look c.in-Look.node) (plain_reply c.look.result) tt) refl
-    c.look.ensures.answer c.look.ensures.form c.look.ensures.own c.look.ensures.count))
+    (plain_read c.self.inside.tree.keys c.live-tree.result.now c.self.inside.tree.claims before before (look c.in-Look.node) c.look.result c.args.buffer.now (reading_keeps (look c.in-Look.node) (plain_reply c.look.result) tt) refl
+    c.look.ensures.answer c.look.ensures.form c.look.ensures.own c.look.ensures.count)))
 
 pub returns-in-StatOf-clause-outcome : goal.returns-in-StatOf-clause-outcome
-returns-in-StatOf-clause-outcome g c = λ entries second source.
-    let back = c.args.self.now.back in
+returns-in-StatOf-clause-outcome g c =
+    let rest = subst (λ (v : VaultView g.row.D.Denot). IsResting g.D.Reads v) (sym c.self.view_is) c.requires.rest in
+    rw (← c.self.view_is) (λ second source entries.
+    let back = c.self.inside.back in
     let folder = folder_in g.D.Reads back.folder in
     let before = over back.waiting folder in
-    let store = view_of c.args.self.now.tree back.waiting entries None in
-    let can = rest_waits (sealing_of c.args.self.now.tree.keys) c.args.self.now.tree.live c.args.self.now.tree.claims back.waiting folder.log c.requires.rest in
+    let store = view_of c.self.inside.tree back.waiting entries None in
+    let can = rest_waits (sealing_of c.self.inside.tree.keys) c.self.inside.tree.live c.self.inside.tree.claims back.waiting folder.log rest in
     let sizes = subst (λ (k : KeyPair). SizesAreHeld (sealing_of k)) c.keys.ensures c.have_sizes.ensures in
     still_outcome store store folder folder source source (plain_request c.args.request.now) second can c.stat_of.result c.args.buffer.now c.stat_of.new.buffer (reading_loose (plain_request c.args.request.now) (plain_reply c.stat_of.result) c.requires.reads c.requires.unsynced)
-    (looked_up c.args.self.now.tree.keys c.live-tree.result.now c.args.self.now.tree.live c.args.self.now.tree.claims entries before source (plain_request c.args.request.now) (stat_of c.in-StatOf.node) second c.stat_of.result c.args.buffer.now c.stat_of.new.buffer c.live-tree.ensures (ap plain_request c.in-StatOf.is)
+    (looked_up c.self.inside.tree.keys c.live-tree.result.now c.self.inside.tree.live c.self.inside.tree.claims entries before source (plain_request c.args.request.now) (stat_of c.in-StatOf.node) second c.stat_of.result c.args.buffer.now c.stat_of.new.buffer c.live-tree.ensures (ap plain_request c.in-StatOf.is)
     (record { never = λ may. may; path = λ s d live. refl })
-    (sized_read c.args.self.now.tree.keys c.live-tree.result.now c.args.self.now.tree.claims before before (stat_of c.in-StatOf.node) c.stat_of.result c.args.buffer.now c.stat_of.new.buffer tt (λ d contents stands. (sizes d c.live-tree.result.now c.args.self.now.tree.claims contents stands).lengths)
-    c.stat_of.ensures.answer c.stat_of.ensures.form c.stat_of.ensures.rest c.stat_of.ensures.own c.stat_of.ensures.count))
+    (sized_read c.self.inside.tree.keys c.live-tree.result.now c.self.inside.tree.claims before before (stat_of c.in-StatOf.node) c.stat_of.result c.args.buffer.now c.stat_of.new.buffer tt (λ d contents stands. (sizes d c.live-tree.result.now c.self.inside.tree.claims contents stands).lengths)
+    c.stat_of.ensures.answer c.stat_of.ensures.form c.stat_of.ensures.rest c.stat_of.ensures.own c.stat_of.ensures.count)))
 
 pub returns-in-OpenNode-clause-outcome : goal.returns-in-OpenNode-clause-outcome
-returns-in-OpenNode-clause-outcome g c = λ entries second source.
-    let back = c.args.self.now.back in
+returns-in-OpenNode-clause-outcome g c =
+    let rest = subst (λ (v : VaultView g.row.D.Denot). IsResting g.D.Reads v) (sym c.self.view_is) c.requires.rest in
+    rw (← c.self.view_is) (λ second source entries.
+    let back = c.self.inside.back in
     let folder = folder_in g.D.Reads back.folder in
     let before = over back.waiting folder in
-    let store = view_of c.args.self.now.tree back.waiting entries None in
-    let can = rest_waits (sealing_of c.args.self.now.tree.keys) c.args.self.now.tree.live c.args.self.now.tree.claims back.waiting folder.log c.requires.rest in
+    let store = view_of c.self.inside.tree back.waiting entries None in
+    let can = rest_waits (sealing_of c.self.inside.tree.keys) c.self.inside.tree.live c.self.inside.tree.claims back.waiting folder.log rest in
     still_outcome store store folder folder source source (plain_request c.args.request.now) second can c.open_node.result c.args.buffer.now c.args.buffer.now (reading_loose (plain_request c.args.request.now) (plain_reply c.open_node.result) c.requires.reads c.requires.unsynced)
-    (looked_up c.args.self.now.tree.keys c.live-tree.result.now c.args.self.now.tree.live c.args.self.now.tree.claims entries before source (plain_request c.args.request.now) (open_node c.in-OpenNode.node c.in-OpenNode.mode) second c.open_node.result c.args.buffer.now c.args.buffer.now c.live-tree.ensures (ap plain_request c.in-OpenNode.is)
+    (looked_up c.self.inside.tree.keys c.live-tree.result.now c.self.inside.tree.live c.self.inside.tree.claims entries before source (plain_request c.args.request.now) (open_node c.in-OpenNode.node c.in-OpenNode.mode) second c.open_node.result c.args.buffer.now c.args.buffer.now c.live-tree.ensures (ap plain_request c.in-OpenNode.is)
     (record { never = λ may. may; path = λ s d live. refl })
-    (plain_read c.args.self.now.tree.keys c.live-tree.result.now c.args.self.now.tree.claims before before (open_node c.in-OpenNode.node c.in-OpenNode.mode) c.open_node.result c.args.buffer.now
-    (reading_keeps (open_node c.in-OpenNode.node c.in-OpenNode.mode) (plain_reply c.open_node.result) (subst (λ (r : Request). IsReading (plain_request r)) c.in-OpenNode.is c.requires.reads)) refl c.open_node.ensures.answer c.open_node.ensures.form c.open_node.ensures.own c.open_node.ensures.count))
+    (plain_read c.self.inside.tree.keys c.live-tree.result.now c.self.inside.tree.claims before before (open_node c.in-OpenNode.node c.in-OpenNode.mode) c.open_node.result c.args.buffer.now
+    (reading_keeps (open_node c.in-OpenNode.node c.in-OpenNode.mode) (plain_reply c.open_node.result) (subst (λ (r : Request). IsReading (plain_request r)) c.in-OpenNode.is c.requires.reads)) refl c.open_node.ensures.answer c.open_node.ensures.form c.open_node.ensures.own c.open_node.ensures.count)))
 
 pub returns-in-Walk-clause-outcome : goal.returns-in-Walk-clause-outcome
-returns-in-Walk-clause-outcome g c = λ entries second source.
-    let back = c.args.self.now.back in
+returns-in-Walk-clause-outcome g c =
+    let rest = subst (λ (v : VaultView g.row.D.Denot). IsResting g.D.Reads v) (sym c.self.view_is) c.requires.rest in
+    rw (← c.self.view_is) (λ second source entries.
+    let back = c.self.inside.back in
     let folder = folder_in g.D.Reads back.folder in
     let before = over back.waiting folder in
-    let store = view_of c.args.self.now.tree back.waiting entries None in
-    let can = rest_waits (sealing_of c.args.self.now.tree.keys) c.args.self.now.tree.live c.args.self.now.tree.claims back.waiting folder.log c.requires.rest in
+    let store = view_of c.self.inside.tree back.waiting entries None in
+    let can = rest_waits (sealing_of c.self.inside.tree.keys) c.self.inside.tree.live c.self.inside.tree.claims back.waiting folder.log rest in
     still_outcome store store folder folder source source (plain_request c.args.request.now) second can c.or_lacks_memory.result c.args.buffer.now c.args.buffer.now (reading_loose (plain_request c.args.request.now) (plain_reply c.or_lacks_memory.result) c.requires.reads c.requires.unsynced)
-    (looked_up c.args.self.now.tree.keys c.live-tree.result.now c.args.self.now.tree.live c.args.self.now.tree.claims entries before source (plain_request c.args.request.now) (walk c.in-Walk.node (names_in c.in-Walk.names.count c.in-Walk.names.bytes.now)) second c.or_lacks_memory.result c.args.buffer.now c.args.buffer.now c.live-tree.ensures (ap plain_request c.in-Walk.is)
+    (looked_up c.self.inside.tree.keys c.live-tree.result.now c.self.inside.tree.live c.self.inside.tree.claims entries before source (plain_request c.args.request.now) (walk c.in-Walk.node (names_in c.in-Walk.names.count c.in-Walk.names.bytes.now)) second c.or_lacks_memory.result c.args.buffer.now c.args.buffer.now c.live-tree.ensures (ap plain_request c.in-Walk.is)
     (record { never = λ may. may; path = λ s d live. refl })
-    (walk_read c.args.self.now.tree.keys c.live-tree.result.now c.args.self.now.tree.claims before c.in-Walk.node (names_in c.in-Walk.names.count c.in-Walk.names.bytes.now) c.walk.result c.or_lacks_memory.result c.args.buffer.now c.or_lacks_memory.ensures
-    c.walk.ensures.answer c.walk.ensures.form c.walk.ensures.own c.walk.ensures.count c.walk.ensures.there))
+    (walk_read c.self.inside.tree.keys c.live-tree.result.now c.self.inside.tree.claims before c.in-Walk.node (names_in c.in-Walk.names.count c.in-Walk.names.bytes.now) c.walk.result c.or_lacks_memory.result c.args.buffer.now c.or_lacks_memory.ensures
+    c.walk.ensures.answer c.walk.ensures.form c.walk.ensures.own c.walk.ensures.count c.walk.ensures.there)))
 
 pub returns-in-List-clause-outcome : goal.returns-in-List-clause-outcome
-returns-in-List-clause-outcome g c = λ entries second source.
-    let back = c.args.self.now.back in
+returns-in-List-clause-outcome g c =
+    let rest = subst (λ (v : VaultView g.row.D.Denot). IsResting g.D.Reads v) (sym c.self.view_is) c.requires.rest in
+    rw (← c.self.view_is) (λ second source entries.
+    let back = c.self.inside.back in
     let folder = folder_in g.D.Reads back.folder in
     let before = over back.waiting folder in
-    let store = view_of c.args.self.now.tree back.waiting entries None in
-    let can = rest_waits (sealing_of c.args.self.now.tree.keys) c.args.self.now.tree.live c.args.self.now.tree.claims back.waiting folder.log c.requires.rest in
+    let store = view_of c.self.inside.tree back.waiting entries None in
+    let can = rest_waits (sealing_of c.self.inside.tree.keys) c.self.inside.tree.live c.self.inside.tree.claims back.waiting folder.log rest in
     let sizes = subst (λ (k : KeyPair). SizesAreHeld (sealing_of k)) c.keys.ensures c.have_sizes.ensures in
     still_outcome store store folder folder source source (plain_request c.args.request.now) second can c.or_lacks_memory-in-List.result c.args.buffer.now c.list.new.buffer (reading_loose (plain_request c.args.request.now) (plain_reply c.or_lacks_memory-in-List.result) c.requires.reads c.requires.unsynced)
-    (looked_up c.args.self.now.tree.keys c.live-tree.result.now c.args.self.now.tree.live c.args.self.now.tree.claims entries before source (plain_request c.args.request.now) (list c.in-List.node (option_copied c.bytes_of.result) c.in-List.count) second c.or_lacks_memory-in-List.result c.args.buffer.now c.list.new.buffer c.live-tree.ensures (ap plain_request c.in-List.is ∙ ap (λ (after : Option (List ℕ)). list c.in-List.node after c.in-List.count) (sym c.bytes_of.ensures))
+    (looked_up c.self.inside.tree.keys c.live-tree.result.now c.self.inside.tree.live c.self.inside.tree.claims entries before source (plain_request c.args.request.now) (list c.in-List.node (option_copied c.bytes_of.result) c.in-List.count) second c.or_lacks_memory-in-List.result c.args.buffer.now c.list.new.buffer c.live-tree.ensures (ap plain_request c.in-List.is ∙ ap (λ (after : Option (List ℕ)). list c.in-List.node after c.in-List.count) (sym c.bytes_of.ensures))
     (record { never = λ may. may; path = λ s d live. refl })
-    (list_read c.args.self.now.tree.keys c.live-tree.result.now c.args.self.now.tree.claims before c.in-List.node c.in-List.count (option_copied c.bytes_of.result) c.list.result c.or_lacks_memory-in-List.result c.args.buffer.now c.list.new.buffer c.or_lacks_memory-in-List.ensures
-    (λ d contents stands. (sizes d c.live-tree.result.now c.args.self.now.tree.claims contents stands).lengths) c.list.ensures.answer c.list.ensures.form c.list.ensures.rest c.list.ensures.own c.list.ensures.count c.list.ensures.unchanged c.list.ensures.there))
+    (list_read c.self.inside.tree.keys c.live-tree.result.now c.self.inside.tree.claims before c.in-List.node c.in-List.count (option_copied c.bytes_of.result) c.list.result c.or_lacks_memory-in-List.result c.args.buffer.now c.list.new.buffer c.or_lacks_memory-in-List.ensures
+    (λ d contents stands. (sizes d c.live-tree.result.now c.self.inside.tree.claims contents stands).lengths) c.list.ensures.answer c.list.ensures.form c.list.ensures.rest c.list.ensures.own c.list.ensures.count c.list.ensures.unchanged c.list.ensures.there)))

@@ -1,0 +1,4 @@
+pub mod Telling
+pub mod Keeping
+pub mod Flushing
+pub mod Answering

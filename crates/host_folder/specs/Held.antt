@@ -1,0 +1,48 @@
+-- What a folder over a host keeps: how the host's story and the folder's log belong together.
+use Rattle.std.specs.Prelude.{◌≡◌, ◌⊎◌, Bool, false, List, [], ◌∷◌, Some, Contains}
+use Rattle.outside.specs.Disk.{Path}
+use Rattle.outside.specs.Images.{IsSound, IsImage, now}
+use Rattle.host_calls.specs.declared.found.Inode.{Inode}
+use Rattle.host_calls.specs.Volume.{Volume, File, entry_at, disk_of}
+use Rattle.host_calls.specs.Story.{Story, IsLeft, IsSoundStory, IsLooseAt, names_now, disk_now}
+
+-- a file that is left under a name has it now, if it has one that it wasn't moved to
+abbrev pub AreUnmoved : Story → List Path → Type 0
+AreUnmoved story moved =
+    (volume : Volume) → IsLeft story volume → (left there : Path) (inode : Inode)
+    → entry_at volume.names left ≡ Some (File inode) → entry_at (names_now story) there ≡ Some (File inode) → (left ≡ there) ⊎ Contains moved there
+
+-- no flush failed, and what isn't on the disk yet is at the paths that the next sync flushes
+pub record IsSure (story : Story) (touched : List Path) : Type 0 where
+  pub sure : story.doubt ≡ false
+  pub loose : IsLooseAt story touched
+
+-- Reads give what the log says, a power cut leaves an image of it, and a sync can bring all to the disk unless a flush failed.
+pub record IsHeld (story : Story) (touched moved : List Path) (failed : Bool) : Type 0 where
+  pub log : IsSound story.diary.start story.diary.calls
+  pub noted : story.unnoted ≡ false
+  pub sound : IsSoundStory story
+  pub shows : disk_now story ≡ now story.diary
+  pub images : (volume : Volume) → IsLeft story volume → IsImage story.diary (disk_of volume)
+  pub unmoved : AreUnmoved story moved
+  pub surely : failed ≡ false → IsSure story touched
+
+-- ---- flushes
+
+-- what flushes leave: no other volume, and what reads gave
+pub record IsLater (old new : Story) : Type 0 where
+  pub sound : IsSoundStory new
+  pub left : (volume : Volume) → IsLeft new volume → IsLeft old volume
+  pub names : names_now new ≡ names_now old
+  pub disk : disk_now new ≡ disk_now old
+  pub diary : new.diary ≡ old.diary
+  pub unnoted : new.unnoted ≡ old.unnoted
+
+-- what was first among what isn't on the disk has come there
+pub record HasCome (path : Path) (old new : Story) : Type 0 where
+  pub sure : new.doubt ≡ old.doubt
+  pub rest : old.doubt ≡ false → (paths : List Path) → IsLooseAt old (path ∷ paths) → IsLooseAt new paths
+
+-- all of it has come there
+abbrev pub HaveCome : List Path → Story → Story → Type 0
+HaveCome paths old new = IsSure old paths → IsSure new []

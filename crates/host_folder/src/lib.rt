@@ -1,0 +1,29 @@
+//! What a folder over a host's calls keeps, as laws.
+//!
+//! A folder's log and the host's story belong together (`IsHeld`) if reads give what the log says, each volume that a power cut may
+//! leave is an image of the log, and all that isn't on the disk yet is at the paths that the next sync flushes. The proofs lead from
+//! call to call: a step that was taken, in part or whole, and noted keeps that (`Answering`, `Keeping`), as do a flush, a sync and an
+//! opening.
+#![tactic(auto)]
+
+ghost use Rattle.std.specs.Prelude.{◌≡◌, false, Bool, List, []};
+ghost use Rattle.outside.specs.Disk.{Path};
+ghost use Rattle.outside.specs.Images.{Synced, IsImage, now};
+ghost use Rattle.host_calls.specs.Volume.{Volume, disk_of};
+ghost use Rattle.host_calls.specs.Story.{Story, IsLeft, disk_now, notes};
+ghost use Rattle.host_folder.specs.Held.{IsHeld, IsSure, IsLater};
+ghost use Rattle.host_folder.specs.Opened.{IsOpened};
+
+/// A kill leaves what the log says, since the host goes on; a power cut leaves an image of the log, and after a sync what reads
+/// give. It does nothing.
+pub fn stops()
+    ensures kill { (story : Story) (touched moved : List Path) (failed : Bool) → IsHeld story touched moved failed → disk_now story ≡ now story.diary }
+    ensures power_cut { (story : Story) (touched moved : List Path) (failed : Bool) → IsHeld story touched moved failed
+        → (volume : Volume) → IsLeft story volume → IsImage story.diary (disk_of volume) }
+    ensures synced { (story : Story) (failed : Bool) → IsHeld story [] [] failed → IsSure story [] → IsHeld (notes Synced story) [] [] failed }
+{}
+
+/// Once all is on the disk that an earlier run left off it, a log that begins with what reads give is kept. It does nothing.
+pub fn starts()
+    ensures { (paths : List Path) (old new : Story) → IsOpened paths old → IsLater old new → IsSure new [] → IsHeld new [] [] false }
+{}
