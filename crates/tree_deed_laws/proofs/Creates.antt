@@ -26,23 +26,15 @@ use Rattle.tree_deed_laws.proofs.Maps.{get_with}
 use Rattle.tree_deed_laws.proofs.Creating.{Creation, leaf_created, leaf_nodes, dir_created, dir_nodes}
 
 -- what is known of a new name
-pub record NewPlace : Type 0 where
-  pub s : Sealing
-  pub d : Disk
-  pub marks : Marks
-  pub long : Path → Bool
-  pub o : List ℕ → Path
-  pub p : Path
-  pub i : List ℕ
-  pub n : List ℕ
+pub record NewPlace (s : Sealing) (d : Disk) (marks : Marks) (long : Path → Bool) (o : List ℕ → Path) (p : Path) (i n : List ℕ) : Type 0 where
   pub texts : AreTexts s
   pub st : StandsFor s d marks long o
   pub new : IsNewName s d o p i n
   pub short_free : entry_at s d (s.folder_of i) (s.seal i n) ≡ None
   pub long_free : get d (host_entry (s.folder_of i) (s.long_of (s.seal i n))) ≡ None
 
-module _ (at : NewPlace) where
-  open at use {s, d, marks, long, o, p, i, n, texts, st, new, short_free, long_free}
+module _ {s : Sealing} {d : Disk} {marks : Marks} {long : Path → Bool} {o : List ℕ → Path} {p : Path} {i n : List ℕ} (at : NewPlace s d marks long o p i n) where
+  open at use {texts, st, new, short_free, long_free}
 
   abbrev F : List ℕ
   F = s.folder_of i
@@ -114,20 +106,9 @@ module _ (at : NewPlace) where
         folders' : (g : List ℕ) → get plain_disk (host_folder g) ≡ get d (host_folder g)
         folders' g = get_put_other d _ (Bytes header) _ (folder_entry g F X)
 
-        creation : Creation
+        creation : Creation s d plain_disk marks long o p i n X (Plain header) false
         creation = record {
-          s = s;
           texts = texts;
-          d = d;
-          d' = plain_disk;
-          marks = marks;
-          long = long;
-          o = o;
-          p = p;
-          i = i;
-          n = n;
-          e = X;
-          kk = Plain header;
           st = st;
           at = new.parent;
           no_node = new.free;
@@ -143,27 +124,21 @@ module _ (at : NewPlace) where
           good = λ z. cc;
           at_e = at_x;
           alone = alone;
-          b = false;
           is_at = at';
         }
 
   -- ---- a node folder, at either place
   -- its entry is made on the disk d0
-  pub record NewNode : Type 0 where
-    pub b : Bool
-    pub d0 : Disk
+  pub record NewNode (b : Bool) (d0 : Disk) (kn t : List ℕ) (kk : Kind) : Type 0 where
     pub there : get d0 (host_folder F) ≡ Some Folder
     pub free0 : get d0 (host_entry F (entry_text s b X)) ≡ None
     pub none0 : (l : List ℕ) → get d0 (host_inner F (entry_text s b X) l) ≡ None
     pub short0 : entry_at s d0 F X ≡ None
     pub part : b ≡ false → s.is_part X ≡ true
-    pub kn : List ℕ
-    pub t : List ℕ
-    pub kk : Kind
     pub kind : MakesKind b kn t kk
 
-  module _ (node : NewNode) where
-    open node use {b, d0, there, free0, none0, short0, part, kn, t, kk, kind}
+  module _ {b : Bool} {d0 : Disk} {kn t : List ℕ} {kk : Kind} (node : NewNode b d0 kn t kk) where
+    open node use {there, free0, none0, short0, part, kind}
 
     abbrev E : List ℕ
     E = entry_text s b X
@@ -263,16 +238,8 @@ file_short s d tree p i n header texts is new = record {
     d1 : Disk
     d1 = insert d (host_entry (s.folder_of i) (s.seal i n)) (Bytes header)
 
-    at : NewPlace
+    at : NewPlace s d tree.marks tree.long is.owner p i n
     at = record {
-      s = s;
-      d = d;
-      marks = tree.marks;
-      long = tree.long;
-      o = is.owner;
-      p = p;
-      i = i;
-      n = n;
       texts = texts;
       st = sf;
       new = name;
@@ -334,16 +301,8 @@ file_long s d tree p i n header texts is new = record {
     kind : MakesKind true text_contents header (Plain header)
     kind = inr (inr (refl, refl, refl))
 
-    at : NewPlace
+    at : NewPlace s d tree.marks tree.long o p i n
     at = record {
-      s = s;
-      d = d;
-      marks = tree.marks;
-      long = tree.long;
-      o = o;
-      p = p;
-      i = i;
-      n = n;
       texts = texts;
       st = sf;
       new = name;
@@ -351,18 +310,13 @@ file_long s d tree p i n header texts is new = record {
       long_free = free.1;
     }
 
-    node : NewNode at
+    node : NewNode at true d text_contents header (Plain header)
     node = record {
-      b = true;
-      d0 = d;
       there = here;
       free0 = free.1;
       none0 = none;
       short0 = free.0;
       part = new.place.part;
-      kn = text_contents;
-      t = header;
-      kk = Plain header;
       kind = kind;
     }
 
@@ -402,20 +356,9 @@ file_long s d tree p i n header texts is new = record {
     folders' : (g : List ℕ) → get d2 (host_folder g) ≡ get d (host_folder g)
     folders' = off_folder at node
 
-    creation : Creation
+    creation : Creation s d d2 tree.marks tree.long o p i n E (Plain header) true
     creation = record {
-      s = s;
       texts = texts;
-      d = d;
-      d' = d2;
-      marks = tree.marks;
-      long = tree.long;
-      o = o;
-      p = p;
-      i = i;
-      n = n;
-      e = E;
-      kk = Plain header;
       st = sf;
       at = name.parent;
       no_node = name.free;
@@ -431,7 +374,6 @@ file_long s d tree p i n header texts is new = record {
       good = λ z. cc;
       at_e = shown.1;
       alone = alone;
-      b = true;
       is_at = at';
     }
 
@@ -546,16 +488,8 @@ creates_directory s d tree p i n t b texts is new valid = record {
     kind : MakesKind b text_dir t (Named t)
     kind = inl (refl, refl)
 
-    at : NewPlace
+    at : NewPlace s d tree.marks tree.long o p i n
     at = record {
-      s = s;
-      d = d;
-      marks = tree.marks;
-      long = tree.long;
-      o = o;
-      p = p;
-      i = i;
-      n = n;
       texts = texts;
       st = sf;
       new = name;
@@ -563,18 +497,13 @@ creates_directory s d tree p i n t b texts is new valid = record {
       long_free = free'.1;
     }
 
-    node : NewNode at
+    node : NewNode at b d2 text_dir t (Named t)
     node = record {
-      b = b;
-      d0 = d2;
       there = there2;
       free0 = free2;
       none0 = none2;
       short0 = short2;
       part = new.place.part;
-      kn = text_dir;
-      t = t;
-      kk = Named t;
       kind = kind;
     }
 
@@ -630,20 +559,9 @@ creates_directory s d tree p i n t b texts is new valid = record {
     hollow' : (u l : List ℕ) → get d4 (host_inner G u l) ≡ None
     hollow' u l = inner G u l (λ a z. not_same (sym a)) ∙ none_below d sf.tree G u l (none_in u)
 
-    creation : Creation
+    creation : Creation s d d4 tree.marks tree.long o p i n E (Named t) b
     creation = record {
-      s = s;
       texts = texts;
-      d = d;
-      d' = d4;
-      marks = tree.marks;
-      long = tree.long;
-      o = o;
-      p = p;
-      i = i;
-      n = n;
-      e = E;
-      kk = Named t;
       st = sf;
       at = name.parent;
       no_node = name.free;
@@ -659,7 +577,6 @@ creates_directory s d tree p i n t b texts is new valid = record {
       good = λ z. cc;
       at_e = shown.1;
       alone = alone;
-      b = b;
       is_at = at';
     }
 

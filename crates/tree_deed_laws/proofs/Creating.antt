@@ -19,19 +19,8 @@ use Rattle.tree_deed_laws.proofs.OneEntry.{OneEntry, child_cases}
 use Rattle.tree_deed_laws.proofs.Stands.{StandsFor}
 
 -- one more node, at an entry that was free, so that nothing else has changed in what nodes and marks ask
-pub record Creation : Type 0 where
-  pub s : Sealing
+pub record Creation (s : Sealing) (d d' : Disk) (marks : Marks) (long : Path → Bool) (o : List ℕ → Path) (p : Path) (i n e : List ℕ) (kk : Kind) (b : Bool) : Type 0 where
   pub texts : AreTexts s
-  pub d : Disk
-  pub d' : Disk
-  pub marks : Marks
-  pub long : Path → Bool
-  pub o : List ℕ → Path
-  pub p : Path
-  pub i : List ℕ
-  pub n : List ℕ
-  pub e : List ℕ
-  pub kk : Kind
   pub st : StandsFor s d marks long o
   pub at : node_at s (folders_of s d) o p ≡ Some (Dir i)
   pub no_node : node_at s (folders_of s d) o (n ∷ p) ≡ None
@@ -47,11 +36,10 @@ pub record Creation : Type 0 where
   pub good : kk ≢ Bare
   pub at_e : entry_of s d' (s.folder_of i) (s.seal i n) ≡ e
   pub alone : IsShadowed s d' i n → ⊥
-  pub b : Bool
   pub is_at : IsTrue b ↔ (entry_at s d' (s.folder_of i) (s.seal i n) ≡ None)
 
-module _ (creation : Creation) where
-  open creation use {s, texts, d, d', marks, long, o, p, i, n, e, kk, st, at, no_node, named, tree', place, entry, inner, copies, free, free_entry, shown, good, at_e, alone, b, is_at}
+module _ {s : Sealing} {d d' : Disk} {marks : Marks} {long : Path → Bool} {o : List ℕ → Path} {p : Path} {i n e : List ℕ} {kk : Kind} {b : Bool} (creation : Creation s d d' marks long o p i n e kk b) where
+  open creation use {texts, st, at, no_node, named, tree', place, entry, inner, copies, free, free_entry, shown, good, at_e, alone, is_at}
 
   abbrev v : Folders
   v = folders_of s d
@@ -63,17 +51,9 @@ module _ (creation : Creation) where
   own = st.first
 
   -- the entry that has changed
-  abbrev entry_of_it : OneEntry
+  abbrev entry_of_it : OneEntry s d d' o n i p e
   entry_of_it = record {
-    s = s;
     texts = texts;
-    d = d;
-    d' = d';
-    o = o;
-    n = n;
-    i = i;
-    p = p;
-    e = e;
     own = own;
     at = at;
     named = named;

@@ -70,18 +70,8 @@ abbrev pub IsPlace : Sealing → Disk → Disk → List ℕ → List ℕ → Lis
 IsPlace s d d' F t e = (e ≡ t) ⊎ ((e ≡ s.long_of t) × HoldsOnly t (get d (host_inner F e text_name)) × HoldsOnly t (get d' (host_inner F e text_name)))
 
 -- ---- what a change of two entries of one folder, those of the names n and k of the directory at p, leaves of the marks of the others
-pub record TwoEntries : Type 0 where
-  pub s : Sealing
+pub record TwoEntries (s : Sealing) (d d' : Disk) (o : List ℕ → Path) (n k i : List ℕ) (p : Path) (e e' : List ℕ) : Type 0 where
   pub texts : AreTexts s
-  pub d : Disk
-  pub d' : Disk
-  pub o : List ℕ → Path
-  pub n : List ℕ
-  pub k : List ℕ
-  pub i : List ℕ
-  pub p : Path
-  pub e : List ℕ
-  pub e' : List ℕ
   pub own : IsOwner s (folders_of s d) o
   pub at_p : node_at s (folders_of s d) o p ≡ Some (Dir i)
   pub named_n : is_name n (s.open_name i (s.seal i n)) ≡ true
@@ -91,8 +81,8 @@ pub record TwoEntries : Type 0 where
   pub entry : (g u : List ℕ) → u ≢ text_dirid → (g ≡ s.folder_of i → u ≡ e → ⊥) → (g ≡ s.folder_of i → u ≡ e' → ⊥) → get d' (host_entry g u) ≡ get d (host_entry g u)
   pub inner : (g u l : List ℕ) → (g ≡ s.folder_of i → u ≡ e → ⊥) → (g ≡ s.folder_of i → u ≡ e' → ⊥) → get d' (host_inner g u l) ≡ get d (host_inner g u l)
 
-module _ (two : TwoEntries) where
-  open two use {s, texts, d, d', o, n, k, i, p, e, e', own, at_p, named_n, named_k, place_n, place_k, entry, inner}
+module _ {s : Sealing} {d d' : Disk} {o : List ℕ → Path} {n k i : List ℕ} {p : Path} {e e' : List ℕ} (two : TwoEntries s d d' o n k i p e e') where
+  open two use {texts, own, at_p, named_n, named_k, place_n, place_k, entry, inner}
 
   abbrev F : List ℕ
   F = s.folder_of i

@@ -23,22 +23,8 @@ Moves s d d' marks long o n k p b =
     × ((q : Path) → node_at s (folders_of s d') (λ f. swapped (n ∷ p) (k ∷ p) (o f)) q ≡ node_at s (folders_of s d) o (swapped (n ∷ p) (k ∷ p) q))
 
 -- a node is at another entry of its directory, under another name
-pub record Move : Type 0 where
-  pub s : Sealing
+pub record Move (s : Sealing) (d d' : Disk) (marks : Marks) (long : Path → Bool) (o : List ℕ → Path) (p : Path) (i n k e e' : List ℕ) (x : Node) (kk : Kind) (b : Bool) : Type 0 where
   pub texts : AreTexts s
-  pub d : Disk
-  pub d' : Disk
-  pub marks : Marks
-  pub long : Path → Bool
-  pub o : List ℕ → Path
-  pub p : Path
-  pub i : List ℕ
-  pub n : List ℕ
-  pub k : List ℕ
-  pub e : List ℕ
-  pub e' : List ℕ
-  pub x : Node
-  pub kk : Kind
   pub st : StandsFor s d marks long o
   pub at : node_at s (folders_of s d) o p ≡ Some (Dir i)
   pub is_node : node_at s (folders_of s d) o (n ∷ p) ≡ Some x
@@ -62,11 +48,10 @@ pub record Move : Type 0 where
   pub moved : (folders_of s d').seen (s.folder_of i) (s.seal i k) ≡ Some kk
   pub at_e' : entry_of s d' (s.folder_of i) (s.seal i k) ≡ e'
   pub alone : IsShadowed s d' i k → ⊥
-  pub b : Bool
   pub is_at : IsTrue b ↔ (entry_at s d' (s.folder_of i) (s.seal i k) ≡ None)
 
-module _ (move : Move) where
-  open move use {s, texts, d, d', marks, long, o, p, i, n, k, e, e', x, kk, st, at, is_node, no_node, named_k, unmarked, tree', place_n, place_k, entry, inner, copies, folders, shown, good, at_e, free, free_entry, gone, gone_entry, moved, at_e', alone, b, is_at}
+module _ {s : Sealing} {d d' : Disk} {marks : Marks} {long : Path → Bool} {o : List ℕ → Path} {p : Path} {i n k e e' : List ℕ} {x : Node} {kk : Kind} {b : Bool} (move : Move s d d' marks long o p i n k e e' x kk b) where
+  open move use {texts, st, at, is_node, no_node, named_k, unmarked, tree', place_n, place_k, entry, inner, copies, folders, shown, good, at_e, free, free_entry, gone, gone_entry, moved, at_e', alone, is_at}
 
   abbrev v : Folders
   v = folders_of s d
@@ -84,19 +69,9 @@ module _ (move : Move) where
   named = name_there s v o p n i x at is_node
 
   -- the two entries that have changed
-  abbrev entries : TwoEntries
+  abbrev entries : TwoEntries s d d' o n k i p e e'
   entries = record {
-    s = s;
     texts = texts;
-    d = d;
-    d' = d';
-    o = o;
-    n = n;
-    k = k;
-    i = i;
-    p = p;
-    e = e;
-    e' = e';
     own = own;
     at_p = at;
     named_n = named;
@@ -142,13 +117,8 @@ module _ (move : Move) where
   same_seen = moved ∙ sym shown
 
   -- what is shown under the two names
-  abbrev shown_moved : ShownMoved n k p apart
+  abbrev shown_moved : ShownMoved n k p apart s v v' o i
   shown_moved = record {
-    s = s;
-    v = v;
-    v' = v';
-    o = o;
-    i = i;
     own = own;
     at_p = at;
     named_old = named;

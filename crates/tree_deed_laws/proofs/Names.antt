@@ -25,18 +25,7 @@ use Rattle.tree_deed_laws.proofs.Removes.{cleared, cleared_entry, cleared_inner,
 use Rattle.tree_deed_laws.proofs.Moving.{Moves, Move, leaf_moved, dir_moved}
 
 -- a node gets another name, for which there is room
-pub record NameChange : Type 0 where
-  pub s : Sealing
-  pub d : Disk
-  pub marks : Marks
-  pub long : Path → Bool
-  pub o : List ℕ → Path
-  pub p : Path
-  pub i : List ℕ
-  pub n : List ℕ
-  pub k : List ℕ
-  pub x : Node
-  pub b : Bool
+pub record NameChange (s : Sealing) (d : Disk) (marks : Marks) (long : Path → Bool) (o : List ℕ → Path) (p : Path) (i n k : List ℕ) (x : Node) (b : Bool) : Type 0 where
   pub texts : AreTexts s
   pub st : StandsFor s d marks long o
   pub plain : IsPlain s d o p i n x
@@ -45,8 +34,8 @@ pub record NameChange : Type 0 where
   pub long_free : get d (host_entry (s.folder_of i) (s.long_of (s.seal i k))) ≡ None
   pub is_at : IsAt s d (s.folder_of i) (s.seal i n) b
 
-module _ (change : NameChange) where
-  open change use {s, d, marks, long, o, p, i, n, k, x, b, texts, st, plain, new, short_free, long_free, is_at}
+module _ {s : Sealing} {d : Disk} {marks : Marks} {long : Path → Bool} {o : List ℕ → Path} {p : Path} {i n k : List ℕ} {x : Node} {b : Bool} (change : NameChange s d marks long o p i n k x b) where
+  open change use {texts, st, plain, new, short_free, long_free, is_at}
 
   abbrev F : List ℕ
   F = s.folder_of i
@@ -227,23 +216,9 @@ module _ (change : NameChange) where
             after : (seen_at s node_disk F Y ≡ Some has.0) × (entry_of s node_disk F Y ≡ E') × (known_at node_disk F E' ≡ kn)
             after = node_shown s node_disk F Y e kn t has.0 text_y new3
 
-            move : Move
+            move : Move s d node_disk marks long o p i n k E E' x has.0 e
             move = record {
-              s = s;
               texts = texts;
-              d = d;
-              d' = node_disk;
-              marks = marks;
-              long = long;
-              o = o;
-              p = p;
-              i = i;
-              n = n;
-              k = k;
-              e = E;
-              e' = E';
-              x = x;
-              kk = has.0;
               st = st;
               at = plain.parent;
               is_node = plain.there;
@@ -267,7 +242,6 @@ module _ (change : NameChange) where
               moved = after.0;
               at_e' = after.1;
               alone = alone3;
-              b = e;
               is_at = folder_at s node_disk F Y e kn t has.0 new3;
             }
 
@@ -330,22 +304,8 @@ module _ (change : NameChange) where
 
       pub plain_stands : claimed s (Some x) ≡ None → Moves s d plain_disk marks long o n k p false
       plain_stands leaf =
-          let move : Move = record {
-            s = s;
+          let move : Move s d plain_disk marks long o p i n k X Y x has.0 false = record {
             texts = texts;
-            d = d;
-            d' = plain_disk;
-            marks = marks;
-            long = long;
-            o = o;
-            p = p;
-            i = i;
-            n = n;
-            k = k;
-            e = X;
-            e' = Y;
-            x = x;
-            kk = has.0;
             st = st;
             at = plain.parent;
             is_node = plain.there;
@@ -369,7 +329,6 @@ module _ (change : NameChange) where
             moved = plain_shown s plain_disk F Y y text_y (entry_part s plain_disk F Y part_y ∙ p_it) ∙ ap (λ (z : Kind). Some z) (sym ky);
             at_e' = p_at;
             alone = p_alone;
-            b = false;
             is_at = file_at s plain_disk F Y y (entry_part s plain_disk F Y part_y ∙ p_it);
           } in
           leaf_moved move leaf
@@ -425,22 +384,8 @@ module _ (change : NameChange) where
     pub long_stands : claimed s (Some x) ≡ None → Moves s d long_disk marks long o n k p true
     long_stands leaf =
         let after = node_shown s long_disk F Y true text_contents y has.0 text_y l_new in
-        let move : Move = record {
-          s = s;
+        let move : Move s d long_disk marks long o p i n k X L x has.0 true = record {
           texts = texts;
-          d = d;
-          d' = long_disk;
-          marks = marks;
-          long = long;
-          o = o;
-          p = p;
-          i = i;
-          n = n;
-          k = k;
-          e = X;
-          e' = L;
-          x = x;
-          kk = has.0;
           st = st;
           at = plain.parent;
           is_node = plain.there;
@@ -464,7 +409,6 @@ module _ (change : NameChange) where
           moved = after.0;
           at_e' = after.1;
           alone = no_mark_at s long_disk i k true text_contents y has.0 text_y l_new (λ z. absurd (true≢false z));
-          b = true;
           is_at = folder_at s long_disk F Y true text_contents y has.0 l_new;
         } in
         leaf_moved move leaf
@@ -547,22 +491,8 @@ module _ (change : NameChange) where
     pub short_stands : claimed s (Some x) ≡ None → Moves s d short_disk marks long o n k p false
     short_stands leaf =
         let before = node_shown s d F X b text_contents t has.0 text_x was in
-        let move : Move = record {
-          s = s;
+        let move : Move s d short_disk marks long o p i n k E Y x has.0 false = record {
           texts = texts;
-          d = d;
-          d' = short_disk;
-          marks = marks;
-          long = long;
-          o = o;
-          p = p;
-          i = i;
-          n = n;
-          k = k;
-          e = E;
-          e' = Y;
-          x = x;
-          kk = has.0;
           st = st;
           at = plain.parent;
           is_node = plain.there;
@@ -586,7 +516,6 @@ module _ (change : NameChange) where
           moved = plain_shown s short_disk F Y t text_y (entry_part s short_disk F Y part_y ∙ z_it) ∙ ap (λ (z : Kind). Some z) (sym kt);
           at_e' = z_at;
           alone = z_alone;
-          b = false;
           is_at = file_at s short_disk F Y t (entry_part s short_disk F Y part_y ∙ z_it);
         } in
         leaf_moved move leaf

@@ -20,16 +20,8 @@ child_cases n p l q = go (path_cases (n ∷ p) (l ∷ q))
     go (inr h) = inr h.1
 
 -- an entry of a directory, that of the name n in it, changed
-pub record OneEntry : Type 0 where
-  pub s : Sealing
+pub record OneEntry (s : Sealing) (d d' : Disk) (o : List ℕ → Path) (n i : List ℕ) (p : Path) (e : List ℕ) : Type 0 where
   pub texts : AreTexts s
-  pub d : Disk
-  pub d' : Disk
-  pub o : List ℕ → Path
-  pub n : List ℕ
-  pub i : List ℕ
-  pub p : Path
-  pub e : List ℕ
   pub own : IsOwner s (folders_of s d) o
   pub at : node_at s (folders_of s d) o p ≡ Some (Dir i)
   pub named : is_name n (s.open_name i (s.seal i n)) ≡ true
@@ -37,23 +29,13 @@ pub record OneEntry : Type 0 where
   pub entry : (g u : List ℕ) → u ≢ text_dirid → (g ≡ s.folder_of i → u ≡ e → ⊥) → get d' (host_entry g u) ≡ get d (host_entry g u)
   pub inner : (g u l : List ℕ) → (g ≡ s.folder_of i → u ≡ e → ⊥) → get d' (host_inner g u l) ≡ get d (host_inner g u l)
 
-module _ (one : OneEntry) where
-  open one use {s, texts, d, d', o, n, i, p, e, own, at, named, place, entry, inner}
+module _ {s : Sealing} {d d' : Disk} {o : List ℕ → Path} {n i : List ℕ} {p : Path} {e : List ℕ} (one : OneEntry s d d' o n i p e) where
+  open one use {texts, own, at, named, place, entry, inner}
 
   -- it is both of two
-  abbrev both : TwoEntries
+  abbrev both : TwoEntries s d d' o n n i p e e
   both = record {
-    s = s;
     texts = texts;
-    d = d;
-    d' = d';
-    o = o;
-    n = n;
-    k = n;
-    i = i;
-    p = p;
-    e = e;
-    e' = e;
     own = own;
     at_p = at;
     named_n = named;

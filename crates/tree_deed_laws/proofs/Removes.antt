@@ -128,17 +128,7 @@ module _ (F E kn : List ℕ) (far : kn ≢ text_name) where
 
 -- ---- a node folder that names no directory: a link, or a file at its long place
 -- a node in a folder of its own, which names no folder and holds nothing foreign
-pub record RemovedNode : Type 0 where
-  pub s : Sealing
-  pub d : Disk
-  pub tree : Tree
-  pub p : Path
-  pub i : List ℕ
-  pub n : List ℕ
-  pub x : Node
-  pub b : Bool
-  pub kn : List ℕ
-  pub t : List ℕ
+pub record RemovedNode (s : Sealing) (d : Disk) (tree : Tree) (p : Path) (i n : List ℕ) (x : Node) (b : Bool) (kn t : List ℕ) : Type 0 where
   pub texts : AreTexts s
   pub is : IsTreeOf s d tree
   pub held : IsHeldByNone tree p i n x
@@ -147,8 +137,8 @@ pub record RemovedNode : Type 0 where
   pub none_named : claimed s (Some x) ≡ None
   pub no_foreign : HasForeign s d (Some x) → ⊥
 
-module _ (gone_node : RemovedNode) where
-  open gone_node use {s, d, tree, p, i, n, x, b, kn, t, texts, is, held, at_b, kind, none_named, no_foreign}
+module _ {s : Sealing} {d : Disk} {tree : Tree} {p : Path} {i n : List ℕ} {x : Node} {b : Bool} {kn t : List ℕ} (gone_node : RemovedNode s d tree p i n x b kn t) where
+  open gone_node use {texts, is, held, at_b, kind, none_named, no_foreign}
 
   abbrev o : List ℕ → Path
   o = is.owner
@@ -207,21 +197,9 @@ module _ (gone_node : RemovedNode) where
   gone : seen_at s d' F X ≡ None
   gone = gone_seen s texts d F X b kn t kk its_text folder (λ z. it.unmarked (inr z))
 
-  abbrev removal : NodeGone
+  abbrev removal : NodeGone s d d' tree.marks tree.long o p i n E' x kk
   removal = record {
-    s = s;
     texts = texts;
-    d = d;
-    d' = d';
-    marks = tree.marks;
-    long = tree.long;
-    o = o;
-    p = p;
-    i = i;
-    n = n;
-    e = E';
-    x = x;
-    kk = kk;
     st = st;
     at = it.parent;
     is_node = it.there;
@@ -262,18 +240,8 @@ removes_link s d tree p i n x texts is held =
     has : (kk : Kind) × (look s (folders_of s d) i n ≡ Some kk) × (kk ≢ Bare) × (node s (folders_of s d) is.owner (n ∷ p) (Some kk) ≡ Some (Link x))
     has = node_has s d tree.marks tree.long is.owner p i n (Link x) (tree.long (n ∷ p)) texts (stands s d tree is) (plain s d tree p i n (Link x) is held) (now_at s d tree p i n (Link x) is held)
 
-    link : RemovedNode
+    link : RemovedNode s d tree p i n (Link x) (tree.long (n ∷ p)) text_symlink x
     link = record {
-      s = s;
-      d = d;
-      tree = tree;
-      p = p;
-      i = i;
-      n = n;
-      x = Link x;
-      b = tree.long (n ∷ p);
-      kn = text_symlink;
-      t = x;
       texts = texts;
       is = is;
       held = held;
@@ -293,18 +261,8 @@ file_long s d tree p i n x texts is held at_b =
     has : (kk : Kind) × (look s (folders_of s d) i n ≡ Some kk) × (kk ≢ Bare) × (node s (folders_of s d) is.owner (n ∷ p) (Some kk) ≡ Some (File x))
     has = node_has s d tree.marks tree.long is.owner p i n (File x) true texts (stands s d tree is) (plain s d tree p i n (File x) is held) at_b
 
-    file : RemovedNode
+    file : RemovedNode s d tree p i n (File x) true text_contents x
     file = record {
-      s = s;
-      d = d;
-      tree = tree;
-      p = p;
-      i = i;
-      n = n;
-      x = File x;
-      b = true;
-      kn = text_contents;
-      t = x;
       texts = texts;
       is = is;
       held = held;
@@ -379,21 +337,9 @@ file_short s d tree p i n x texts is held at_b = record {
     folders' : (g : List ℕ) → get d' (host_folder g) ≡ get d (host_folder g)
     folders' g = get_gone_other d _ (host_folder g) (folder_entry g F X)
 
-    removal : NodeGone
+    removal : NodeGone s d d' tree.marks tree.long o p i n X (File x) (Plain x)
     removal = record {
-      s = s;
       texts = texts;
-      d = d;
-      d' = d';
-      marks = tree.marks;
-      long = tree.long;
-      o = o;
-      p = p;
-      i = i;
-      n = n;
-      e = X;
-      x = File x;
-      kk = Plain x;
       st = st;
       at = it.parent;
       is_node = it.there;
@@ -598,21 +544,9 @@ removes_directory s d tree p i n t texts is held emptied = record {
     folders' g ne = get_gone_other d3 _ (host_folder g) (λ z. ne (folder_is g G z)) ∙ get_gone_other d2 _ (host_folder g) (folder_entry g G text_dirid)
         ∙ off_folder s texts d F X b text_dir t kk its_text node_is g
 
-    removal : NodeGone
+    removal : NodeGone s d d4 tree.marks tree.long o p i n E (Dir t) kk
     removal = record {
-      s = s;
       texts = texts;
-      d = d;
-      d' = d4;
-      marks = tree.marks;
-      long = tree.long;
-      o = o;
-      p = p;
-      i = i;
-      n = n;
-      e = E;
-      x = Dir t;
-      kk = kk;
       st = st;
       at = it.parent;
       is_node = it.there;

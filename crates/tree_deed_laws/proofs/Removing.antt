@@ -19,20 +19,8 @@ use Rattle.tree_deed_laws.proofs.OneEntry.{OneEntry, child_cases}
 use Rattle.tree_deed_laws.proofs.Stands.{StandsFor}
 
 -- a node without nodes below it is gone, and so is its entry
-pub record NodeGone : Type 0 where
-  pub s : Sealing
+pub record NodeGone (s : Sealing) (d d' : Disk) (marks : Marks) (long : Path → Bool) (o : List ℕ → Path) (p : Path) (i n e : List ℕ) (x : Node) (kk : Kind) : Type 0 where
   pub texts : AreTexts s
-  pub d : Disk
-  pub d' : Disk
-  pub marks : Marks
-  pub long : Path → Bool
-  pub o : List ℕ → Path
-  pub p : Path
-  pub i : List ℕ
-  pub n : List ℕ
-  pub e : List ℕ
-  pub x : Node
-  pub kk : Kind
   pub st : StandsFor s d marks long o
   pub at : node_at s (folders_of s d) o p ≡ Some (Dir i)
   pub is_node : node_at s (folders_of s d) o (n ∷ p) ≡ Some x
@@ -50,8 +38,8 @@ pub record NodeGone : Type 0 where
   pub gone_entry : get d' (host_entry (s.folder_of i) e) ≡ None
   pub gone : (folders_of s d').seen (s.folder_of i) (s.seal i n) ≡ None
 
-module _ (removal : NodeGone) where
-  open removal use {s, texts, d, d', marks, long, o, p, i, n, e, x, kk, st, at, is_node, leaf, unmarked, no_foreign, tree', place, entry, inner, copies, shown, good, at_e, gone_entry, gone}
+module _ {s : Sealing} {d d' : Disk} {marks : Marks} {long : Path → Bool} {o : List ℕ → Path} {p : Path} {i n e : List ℕ} {x : Node} {kk : Kind} (removal : NodeGone s d d' marks long o p i n e x kk) where
+  open removal use {texts, st, at, is_node, leaf, unmarked, no_foreign, tree', place, entry, inner, copies, shown, good, at_e, gone_entry, gone}
 
   abbrev v : Folders
   v = folders_of s d
@@ -66,17 +54,9 @@ module _ (removal : NodeGone) where
   named = name_there s v o p n i x at is_node
 
   -- the entry that has changed
-  abbrev entry_of_it : OneEntry
+  abbrev entry_of_it : OneEntry s d d' o n i p e
   entry_of_it = record {
-    s = s;
     texts = texts;
-    d = d;
-    d' = d';
-    o = o;
-    n = n;
-    i = i;
-    p = p;
-    e = e;
     own = own;
     at = at;
     named = named;

@@ -78,12 +78,7 @@ module _ (n k : List ℕ) (p : Path) (apart : n ≢ k) where
       go (inr (f, ne)) = same_path-apart (sw a) b (λ e. ne (sym (swapped_twice a) ∙ ap sw e)) ∙ sym f
 
   -- the kind that was shown under the one name is shown under the other
-  pub record ShownMoved : Type 0 where
-    pub s : Sealing
-    pub v : Folders
-    pub v' : Folders
-    pub o : List ℕ → Path
-    pub i : List ℕ
+  pub record ShownMoved (s : Sealing) (v v' : Folders) (o : List ℕ → Path) (i : List ℕ) : Type 0 where
     pub own : IsOwner s v o
     pub at_p : node_at s v o p ≡ Some (Dir i)
     pub named_old : is_name n (s.open_name i (s.seal i n)) ≡ true
@@ -94,8 +89,8 @@ module _ (n k : List ℕ) (p : Path) (apart : n ≢ k) where
     pub gone : v'.seen (s.folder_of i) (s.seal i n) ≡ None
     pub moved : v'.seen (s.folder_of i) (s.seal i k) ≡ v.seen (s.folder_of i) (s.seal i n)
 
-  module _ (shown : ShownMoved) where
-    open shown use {s, v, v', o, i, own, at_p, named_old, named_new, changed, folders, free, gone, moved}
+  module _ {s : Sealing} {v v' : Folders} {o : List ℕ → Path} {i : List ℕ} (shown : ShownMoved s v v' o i) where
+    open shown use {own, at_p, named_old, named_new, changed, folders, free, gone, moved}
 
     abbrev moved_owner : List ℕ → Path
     moved_owner f = sw (o f)

@@ -25,25 +25,15 @@ use Rattle.tree_deed_laws.proofs.Names.{NameChange, node_disk, node_stands, node
 -- ---- the laws
 
 -- a node of a tree that gets another name
-pub record Renamed : Type 0 where
-  pub s : Sealing
-  pub d : Disk
-  pub tree : Tree
-  pub p : Path
-  pub i : List ℕ
-  pub n : List ℕ
-  pub k : List ℕ
-  pub x : Node
-  pub b : Bool
-  pub e : Bool
+pub record Renamed (s : Sealing) (d : Disk) (tree : Tree) (p : Path) (i n k : List ℕ) (x : Node) (b e : Bool) : Type 0 where
   pub texts : AreTexts s
   pub is : IsTreeOf s d tree
   pub held : IsHeldByNone tree p i n x
   pub new : IsNew s d tree p i k e None
   pub at_b : IsAt s d (s.folder_of i) (s.seal i n) b
 
-module _ (renamed : Renamed) where
-  open renamed use {s, d, tree, p, i, n, k, x, b, e, texts, is, held, new, at_b}
+module _ {s : Sealing} {d : Disk} {tree : Tree} {p : Path} {i n k : List ℕ} {x : Node} {b e : Bool} (renamed : Renamed s d tree p i n k x b e) where
+  open renamed use {texts, is, held, new, at_b}
 
   abbrev o : List ℕ → Path
   o = is.owner
@@ -60,19 +50,8 @@ module _ (renamed : Renamed) where
   abbrev pub free : (entry_at s d (s.folder_of i) (s.seal i k) ≡ None) × (get d (host_entry (s.folder_of i) (s.long_of (s.seal i k))) ≡ None) × (taken_by_identifier s d new.place.claims None ≡ None)
   free = places s d tree p i k e None texts is new
 
-  abbrev pub change : NameChange
+  abbrev pub change : NameChange s d tree.marks tree.long o p i n k x b
   change = record {
-    s = s;
-    d = d;
-    marks = tree.marks;
-    long = tree.long;
-    o = o;
-    p = p;
-    i = i;
-    n = n;
-    k = k;
-    x = x;
-    b = b;
     texts = texts;
     st = st;
     plain = it;
@@ -115,18 +94,8 @@ module _ (renamed : Renamed) where
 pub renames_link : RenamesLink
 renames_link s d tree p i n k x e texts is held new = renames_node node text_symlink x (inr (inl (refl, kind))) (inr (inl (refl, kind))) (inl refl)
   where
-    node : Renamed
+    node : Renamed s d tree p i n k (Link x) (tree.long (n ∷ p)) e
     node = record {
-      s = s;
-      d = d;
-      tree = tree;
-      p = p;
-      i = i;
-      n = n;
-      k = k;
-      x = Link x;
-      b = tree.long (n ∷ p);
-      e = e;
       texts = texts;
       is = is;
       held = held;
@@ -141,18 +110,8 @@ pub renames_directory : RenamesDirectory
 renames_directory s d tree p i n k t e texts is held new once = renames_node node text_dir t (inl (refl, kind)) (inl (refl, kind))
     (inr (named_once s (folders_of s d) is.owner (unset tree.marks.twice (NamedTwice s (folders_of s d) is.owner) is.marked.twice once)))
   where
-    node : Renamed
+    node : Renamed s d tree p i n k (Dir t) (tree.long (n ∷ p)) e
     node = record {
-      s = s;
-      d = d;
-      tree = tree;
-      p = p;
-      i = i;
-      n = n;
-      k = k;
-      x = Dir t;
-      b = tree.long (n ∷ p);
-      e = e;
       texts = texts;
       is = is;
       held = held;
@@ -175,18 +134,8 @@ module _ (s : Sealing) (d : Disk) (tree : Tree) (p : Path) (i n k y : List ℕ) 
   abbrev Y : List ℕ
   Y = s.seal i k
 
-  abbrev renamed_file : (b e : Bool) → IsNew s d tree p i k e None → IsAt s d F X b → Renamed
+  abbrev renamed_file : (b e : Bool) → IsNew s d tree p i k e None → IsAt s d F X b → Renamed s d tree p i n k (File y) b e
   renamed_file b e new at_b = record {
-    s = s;
-    d = d;
-    tree = tree;
-    p = p;
-    i = i;
-    n = n;
-    k = k;
-    x = File y;
-    b = b;
-    e = e;
     texts = texts;
     is = is;
     held = held;
@@ -206,7 +155,7 @@ module _ (s : Sealing) (d : Disk) (tree : Tree) (p : Path) (i n k y : List ℕ) 
     clear = named_so file (insert (remove d (host_entry F X)) (host_entry F Y) (Bytes y)) (plain_stands (change file) y plain_y refl (new.place.part refl) refl);
   }
     where
-      file : Renamed
+      file : Renamed s d tree p i n k (File y) false false
       file = renamed_file false false new at_b
 
       plain_y : (its file).0 ≡ Plain y
@@ -225,7 +174,7 @@ module _ (s : Sealing) (d : Disk) (tree : Tree) (p : Path) (i n k y : List ℕ) 
     clear = named_so file (long_disk (change file) y plain_y refl) (long_stands (change file) y plain_y refl refl);
   }
     where
-      file : Renamed
+      file : Renamed s d tree p i n k (File y) false true
       file = renamed_file false true new at_b
 
       plain_y : (its file).0 ≡ Plain y
@@ -247,7 +196,7 @@ module _ (s : Sealing) (d : Disk) (tree : Tree) (p : Path) (i n k y : List ℕ) 
     clear = named_so file (short_disk (change file) y plain_y refl (new.place.part refl)) (short_stands (change file) y plain_y refl (new.place.part refl) refl);
   }
     where
-      file : Renamed
+      file : Renamed s d tree p i n k (File y) true false
       file = renamed_file true false new at_b
 
       plain_y : (its file).0 ≡ Plain y

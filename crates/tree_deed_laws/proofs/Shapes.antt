@@ -42,18 +42,7 @@ like_shown s tree tree' q y a b marks like shown = record {
 
 -- ---- one more
 -- a row more, of a node that was not there
-pub record AddedRow : Type 0 where
-  pub s : Sealing
-  pub d : Disk
-  pub tree : Tree
-  pub rows : Rows
-  pub parent : Row
-  pub new : Row
-  pub p : Path
-  pub n : List ℕ
-  pub x : Node
-  pub long : Bool
-  pub now : ℕ
+pub record AddedRow (s : Sealing) (d : Disk) (tree : Tree) (rows : Rows) (parent new : Row) (p : Path) (n : List ℕ) (x : Node) (long : Bool) (now : ℕ) : Type 0 where
   pub is : IsTreeOf s d tree
   pub shape : HasShape s tree rows
   pub at_p : IsRowAt rows p parent
@@ -67,8 +56,8 @@ pub record AddedRow : Type 0 where
   pub foreign : new.foreign ≡ false
   pub shadowed : new.shadowed ≡ false
 
-module _ (added : AddedRow) where
-  open added use {s, d, tree, rows, parent, new, p, n, x, long, now, is, shape, at_p, free, none, number, inside, named, kind, content, foreign, shadowed}
+module _ {s : Sealing} {d : Disk} {tree : Tree} {rows : Rows} {parent new : Row} {p : Path} {n : List ℕ} {x : Node} {long : Bool} {now : ℕ} (added : AddedRow s d tree rows parent new p n x long now) where
+  open added use {is, shape, at_p, free, none, number, inside, named, kind, content, foreign, shadowed}
 
   abbrev tree' : Tree
   tree' = with_node tree (n ∷ p) x long
@@ -174,17 +163,7 @@ module _ (s : Sealing) (tree : Tree) (rows : Rows) (old : Row) (p : Path) (n : L
 
 -- ---- one renamed
 -- a row under another name
-pub record MovedRow : Type 0 where
-  pub s : Sealing
-  pub tree : Tree
-  pub rows : Rows
-  pub old : Row
-  pub new : Row
-  pub p : Path
-  pub n : List ℕ
-  pub k : List ℕ
-  pub long : Bool
-  pub now : ℕ
+pub record MovedRow (s : Sealing) (tree : Tree) (rows : Rows) (old new : Row) (p : Path) (n k : List ℕ) (long : Bool) (now : ℕ) : Type 0 where
   pub apart : n ≢ k
   pub shape : HasShape s tree rows
   pub at_it : IsRowAt rows (n ∷ p) old
@@ -197,8 +176,8 @@ pub record MovedRow : Type 0 where
   pub foreign : new.foreign ≡ old.foreign
   pub shadowed : new.shadowed ≡ old.shadowed
 
-module _ (moved : MovedRow) where
-  open moved use {s, tree, rows, old, new, p, n, k, long, now, apart, shape, at_it, free, number, inside, named, kind, content, foreign, shadowed}
+module _ {s : Sealing} {tree : Tree} {rows : Rows} {old new : Row} {p : Path} {n k : List ℕ} {long : Bool} {now : ℕ} (moved : MovedRow s tree rows old new p n k long now) where
+  open moved use {apart, shape, at_it, free, number, inside, named, kind, content, foreign, shadowed}
 
   abbrev moved_tree : Tree
   moved_tree = with_name tree (n ∷ p) (k ∷ p) long
@@ -275,19 +254,8 @@ file_follows s d tree rows parent p i n header long now texts is shape at_p dir_
   shape = shape_more added;
 }
   where
-    added : AddedRow
+    added : AddedRow s d tree rows parent (new_row rows parent n false now) p n (File header) long now
     added = record {
-      s = s;
-      d = d;
-      tree = tree;
-      rows = rows;
-      parent = parent;
-      new = new_row rows parent n false now;
-      p = p;
-      n = n;
-      x = File header;
-      long = long;
-      now = now;
       is = is;
       shape = shape;
       at_p = at_p;
@@ -309,19 +277,8 @@ directory_follows s d tree rows parent p i n t long now texts is shape at_p dir_
   shape = shape_more added;
 }
   where
-    added : AddedRow
+    added : AddedRow s d tree rows parent (new_row rows parent n true now) p n (Dir t) long now
     added = record {
-      s = s;
-      d = d;
-      tree = tree;
-      rows = rows;
-      parent = parent;
-      new = new_row rows parent n true now;
-      p = p;
-      n = n;
-      x = Dir t;
-      long = long;
-      now = now;
       is = is;
       shape = shape;
       at_p = at_p;
@@ -351,24 +308,15 @@ passes_to false r rest e = (refl, e)
 passes_to true r rest e = absurd (cc)
 
 -- the row of a node, in a directory of the tree
-pub record HeldRow : Type 0 where
-  pub s : Sealing
-  pub d : Disk
-  pub tree : Tree
-  pub rows : Rows
-  pub row : Row
-  pub p : Path
-  pub i : List ℕ
-  pub n : List ℕ
-  pub now : ℕ
+pub record HeldRow (s : Sealing) (d : Disk) (tree : Tree) (rows : Rows) (row : Row) (p : Path) (i n : List ℕ) (now : ℕ) : Type 0 where
   pub texts : AreTexts s
   pub is : IsTreeOf s d tree
   pub shape : HasShape s tree rows
   pub at_it : IsRowAt rows (n ∷ p) row
   pub at_p : get tree.nodes p ≡ Some (Dir i)
 
-module _ (held_row : HeldRow) where
-  open held_row use {s, d, tree, rows, row, p, i, n, now, texts, is, shape, at_it, at_p}
+module _ {s : Sealing} {d : Disk} {tree : Tree} {rows : Rows} {row : Row} {p : Path} {i n : List ℕ} {now : ℕ} (held_row : HeldRow s d tree rows row p i n now) where
+  open held_row use {texts, is, shape, at_it, at_p}
 
   -- the row shows its node
   shows : (x : Node) → get tree.nodes (n ∷ p) ≡ Some x → IsShown s tree (n ∷ p) x row
@@ -455,18 +403,8 @@ module _ (held_row : HeldRow) where
         → HasShape s (with_name tree (n ∷ p) (k ∷ p) long) (set_row (change_dir rows row.parent now) (with_mtime c (record row { name = k })))
     shaped x e = shape_moved renamed
       where
-        renamed : MovedRow
+        renamed : MovedRow s tree rows row (with_mtime c (record row { name = k })) p n k long now
         renamed = record {
-          s = s;
-          tree = tree;
-          rows = rows;
-          old = row;
-          new = with_mtime c (record row { name = k });
-          p = p;
-          n = n;
-          k = k;
-          long = long;
-          now = now;
           apart = apart x e;
           shape = shape;
           at_it = at_it;
@@ -503,17 +441,8 @@ module _ (held_row : HeldRow) where
 pub removal_follows : RemovalFollows
 removal_follows s d tree rows row p i n x now texts is shape at_it at_p there none = removed held_row x there none
   where
-    held_row : HeldRow
+    held_row : HeldRow s d tree rows row p i n now
     held_row = record {
-      s = s;
-      d = d;
-      tree = tree;
-      rows = rows;
-      row = row;
-      p = p;
-      i = i;
-      n = n;
-      now = now;
       texts = texts;
       is = is;
       shape = shape;
@@ -525,17 +454,8 @@ pub rename_follows : RenameFollows
 rename_follows s d tree rows row p i n k x long c now texts is shape at_it at_p there good free held' place =
     named_so held_row k long c free held' place x there good
   where
-    held_row : HeldRow
+    held_row : HeldRow s d tree rows row p i n now
     held_row = record {
-      s = s;
-      d = d;
-      tree = tree;
-      rows = rows;
-      row = row;
-      p = p;
-      i = i;
-      n = n;
-      now = now;
       texts = texts;
       is = is;
       shape = shape;
