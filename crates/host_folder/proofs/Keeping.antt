@@ -465,10 +465,10 @@ held_synced story failed held sure = record {
 -- once all is on the disk that an earlier run left off it, the log begins with what reads give
 pub held_opened : (paths : List Path) (old new : Story) → IsOpened paths old → IsLater old new → IsSure new [] → IsHeld new [] [] false
 held_opened paths old new opened later sure =
-    let is : new.diary ≡ record { start = disk_now old; calls = [] } = later.diary ∙ opened.diary in
+    let is : new.diary ≡ record { start = disk_now old; calls = [] } = later.diary ∙ opened.begun.diary in
     record {
-      log = subst (λ (log : Log). IsSound log.start log.calls) (sym is) opened.tree;
-      noted = later.unnoted ∙ opened.noted;
+      log = subst (λ (log : Log). IsSound log.start log.calls) (sym is) opened.begun.tree;
+      noted = later.unnoted ∙ opened.begun.noted;
       sound = later.sound;
       shows = later.disk ∙ ap now (sym is);
       images = λ v left. subst (λ (log : Log). IsImage log (disk_of v)) (sym is) (settled_disk new v later.sound sure.loose left ∙ later.disk);

@@ -2,12 +2,12 @@
 use Rattle.std.specs.Prelude.{ℕ, List, [], ◌∷◌, ◌++◌}
 use Rattle.std.specs.List.{flat_map}
 use Rattle.outside.specs.Disk.{Path, parent}
-use Rattle.vault_layout.specs.Names.{folders, journal_file, masterkey_file, new_journal_file, vault_file}
+use Rattle.vault_layout.specs.Names.{folders, journal_file, new_journal_file, masterkey_file, vault_file}
 
--- the folder itself, and in it the folder of all others, the journal, the file that the first journal is made in, and the key files
+-- in the folder the one of all others, the journal, the file that the first journal is made in and the key files; and the folder
+-- itself
 abbrev pub first_paths : List Path
-first_paths =
-    [] ∷ (folders ∷ []) ∷ (journal_file ∷ []) ∷ (new_journal_file ∷ []) ∷ (masterkey_file ∷ []) ∷ (vault_file ∷ []) ∷ []
+first_paths = (folders ∷ []) ∷ (journal_file ∷ []) ∷ (new_journal_file ∷ []) ∷ (masterkey_file ∷ []) ∷ (vault_file ∷ []) ∷ [] ∷ []
 
 -- a path and the folder that it is in
 abbrev pub with_folder : Path → List Path

@@ -1,5 +1,5 @@
 -- What a folder over a host keeps: how the host's story and the folder's log belong together.
-use Rattle.std.specs.Prelude.{◌≡◌, ◌⊎◌, Bool, false, List, [], ◌∷◌, Some, Contains}
+use Rattle.std.specs.Prelude.{◌≡◌, ◌⊎◌, Bool, false, List, [], ◌∷◌, ◌++◌, Some, Contains}
 use Rattle.outside.specs.Disk.{Path}
 use Rattle.outside.specs.Images.{IsSound, IsImage, now}
 use Rattle.host_calls.specs.declared.found.Inode.{Inode}
@@ -46,3 +46,7 @@ pub record HasCome (path : Path) (old new : Story) : Type 0 where
 -- all of it has come there
 abbrev pub HaveCome : List Path → Story → Story → Type 0
 HaveCome paths old new = IsSure old paths → IsSure new []
+
+-- these first, whatever others there are
+abbrev pub HaveComeFirst : List Path → Story → Story → Type 0
+HaveComeFirst paths old new = (others : List Path) → IsSure old (paths ++ others) → IsSure new others

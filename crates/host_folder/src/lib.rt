@@ -1,9 +1,19 @@
-//! What a folder over a host's calls keeps, as laws.
+//! A folder over a host's calls, which tells what it holds and what a power cut may leave of it wherever the host does.
+//!
+//! ```
+//! let unsettled = Unsettled::new(host, alloc, "/srv/vault")?; // it can be read
+//! let mut folder = unsettled.settle(&paths); // on the disk is what an earlier run left off it at these paths
+//! folder.put(&path, b"some bytes")?; // a new file, by one call of the host
+//! folder.sync()?; // a flush of the file and of the folder that it is in
+//! ```
 //!
 //! A folder's log and the host's story belong together (`IsHeld`) if reads give what the log says, each volume that a power cut may
-//! leave is an image of the log, and all that isn't on the disk yet is at the paths that the next sync flushes. The proofs lead from
-//! call to call: a step that was taken, in part or whole, and noted keeps that (`Answering`, `Keeping`), as do a flush, a sync and an
-//! opening.
+//! leave is an image of the log, and all that isn't on the disk yet is at the paths that the next sync flushes. The laws lead from
+//! call to call: a step that was taken, in part or whole, and noted keeps that, as do a flush, a sync and an opening. A change has the
+//! next sync flush its paths also where it finds itself done, since an earlier run may have left that off the disk.
+//!
+//! A flush that fails can't be made good: each sync fails from then on. If that happens as a folder is settled, a power cut may still
+//! leave what no log says, and the folder tells nothing.
 #![tactic(auto)]
 
 ghost use Rattle.std.specs.Prelude.{◌≡◌, false, Bool, List, []};
@@ -13,6 +23,21 @@ ghost use Rattle.host_calls.specs.Volume.{Volume, disk_of};
 ghost use Rattle.host_calls.specs.Story.{Story, IsLeft, disk_now, notes};
 ghost use Rattle.host_folder.specs.Held.{IsHeld, IsSure, IsLater};
 ghost use Rattle.host_folder.specs.Opened.{IsOpened};
+
+mod count;
+mod flushing;
+mod folder;
+mod host;
+mod making;
+mod naming;
+mod path_buffer;
+mod reading;
+mod touched;
+mod unsettled;
+mod writing;
+
+pub use folder::HostFolder;
+pub use unsettled::Unsettled;
 
 /// A kill leaves what the log says, since the host goes on; a power cut leaves an image of the log, and after a sync what reads
 /// give. It does nothing.

@@ -15,8 +15,9 @@ ghost use Rattle.deeds.specs.Plain.{plains};
 
 use chunk_journal::{Device, Journal, JournalErr};
 use deeds::{BatchErr, Deed, is_repeatable, read_batch};
+use host_folder::HostFolder;
 use outside::{FolderErr, Kind, Reads};
-use outside_real::HostFolder;
+use outside_real::StdCalls;
 use std::alloc::{AllocError, Global};
 use std::rt::Files;
 use std::{env, io};
@@ -135,8 +136,8 @@ fn newest<D: Reads>(folder: &mut D) -> Result<u64, CrashErr> {
 fn opened<'a>(
     rt: &'a HostRuntime,
     place: &str,
-) -> Result<Journal<HostFolder<&'a HostRuntime>>, CrashErr> {
-    let folder = HostFolder::new(rt, rt.alloc(), place)?;
+) -> Result<Journal<HostFolder<StdCalls<&'a HostRuntime>>>, CrashErr> {
+    let folder = HostFolder::untold(StdCalls::new(rt), rt.alloc(), place)?;
     match Journal::open(rt.alloc(), folder) {
         Ok(journal) => Ok(journal),
         Err(refused) => Err(CrashErr::Journal(refused.cause)),
@@ -145,7 +146,7 @@ fn opened<'a>(
 
 // Commits a batch that names no path twice.
 fn commit<'a>(
-    journal: &mut Journal<HostFolder<&'a HostRuntime>>,
+    journal: &mut Journal<HostFolder<StdCalls<&'a HostRuntime>>>,
     deeds: &[Deed],
 ) -> Result<(), CrashErr>
     requires { IsBatch (plains deeds.now) }

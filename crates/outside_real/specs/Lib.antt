@@ -1,4 +1,2 @@
-pub mod HostPath
 pub mod Behind
-pub mod Missing
-pub mod Same
+pub mod Errors

@@ -1,7 +1,8 @@
 //! A folder below `/tmp`, for each test its own.
 
+use host_folder::HostFolder;
 use outside::{Folder, FolderErr, Kind, Reads};
-use outside_real::HostFolder;
+use outside_real::StdCalls;
 use std::os::unix::fs::{MetadataExt, symlink};
 use std::test::Fail;
 use std::{fs, process};
@@ -21,7 +22,11 @@ fn path_of(names: &[&[u8]]) -> Result<VaultPath, Fail> {
 }
 
 // A folder `d`, a file `d/f` of the bytes `abc`, and a link `d/link` to it.
-fn fill(rt: &HostRuntime, place: &str, folder: &mut HostFolder<&HostRuntime>) -> Result<(), Fail> {
+fn fill(
+    rt: &HostRuntime,
+    place: &str,
+    folder: &mut HostFolder<StdCalls<&HostRuntime>>,
+) -> Result<(), Fail> {
     fs::create_dir(rt, place)?;
     folder.make_dir(&path_of(&[b"d"])?)?;
     folder.put(&path_of(&[b"d", b"f"])?, b"longer")?;
@@ -31,7 +36,7 @@ fn fill(rt: &HostRuntime, place: &str, folder: &mut HostFolder<&HostRuntime>) ->
 }
 
 // The bytes of `d/f`, and after them what `out` had.
-fn bytes_of_f(folder: &mut HostFolder<&HostRuntime>) -> Result<[u8; 6], Fail> {
+fn bytes_of_f(folder: &mut HostFolder<StdCalls<&HostRuntime>>) -> Result<[u8; 6], Fail> {
     let mut out = *b"------";
     folder.read(&path_of(&[b"d", b"f"])?, 0, &mut out)?;
     Ok(out)
@@ -40,7 +45,7 @@ fn bytes_of_f(folder: &mut HostFolder<&HostRuntime>) -> Result<[u8; 6], Fail> {
 #[test]
 fn kinds_and_modes_come_back(rt: HostRuntime) -> Result<(), Fail> {
     let place = place(&rt, "kinds")?;
-    let mut folder = HostFolder::new(&rt, rt.alloc(), place.as_str())?;
+    let mut folder = HostFolder::untold(StdCalls::new(&rt), rt.alloc(), place.as_str())?;
     fill(&rt, place.as_str(), &mut folder)?;
     let rows: [(&[&[u8]], Option<Kind>); 6] = [
         (&[], Some(Kind::Dir)),
@@ -65,7 +70,7 @@ fn kinds_and_modes_come_back(rt: HostRuntime) -> Result<(), Fail> {
 #[test]
 fn changes_come_back(rt: HostRuntime) -> Result<(), Fail> {
     let place = place(&rt, "changes")?;
-    let mut folder = HostFolder::new(&rt, rt.alloc(), place.as_str())?;
+    let mut folder = HostFolder::untold(StdCalls::new(&rt), rt.alloc(), place.as_str())?;
     fill(&rt, place.as_str(), &mut folder)?;
     let dir = path_of(&[b"d"])?;
     let file = path_of(&[b"d", b"f"])?;
@@ -98,7 +103,7 @@ fn changes_come_back(rt: HostRuntime) -> Result<(), Fail> {
 #[test]
 fn what_does_not_fit_is_refused(rt: HostRuntime) -> Result<(), Fail> {
     let place = place(&rt, "unfit")?;
-    let mut folder = HostFolder::new(&rt, rt.alloc(), place.as_str())?;
+    let mut folder = HostFolder::untold(StdCalls::new(&rt), rt.alloc(), place.as_str())?;
     fill(&rt, place.as_str(), &mut folder)?;
     let file = path_of(&[b"d", b"f"])?;
     let unfit = Err(FolderErr::Unfit);
@@ -124,7 +129,7 @@ fn what_does_not_fit_is_refused(rt: HostRuntime) -> Result<(), Fail> {
 
 #[test]
 fn no_device_is_opened(rt: HostRuntime) -> Result<(), Fail> {
-    let mut folder = HostFolder::new(&rt, rt.alloc(), "/dev")?;
+    let mut folder = HostFolder::untold(StdCalls::new(&rt), rt.alloc(), "/dev")?;
     let null = path_of(&[b"null"])?;
     assert_eq!(rt; folder.kind(&null), Ok(None));
     assert_eq!(rt; folder.read(&null, 0, &mut [0; 2]), Err(FolderErr::Unfit));
@@ -136,7 +141,7 @@ fn no_device_is_opened(rt: HostRuntime) -> Result<(), Fail> {
 fn nothing_is_told_of_a_folder_that_is_missing(rt: HostRuntime) -> Result<(), Fail> {
     let missing = place(&rt, "missing")?;
     for place in [missing.as_str(), ""] {
-        let mut folder = HostFolder::new(&rt, rt.alloc(), place)?;
+        let mut folder = HostFolder::untold(StdCalls::new(&rt), rt.alloc(), place)?;
         for names in [[].as_slice(), &[b"tmp".as_slice()]] {
             let path = path_of(names)?;
             assert_eq!(rt; folder.kind(&path), Err(FolderErr::Failed), "{names:?}");

@@ -3,6 +3,7 @@ use Rattle.std.specs.Prelude.{◌≡◌, ◌⊎◌, ℕ, List, [], length, min, 
 use Rattle.std.specs.List.{AllByRecursion}
 use Rattle.host_sockets.specs.Bound.{address_of, file_of, is_bound}
 use Rattle.host_sockets.specs.declared.socket.Socket.{Socket}
+use Rattle.host_folder.specs.Holding.{Holding}
 use Rattle.host_links.specs.Addresses.{IsNamedBy}
 use Rattle.host_links.specs.Behind.{link_to_come}
 use Rattle.host_links.specs.declared.listen.HostListen.{HostListen}
@@ -15,6 +16,10 @@ use Rattle.vault_top.specs.declared.program.Ended.{Ended}
 use Rattle.vaultd.specs.declared.error.StartErr.{StartErr}
 use Rattle.vaultd.specs.declared.error.StartErr.TheVariants.{Words, Memory}
 use Rattle.vaultd.specs.declared.starting.Started.{Started}
+
+-- the path of a folder on disk
+abbrev pub base_of : {H : Type 0} → Holding H → List ℕ
+base_of folder = folder.base
 
 -- a listener over the standard streams that nobody has asked yet: its one link is still to come
 abbrev pub HasLink : {R I : Type 0} → HostListen R I → Type 0

@@ -1,18 +1,18 @@
 //! The exit status of a run of the program, and what is said where there is none.
 
 ghost use Rattle.std.specs.Prelude.{◌≡◌, ℕ, List, IfOk};
-ghost use Rattle.outside_real.specs.Behind.{base_of};
 ghost use Rattle.host_links.specs.declared.stream.NullSink.{NullSink};
 ghost use Rattle.host_links.specs.Behind.{socket_of};
 ghost use Rattle.vault_top.specs.Span.{sink_in, views_of};
-ghost use Rattle.vaultd.specs.Starting.{HasLink, IsExit, IsListening, IsStarted, exit_of};
+ghost use Rattle.vaultd.specs.Starting.{base_of, HasLink, IsExit, IsListening, IsStarted, exit_of};
 
 use crate::error::StartErr;
 use crate::starting::{Started, start};
+use host_folder::HostFolder;
 use host_links::{HostLink, HostListen, NullSink, SocketLink, SocketListen, StdSink};
 use host_sockets::Output;
 use outside::{Clock, Entropy, Link, Listener, Reads, Sink};
-use outside_real::{HostClock, HostFolder, OsEntropy};
+use outside_real::{HostClock, OsEntropy, StdCalls};
 use std::env::{Env, FillError};
 use std::fs::File;
 use std::io::Input;
@@ -72,8 +72,8 @@ where
     R::File: Send,
     R::Dir: Send,
     ensures { IfOk result (λ started. (words : List (List ℕ)) × IsStarted
-        (views_of ⟦<HostFolder<&'a R> as Reads>⟧ ⟦<HostListen<&'a R> as Listener>⟧ ⟦<HostLink<&'a R> as Link>⟧ ⟦<OsEntropy<&'a R> as Entropy>⟧ ⟦<HostClock<&'a R> as Clock>⟧)
-        (views_of ⟦<HostFolder<&'a R> as Reads>⟧ ⟦<SocketListen<'static, &'a R> as Listener>⟧ ⟦<SocketLink as Link>⟧ ⟦<OsEntropy<&'a R> as Entropy>⟧ ⟦<HostClock<&'a R> as Clock>⟧)
+        (views_of ⟦<HostFolder<StdCalls<&'a R>> as Reads>⟧ ⟦<HostListen<&'a R> as Listener>⟧ ⟦<HostLink<&'a R> as Link>⟧ ⟦<OsEntropy<&'a R> as Entropy>⟧ ⟦<HostClock<&'a R> as Clock>⟧)
+        (views_of ⟦<HostFolder<StdCalls<&'a R>> as Reads>⟧ ⟦<SocketListen<'static, &'a R> as Listener>⟧ ⟦<SocketLink as Link>⟧ ⟦<OsEntropy<&'a R> as Entropy>⟧ ⟦<HostClock<&'a R> as Clock>⟧)
         base_of HasLink (IsListening ⟦<SocketListen<'static, &'a R> as Listener>⟧.faults socket_of) (sink_in ⟦<NullSink as Sink>⟧)
         (sink_in ⟦<StdSink<Output<&'a R>> as Sink>⟧) words started) }
 {
@@ -123,8 +123,8 @@ where
     R::File: Send,
     R::Dir: Send,
     ensures { IsExit (λ started. (words : List (List ℕ)) × IsStarted
-        (views_of ⟦<HostFolder<&'a R> as Reads>⟧ ⟦<HostListen<&'a R> as Listener>⟧ ⟦<HostLink<&'a R> as Link>⟧ ⟦<OsEntropy<&'a R> as Entropy>⟧ ⟦<HostClock<&'a R> as Clock>⟧)
-        (views_of ⟦<HostFolder<&'a R> as Reads>⟧ ⟦<SocketListen<'static, &'a R> as Listener>⟧ ⟦<SocketLink as Link>⟧ ⟦<OsEntropy<&'a R> as Entropy>⟧ ⟦<HostClock<&'a R> as Clock>⟧)
+        (views_of ⟦<HostFolder<StdCalls<&'a R>> as Reads>⟧ ⟦<HostListen<&'a R> as Listener>⟧ ⟦<HostLink<&'a R> as Link>⟧ ⟦<OsEntropy<&'a R> as Entropy>⟧ ⟦<HostClock<&'a R> as Clock>⟧)
+        (views_of ⟦<HostFolder<StdCalls<&'a R>> as Reads>⟧ ⟦<SocketListen<'static, &'a R> as Listener>⟧ ⟦<SocketLink as Link>⟧ ⟦<OsEntropy<&'a R> as Entropy>⟧ ⟦<HostClock<&'a R> as Clock>⟧)
         base_of HasLink (IsListening ⟦<SocketListen<'static, &'a R> as Listener>⟧.faults socket_of) (sink_in ⟦<NullSink as Sink>⟧)
         (sink_in ⟦<StdSink<Output<&'a R>> as Sink>⟧) words started) result }
 {

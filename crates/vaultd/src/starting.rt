@@ -2,26 +2,28 @@
 
 ghost use Rattle.std.specs.Prelude.{◌≡◌, ◌≤◌, drop, IfOk, vec_len};
 ghost use Rattle.std.specs.List.{AllByRecursion};
-ghost use Rattle.outside_real.specs.Behind.{base_of};
 ghost use Rattle.host_links.specs.declared.stream.NullSink.{NullSink};
 ghost use Rattle.host_links.specs.Behind.{socket_of};
 ghost use Rattle.vault_top.specs.Words.{words_of};
 ghost use Rattle.vault_top.specs.Span.{sink_in, views_of};
-ghost use Rattle.vaultd.specs.Starting.{HasLink, IsListening, IsOverStreams, IsRunAtAddress, IsRunAtSocket, IsRunOf, IsStarted};
+ghost use Rattle.vaultd.specs.Starting.{base_of, HasLink, IsListening, IsOverStreams, IsRunAtAddress, IsRunAtSocket, IsRunOf, IsStarted};
 
+use chunk_journal::{JournalErr, loose_paths};
+use host_folder::{HostFolder, Unsettled};
 use host_links::{
     HostLink, HostListen, NullSink, SocketLink, SocketListen, StdSink, StdSource, address_named,
     host_at_port_0,
 };
 use host_sockets::{Output, Socket};
 use outside::{Clock, Entropy, Gate, Link, Listener, Reads, Sink, Stage};
-use outside_real::{HostClock, HostFolder, OsEntropy};
+use outside_real::{HostClock, OsEntropy, StdCalls};
 use std::alloc::AllocError;
 use std::io::Input;
 use std::net::{Net, TcpListener, TcpStream};
 use std::rt::{Clock as SystemClock, Files};
 use std::sync::Wait;
 use std::thread::Threads;
+use vault_path::VaultPath;
 use vault_top::{Worker, report_no_socket, run};
 use vault_words::{Places, places};
 
@@ -60,21 +62,78 @@ fn workers_at<'a, 's, R: SystemClock + Files + AllocGlobal>(
     Ok(workers)
 }
 
-// Makes the objects of the outside over the folder at a path and the standard streams, and runs the job that these words are.
+// The paths in a vault's folder at which an earlier run may have left something off the disk, by its journal. If that can't be read or is damaged
+// there are none: `run` comes to the same fault and reports it.
+fn loose_at<R: Files + AllocGlobal>(rt: &R, path: &str) -> Result<Vec<VaultPath>, AllocError> {
+    let mut folder = Unsettled::new(StdCalls::new(rt), rt.alloc(), path)?;
+    match loose_paths(rt.alloc(), &mut folder) {
+        Ok(paths) => Ok(paths),
+        Err(JournalErr::Memory) => Err(AllocError),
+        Err(JournalErr::Device | JournalErr::JournalDamaged(_)) => Ok(Vec::new(rt.alloc())),
+    }
+}
+
+// The folder at a path, once what an earlier run may have left off the disk is on it. It is opened anew, since no clause says that what read the
+// journal is still at that path.
+fn settled_at<'a, R: Files + AllocGlobal>(
+    rt: &'a R,
+    path: &str,
+) -> Result<HostFolder<StdCalls<&'a R>>, AllocError>
+    ensures { IfOk result (λ folder. base_of folder ≡ path.now) }
+{
+    let loose = loose_at(rt, path)?;
+    let folder = Unsettled::new(StdCalls::new(rt), rt.alloc(), path)?;
+    Ok(folder.settle(&loose))
+}
+
+// The folder at a path, as it is found.
+fn untold_at<'a, R: Files + AllocGlobal>(
+    rt: &'a R,
+    path: &str,
+) -> Result<HostFolder<StdCalls<&'a R>>, AllocError>
+    ensures { IfOk result (λ folder. base_of folder ≡ path.now) }
+{
+    let folder = HostFolder::untold(StdCalls::new(rt), rt.alloc(), path)?;
+    Ok(folder)
+}
+
+// The folder at a path, in which a vault may be served.
+fn folder_at<'a, R: Files + AllocGlobal>(
+    rt: &'a R,
+    path: &str,
+    is_served: bool,
+) -> Result<HostFolder<StdCalls<&'a R>>, AllocError>
+    ensures { IfOk result (λ folder. base_of folder ≡ path.now) }
+{
+    if is_served {
+        settled_at(rt, path)
+    } else {
+        untold_at(rt, path)
+    }
+}
+
+// Makes the objects of the outside over the folder at a path, in which a vault may be served, and the standard streams, and runs the job that these
+// words are.
 fn serve_streams<
     'a,
     R: SystemClock + Files + Input + Print + Threads + Wait + Sync + AllocGlobal,
     O: Sink,
->(rt: &'a R, words: &[String], path: &str, out: &mut O) -> Result<Started, AllocError>
+>(
+    rt: &'a R,
+    words: &[String],
+    path: &str,
+    is_served: bool,
+    out: &mut O,
+) -> Result<Started, AllocError>
 where
     R::Reader: Send,
     R::File: Send,
     R::Dir: Send,
     ensures { IfOk result (IsOverStreams
-        (views_of ⟦<HostFolder<&'a R> as Reads>⟧ ⟦<HostListen<&'a R> as Listener>⟧ ⟦<HostLink<&'a R> as Link>⟧ ⟦<OsEntropy<&'a R> as Entropy>⟧ ⟦<HostClock<&'a R> as Clock>⟧)
+        (views_of ⟦<HostFolder<StdCalls<&'a R>> as Reads>⟧ ⟦<HostListen<&'a R> as Listener>⟧ ⟦<HostLink<&'a R> as Link>⟧ ⟦<OsEntropy<&'a R> as Entropy>⟧ ⟦<HostClock<&'a R> as Clock>⟧)
         base_of HasLink (sink_in O.Sink) (words_of words.now) path.now) }
 {
-    let folder = HostFolder::new(rt, rt.alloc(), path)?;
+    let folder = folder_at(rt, path, is_served)?;
     let mut workers = Vec::new(rt.alloc());
     workers.push(Worker {
         listener: HostListen::new(rt),
@@ -118,10 +177,10 @@ where
     R::Dir: Send,
     requires { (1 ≤ at_once) × (at_once ≤ 64) }
     ensures { IfOk result (IsRunOf
-        (views_of ⟦<HostFolder<&'a R> as Reads>⟧ ⟦<SocketListen<'s, &'a R> as Listener>⟧ ⟦<SocketLink as Link>⟧ ⟦<OsEntropy<&'a R> as Entropy>⟧ ⟦<HostClock<&'a R> as Clock>⟧)
+        (views_of ⟦<HostFolder<StdCalls<&'a R>> as Reads>⟧ ⟦<SocketListen<'s, &'a R> as Listener>⟧ ⟦<SocketLink as Link>⟧ ⟦<OsEntropy<&'a R> as Entropy>⟧ ⟦<HostClock<&'a R> as Clock>⟧)
         base_of (IsListening ⟦<SocketListen<'s, &'a R> as Listener>⟧.faults socket_of socket.now) (sink_in O.Sink) (words_of words.now) path.now at_once) }
 {
-    let folder = HostFolder::new(rt, rt.alloc(), path)?;
+    let folder = settled_at(rt, path)?;
     let mut workers = workers_at(rt, socket, at_once)?;
     let ended = run(
         rt,
@@ -178,7 +237,7 @@ where
     R::File: Send,
     R::Dir: Send,
     ensures { IfOk result (IsRunAtSocket
-        (views_of ⟦<HostFolder<&'a R> as Reads>⟧ ⟦<SocketListen<'static, &'a R> as Listener>⟧ ⟦<SocketLink as Link>⟧ ⟦<OsEntropy<&'a R> as Entropy>⟧ ⟦<HostClock<&'a R> as Clock>⟧)
+        (views_of ⟦<HostFolder<StdCalls<&'a R>> as Reads>⟧ ⟦<SocketListen<'static, &'a R> as Listener>⟧ ⟦<SocketLink as Link>⟧ ⟦<OsEntropy<&'a R> as Entropy>⟧ ⟦<HostClock<&'a R> as Clock>⟧)
         base_of (IsListening ⟦<SocketListen<'static, &'a R> as Listener>⟧.faults socket_of) (sink_in O.Sink) (words_of words.now) places.now.dir.now places.now.at_once socket) }
 {
     if !socket.is_bound() {
@@ -221,7 +280,7 @@ where
     R::File: Send,
     R::Dir: Send,
     ensures { IfOk result (IsRunAtAddress
-        (views_of ⟦<HostFolder<&'a R> as Reads>⟧ ⟦<SocketListen<'static, &'a R> as Listener>⟧ ⟦<SocketLink as Link>⟧ ⟦<OsEntropy<&'a R> as Entropy>⟧ ⟦<HostClock<&'a R> as Clock>⟧)
+        (views_of ⟦<HostFolder<StdCalls<&'a R>> as Reads>⟧ ⟦<SocketListen<'static, &'a R> as Listener>⟧ ⟦<SocketLink as Link>⟧ ⟦<OsEntropy<&'a R> as Entropy>⟧ ⟦<HostClock<&'a R> as Clock>⟧)
         base_of (IsListening ⟦<SocketListen<'static, &'a R> as Listener>⟧.faults socket_of) (sink_in O.Sink) (words_of words.now) places.now.dir.now places.now.address.now places.now.at_once) }
 {
     let address = address_named(rt.alloc(), places.address)?;
@@ -248,8 +307,8 @@ where
     R::File: Send,
     R::Dir: Send,
     ensures { IfOk result (IsStarted
-        (views_of ⟦<HostFolder<&'a R> as Reads>⟧ ⟦<HostListen<&'a R> as Listener>⟧ ⟦<HostLink<&'a R> as Link>⟧ ⟦<OsEntropy<&'a R> as Entropy>⟧ ⟦<HostClock<&'a R> as Clock>⟧)
-        (views_of ⟦<HostFolder<&'a R> as Reads>⟧ ⟦<SocketListen<'static, &'a R> as Listener>⟧ ⟦<SocketLink as Link>⟧ ⟦<OsEntropy<&'a R> as Entropy>⟧ ⟦<HostClock<&'a R> as Clock>⟧)
+        (views_of ⟦<HostFolder<StdCalls<&'a R>> as Reads>⟧ ⟦<HostListen<&'a R> as Listener>⟧ ⟦<HostLink<&'a R> as Link>⟧ ⟦<OsEntropy<&'a R> as Entropy>⟧ ⟦<HostClock<&'a R> as Clock>⟧)
+        (views_of ⟦<HostFolder<StdCalls<&'a R>> as Reads>⟧ ⟦<SocketListen<'static, &'a R> as Listener>⟧ ⟦<SocketLink as Link>⟧ ⟦<OsEntropy<&'a R> as Entropy>⟧ ⟦<HostClock<&'a R> as Clock>⟧)
         base_of HasLink (IsListening ⟦<SocketListen<'static, &'a R> as Listener>⟧.faults socket_of) (sink_in ⟦<NullSink as Sink>⟧)
         (sink_in ⟦<StdSink<Output<&'a R>> as Sink>⟧)
         (words_of (drop 1 args.now))) }
@@ -257,9 +316,9 @@ where
     let words = behind_name(args);
     let places = places(rt.alloc(), words)?;
     if places.address == "-" {
-        serve_streams(rt, words, places.dir, &mut NullSink)
+        serve_streams(rt, words, places.dir, true, &mut NullSink)
     } else if places.address == "" {
-        serve_streams(rt, words, places.dir, &mut StdSink::new(rt))
+        serve_streams(rt, words, places.dir, false, &mut StdSink::new(rt))
     } else {
         serve_at(rt, words, &places, &mut StdSink::new(rt))
     }

@@ -4,7 +4,7 @@ use Rattle.vaultd.proofs.starting.serve_socket.Goals as goal
 pub returns : goal.returns
 returns g c = record {
   folder = c.in_ok-folder.folder;
-  base = c.in_ok-folder.ensures.base;
+  base = c.in_ok-folder.ensures;
   secret = _;
   second = _;
   workers = _;

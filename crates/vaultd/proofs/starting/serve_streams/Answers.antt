@@ -5,7 +5,7 @@ pub returns : goal.returns
 returns g c = record {
   run = record {
     folder = c.in_ok-folder.folder;
-    base = c.in_ok-folder.ensures.base;
+    base = c.in_ok-folder.ensures;
     secret = _;
     second = _;
     workers = _;

@@ -1,0 +1,40 @@
+use Rattle.std.proofs.Common.{ℕ, List, OnOk, Option, sym, subst, string_bytes}
+use Rattle.outside.specs.Calls.{Changes}
+use Rattle.outside.proofs.Told.{told_same}
+use Rattle.host_calls.specs.Story.{Story}
+use Rattle.host_calls.specs.Calls.{IsTextOf, AtPath, IsFound}
+use Rattle.host_folder.specs.Held.{IsLater, HasCome}
+use Rattle.host_folder.specs.Ready.{IfReady}
+use Rattle.host_folder.proofs.FlushSteps.{named_by, come_nothing, answers_later, answers_come}
+use Rattle.host_folder.proofs.flushing.flush_path.Goals as goal
+
+pub returns-in-Nothing-clause-come : goal.returns-in-Nothing-clause-come
+returns-in-Nothing-clause-come g c =
+    let base = string_bytes c.args.paths.now.base in
+    let top = g.H.HostCalls.top c.args.host.now in
+    let path = c.args.path.now in
+    let text = c.text.result.now in
+    let named : IsTextOf base text path = subst (λ (r : List ℕ). IsTextOf base r path) (sym c.text.ensures) c.compose.ensures.text in
+    told_same (g.H.HostCalls.story c.args.host.now) (g.H.HostCalls.story c.stat.new.self) (λ s. AtPath top text (IsFound c.in_ok-seen.seen s)) (IfReady base top (HasCome path)) c.stat.ensures.story
+    (λ s at ready. come_nothing c.in_ok-seen.seen path s c.in-Nothing.is ready.sound (at path (named_by base top text path s ready named)))
+    c.in_ok-seen.ensures.found
+
+pub returns-in_default-clause-later : goal.returns-in_default-clause-later
+returns-in_default-clause-later g c =
+    let base = string_bytes c.args.paths.now.base in
+    let top = g.H.HostCalls.top c.args.host.now in
+    let path = c.args.path.now in
+    let named : IsTextOf base c.text-in_default.result.now path = subst (λ (r : List ℕ). IsTextOf base r path) (sym c.text-in_default.ensures) c.compose.ensures.text in
+    subst (λ (o : Option Story). Changes o (g.H.HostCalls.story c.fsync.new.self) (IfReady base top IsLater)) c.stat.ensures.story
+    (answers_later c.fsync.result (g.H.HostCalls.story c.stat.new.self) (g.H.HostCalls.story c.fsync.new.self) base top (g.H.HostCalls.top c.stat.new.self) c.text-in_default.result.now path
+    c.stat.ensures.top named c.fsync.ensures.done c.fsync.ensures.doubt)
+
+pub returns-in_default-clause-come : goal.returns-in_default-clause-come
+returns-in_default-clause-come g c =
+    let base = string_bytes c.args.paths.now.base in
+    let top = g.H.HostCalls.top c.args.host.now in
+    let path = c.args.path.now in
+    let named : IsTextOf base c.text-in_default.result.now path = subst (λ (r : List ℕ). IsTextOf base r path) (sym c.text-in_default.ensures) c.compose.ensures.text in
+    subst (λ (o : Option Story). OnOk c.fsync.result (Changes o (g.H.HostCalls.story c.fsync.new.self) (IfReady base top (HasCome path)))) c.stat.ensures.story
+    (answers_come c.fsync.result (g.H.HostCalls.story c.stat.new.self) (g.H.HostCalls.story c.fsync.new.self) base top (g.H.HostCalls.top c.stat.new.self) c.text-in_default.result.now path
+    c.stat.ensures.top named c.fsync.ensures.done)

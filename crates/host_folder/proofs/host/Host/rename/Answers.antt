@@ -1,0 +1,105 @@
+use Rattle.std.proofs.Common.{◌≡◌}
+use Rattle.std.proofs.lemmas.Result.{err_from_is_err_and}
+use Rattle.outside.specs.Changes.{Move}
+use Rattle.host_calls.specs.Calls.{IsFound}
+use Rattle.host_folder.specs.Answers.{IsSameLog}
+use Rattle.host_folder.specs.Behind.{story_of, IsKept}
+use Rattle.host_folder.proofs.Shown.{kept_looked}
+use Rattle.host_folder.proofs.Since.{answered_since, failed_since, misfit_since, texts_kept, changed_looked, kept_and, to_move}
+use Rattle.host_folder.proofs.Misfits.{no_move_to, no_move_from}
+use Rattle.host_folder.proofs.host.Host.rename.Goals as goal
+
+pub find_target-requires : goal.find_target-requires
+find_target-requires g c = texts_kept g.H.HostCalls.story g.H.HostCalls.top c.make_room.new.self c.make_room.ensures.kept
+
+pub returns-in_err-find_target-clause-kept : goal.returns-in_err-find_target-clause-kept
+returns-in_err-find_target-clause-kept g c =
+    kept_looked g.H.HostCalls.story g.H.HostCalls.top c.make_room.new.self c.find_target.new.self c.find_target.ensures.looked c.make_room.ensures.kept
+
+pub returns-in_err-find_target-clause-answer : goal.returns-in_err-find_target-clause-answer
+returns-in_err-find_target-clause-answer g c =
+    let story = g.H.HostCalls.story in
+    let first = story_of story c.args.self.now in
+    let q = err_from_is_err_and c.from_residual-in_err-find_target.result c.from_residual-in_err-find_target.ensures.1 in
+    rw (q.1, q.2) (failed_since first (story_of story c.find_target.new.self) (Move c.args.from.now c.args.to.now) c.in_err-find_target.field-0.0 c.in_err-find_target.ensures.failed
+    (changed_looked story g.H.HostCalls.top first c.make_room.new.self c.find_target.new.self IsSameLog c.find_target.ensures.looked c.make_room.ensures.log))
+
+pub returns-in_default-clause-kept : goal.returns-in_default-clause-kept
+returns-in_default-clause-kept g c =
+    kept_looked g.H.HostCalls.story g.H.HostCalls.top c.make_room.new.self c.find_target.new.self c.find_target.ensures.looked c.make_room.ensures.kept
+
+pub returns-in_default-clause-answer : goal.returns-in_default-clause-answer
+returns-in_default-clause-answer g c =
+    let story = g.H.HostCalls.story in
+    let top = g.H.HostCalls.top in
+    let from = c.args.from.now in
+    let to = c.args.to.now in
+    let first = c.make_room.new.self in
+    let host = c.find_target.new.self in
+    let found = c.in_ok-find_target.field-0 in
+    misfit_since story top c.args.self.now host (Move from to) (λ s. IsFound found s to)
+    (λ s kept there. no_move_to found from to s c.in_default.not-Nothing c.in_default.not-File there)
+    (changed_looked story top (story_of story c.args.self.now) first host IsSameLog c.find_target.ensures.looked c.make_room.ensures.log)
+    (kept_and story top host (λ s. IsFound found s to) (kept_looked story top first host c.find_target.ensures.looked c.make_room.ensures.kept) c.in_ok-find_target.ensures.found)
+
+pub find-requires : goal.find-requires
+find-requires g c =
+    texts_kept g.H.HostCalls.story g.H.HostCalls.top c.find_target.new.self
+    (kept_looked g.H.HostCalls.story g.H.HostCalls.top c.make_room.new.self c.find_target.new.self c.find_target.ensures.looked c.make_room.ensures.kept)
+
+pub returns-in_err-find-clause-kept : goal.returns-in_err-find-clause-kept
+returns-in_err-find-clause-kept g c =
+    let story = g.H.HostCalls.story in
+    let top = g.H.HostCalls.top in
+    kept_looked story top c.find_target.new.self c.find.new.self c.find.ensures.looked
+    (kept_looked story top c.make_room.new.self c.find_target.new.self c.find_target.ensures.looked c.make_room.ensures.kept)
+
+pub returns-in_err-find-clause-answer : goal.returns-in_err-find-clause-answer
+returns-in_err-find-clause-answer g c =
+    let story = g.H.HostCalls.story in
+    let top = g.H.HostCalls.top in
+    let first = story_of story c.args.self.now in
+    let q = err_from_is_err_and c.from_residual-in_err-find.result c.from_residual-in_err-find.ensures.1 in
+    rw (q.1, q.2) (failed_since first (story_of story c.find.new.self) (Move c.args.from.now c.args.to.now) c.in_err-find.field-0.0 c.in_err-find.ensures.failed
+    (changed_looked story top first c.find_target.new.self c.find.new.self IsSameLog c.find.ensures.looked
+    (changed_looked story top first c.make_room.new.self c.find_target.new.self IsSameLog c.find_target.ensures.looked c.make_room.ensures.log)))
+
+pub move_file-requires : goal.move_file-requires
+move_file-requires g c =
+    let story = g.H.HostCalls.story in
+    let top = g.H.HostCalls.top in
+    to_move story top c.find_target.new.self c.find.new.self c.args.from.now c.args.to.now c.find.ensures.looked c.find.ensures.target
+    (kept_looked story top c.make_room.new.self c.find_target.new.self c.find_target.ensures.looked c.make_room.ensures.kept) c.find_target.ensures.text c.find.ensures.text
+
+pub returns-in-File-clause-answer : goal.returns-in-File-clause-answer
+returns-in-File-clause-answer g c =
+    let story = g.H.HostCalls.story in
+    let top = g.H.HostCalls.top in
+    let first = story_of story c.args.self.now in
+    answered_since first (story_of story c.find.new.self) (story_of story c.move_file.new.self) (Move c.args.from.now c.args.to.now) c.move_file.result
+    (changed_looked story top first c.find_target.new.self c.find.new.self IsSameLog c.find.ensures.looked
+    (changed_looked story top first c.make_room.new.self c.find_target.new.self IsSameLog c.find_target.ensures.looked c.make_room.ensures.log)) c.move_file.ensures.answer
+
+pub returns-in_default-2-clause-kept : goal.returns-in_default-2-clause-kept
+returns-in_default-2-clause-kept g c =
+    let story = g.H.HostCalls.story in
+    let top = g.H.HostCalls.top in
+    kept_looked story top c.find_target.new.self c.find.new.self c.find.ensures.looked
+    (kept_looked story top c.make_room.new.self c.find_target.new.self c.find_target.ensures.looked c.make_room.ensures.kept)
+
+pub returns-in_default-2-clause-answer : goal.returns-in_default-2-clause-answer
+returns-in_default-2-clause-answer g c =
+    let story = g.H.HostCalls.story in
+    let top = g.H.HostCalls.top in
+    let from = c.args.from.now in
+    let to = c.args.to.now in
+    let first = c.make_room.new.self in
+    let target = c.find_target.new.self in
+    let host = c.find.new.self in
+    let found = c.in_ok-find.field-0 in
+    misfit_since story top c.args.self.now host (Move from to) (λ s. IsFound found s from)
+    (λ s kept there. no_move_from found from to s c.in_default-2.not-File there)
+    (changed_looked story top (story_of story c.args.self.now) target host IsSameLog c.find.ensures.looked
+    (changed_looked story top (story_of story c.args.self.now) first target IsSameLog c.find_target.ensures.looked c.make_room.ensures.log))
+    (kept_and story top host (λ s. IsFound found s from)
+    (kept_looked story top target host c.find.ensures.looked (kept_looked story top first target c.find_target.ensures.looked c.make_room.ensures.kept)) c.in_ok-find.ensures.found)
