@@ -173,10 +173,12 @@ fn run(rt: &HostRuntime, place: &str, count: u64) -> Result<(), CrashErr> {
     Ok(())
 }
 
-// Commits so many batches, each of which puts one file.
+// Commits so many batches, each of which puts one file, with numbers that go on from the one that it has.
 fn put(rt: &HostRuntime, place: &str, count: u64) -> Result<(), CrashErr> {
     let mut journal = opened(rt, place)?;
-    for number in 0..count {
+    let first = number_in(&mut journal, &name(b"e")?)?;
+    for step in 1..=count {
+        let number = first.wrapping_add(step);
         commit(&mut journal, &put_of(rt.alloc(), number)?)?;
     }
     Ok(())
