@@ -1,5 +1,5 @@
 -- Why a step failed, and when it can be made.
-use Rattle.std.proofs.Common.{◌≡◌, ◌⊎◌, ℕ, List, Option, Some, None, Err, refl, inl, inr}
+use Rattle.std.proofs.Common.{◌≡◌, ◌⊎◌, ℕ, ◌≤◌, List, Option, Some, None, Err, refl, inl, inr}
 use Rattle.std.specs.Prelude.{IsErrOf, IsNone}
 use Rattle.outside.specs.declared.folder.FolderErr.{FolderErr}
 use Rattle.outside.specs.declared.folder.FolderErr.TheVariants as errors
@@ -7,6 +7,7 @@ use Rattle.outside.specs.Calls.{HasCause, Rose, Told, IsUnfit}
 use Rattle.outside.specs.Disk.{Disk, Node, folder, file, node_at}
 use Rattle.outside.specs.Images.{Log}
 use Rattle.outside.specs.Changes.{IsFree}
+use Rattle.deeds.proofs.Phases.{cause_then}
 use Rattle.chunk_journal.specs.Journal.{journal_file, IsClosed}
 
 -- what can be done is unfit only if nothing is told
@@ -25,6 +26,10 @@ pub sync_cause : {T : Type 0} (error : FolderErr) (a b : ℕ) (F : Type 0) → H
 sync_cause errors.Failed a b F cause unfit memory = record { later = cause.later; rose = λ _. cause.rose refl }
 sync_cause errors.Unfit a b F cause unfit memory = absurd (unfit refl)
 sync_cause errors.Memory a b F cause unfit memory = absurd (memory refl)
+
+-- and so did a sync after a call that was done
+pub then_cause : {T : Type 0} (error : FolderErr) (a b c : ℕ) (F : Type 0) → a ≤ b → HasCause b c (IsErrOf {T = T} (Err error) errors.Failed) → (IsErrOf {T = T} (Err error) errors.Unfit → ⊥) → (IsErrOf {T = T} (Err error) errors.Memory → ⊥) → HasCause a c F
+then_cause error a b c F later cause unfit memory = cause_then a b c F later (sync_cause error b c F cause unfit memory)
 
 -- if no folder is there, a file can be put
 pub free_put : (o : Option Node) → (o ≡ Some folder → ⊥) → IsNone o ⊎ ((bytes : List ℕ) × (o ≡ Some (file bytes)))

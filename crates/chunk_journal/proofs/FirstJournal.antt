@@ -4,21 +4,22 @@ use Rattle.outside.specs.Disk.{Disk, Path, Node, folder, file, node_at, IsFolder
 use Rattle.outside.specs.Calls.{Told, Changes}
 use Rattle.chunk_journal.proofs.Faults.{closed_free}
 use Rattle.outside.specs.Changes.{Put, Move, CanDo, IsPartOf, done, set_at}
-use Rattle.outside.specs.Images.{Log, now, IsSteady, HasKept}
+use Rattle.outside.specs.Images.{Log, now}
 use Rattle.outside.proofs.Paths.{set_here, set_there}
 use Rattle.outside.proofs.Moments.{weaker, joined}
 use Rattle.outside.proofs.Told.{through}
 use Rattle.outside.proofs.Told.{both_changed, changed_from}
+use Rattle.outside.specs.Unsynced.{IsSynced}
 use Rattle.deeds.proofs.Again.{at_disk}
 use Rattle.chunk_journal.specs.Journal.{journal_file, new_file, IsClosed, IsAlike, IsReady, RecoversLike, IsQuiet, StaysShut}
-use Rattle.chunk_journal.specs.Stages.{LeavesParts}
+use Rattle.chunk_journal.specs.Stages.{IsKept, LeavesParts}
 use Rattle.chunk_journal.proofs.Gate.{files_apart, shut_reopens}
 use Rattle.chunk_journal.proofs.Tidy.{move_tidy, put_rest, put_tidy, tidy_joined}
 
 pub record HasNew (old new : Log) : Type 0 where
   pub at_start : IsQuiet old
   pub stays : StaysShut old new
-  pub steady : IsSteady new
+  pub steady : IsSynced new
   pub here : node_at (now new) new_file ≡ Some (file (0 ∷ []))
   pub rest : (q : Path) → q ≢ new_file → node_at (now new) q ≡ node_at (now old) q
 
@@ -52,7 +53,7 @@ new_leaves old new shut all = record {
   tidy = put_tidy (0 ∷ []) old new shut.steady all;
 }
 
-pub has_new : (old new : Log) → IsQuiet old → HasKept (Put new_file (0 ∷ [])) old new → LeavesParts (Put new_file (0 ∷ [])) old new → HasNew old new
+pub has_new : (old new : Log) → IsQuiet old → IsKept (Put new_file (0 ∷ [])) old new → LeavesParts (Put new_file (0 ∷ [])) old new → HasNew old new
 has_new old new shut kept all = record {
   at_start = shut;
   stays = new_leaves old new shut all;
@@ -87,7 +88,7 @@ move_leaves old mid new has all = record {
   tidy = tidy_joined old mid new has.stays.tidy (move_tidy mid new has.steady all);
 }
 
-pub at_rest : (old mid new : Log) → HasNew old mid → HasKept (Move new_file journal_file) mid new → IsReady new × IsAlike (now old) (now new)
+pub at_rest : (old mid new : Log) → HasNew old mid → IsKept (Move new_file journal_file) mid new → IsReady new × IsAlike (now old) (now new)
 at_rest old mid new has kept = (
   record {
     steady = kept.steady;
@@ -120,15 +121,15 @@ module _ (beside : Path) (is_new : beside ≡ new_file) where
   pub told_new_leaves : (a b : Option Log) → Told a IsQuiet → Changes a b (PutParts beside) → Changes a b StaysShut
   told_new_leaves a b shut parts = changed_from a b IsQuiet (PutParts new_file) StaysShut (λ x y s p. new_leaves x y s p) shut (subst (λ (n : Path). Changes a b (PutParts n)) is_new parts)
 
-  pub told_has_new : (a b : Option Log) → Told a IsQuiet → Changes a b (HasKept (Put beside (0 ∷ []))) → Changes a b (PutParts beside) → Changes a b HasNew
-  told_has_new a b shut kept parts = changed_from a b IsQuiet (λ x y. HasKept (Put new_file (0 ∷ [])) x y × PutParts new_file x y) HasNew (λ x y s p. has_new x y s p.0 p.1) shut
-      (both_changed a b (HasKept (Put new_file (0 ∷ []))) (PutParts new_file) (subst (λ (n : Path). Changes a b (HasKept (Put n (0 ∷ [])))) is_new kept) (subst (λ (n : Path). Changes a b (PutParts n)) is_new parts))
+  pub told_has_new : (a b : Option Log) → Told a IsQuiet → Changes a b (IsKept (Put beside (0 ∷ []))) → Changes a b (PutParts beside) → Changes a b HasNew
+  told_has_new a b shut kept parts = changed_from a b IsQuiet (λ x y. IsKept (Put new_file (0 ∷ [])) x y × PutParts new_file x y) HasNew (λ x y s p. has_new x y s p.0 p.1) shut
+      (both_changed a b (IsKept (Put new_file (0 ∷ []))) (PutParts new_file) (subst (λ (n : Path). Changes a b (IsKept (Put n (0 ∷ [])))) is_new kept) (subst (λ (n : Path). Changes a b (PutParts n)) is_new parts))
 
   module _ (path : Path) (is_path : path ≡ journal_file) where
     pub told_move_leaves : (a b c : Option Log) → Changes a b HasNew → Changes b c (MoveParts beside path) → Changes a c StaysShut
     told_move_leaves a b c has parts = through a b c HasNew (MoveParts new_file journal_file) StaysShut move_leaves has
         (subst (λ (n : Path). Changes b c (MoveParts n journal_file)) is_new (subst (λ (p : Path). Changes b c (MoveParts beside p)) is_path parts))
 
-    pub told_at_rest : (a b c : Option Log) → Changes a b HasNew → Changes b c (HasKept (Move beside path)) → Changes a c (λ x y. IsReady y × IsAlike (now x) (now y))
-    told_at_rest a b c has kept = through a b c HasNew (HasKept (Move new_file journal_file)) (λ x y. IsReady y × IsAlike (now x) (now y)) at_rest has
-        (subst (λ (n : Path). Changes b c (HasKept (Move n journal_file))) is_new (subst (λ (p : Path). Changes b c (HasKept (Move beside p))) is_path kept))
+    pub told_at_rest : (a b c : Option Log) → Changes a b HasNew → Changes b c (IsKept (Move beside path)) → Changes a c (λ x y. IsReady y × IsAlike (now x) (now y))
+    told_at_rest a b c has kept = through a b c HasNew (IsKept (Move new_file journal_file)) (λ x y. IsReady y × IsAlike (now x) (now y)) at_rest has
+        (subst (λ (n : Path). Changes b c (IsKept (Move n journal_file))) is_new (subst (λ (p : Path). Changes b c (IsKept (Move beside p))) is_path kept))

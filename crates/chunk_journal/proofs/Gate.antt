@@ -12,23 +12,24 @@ use Rattle.deeds.specs.Grammar.{spelled}
 use Rattle.deeds.proofs.BatchBytes.{one_batch}
 use Rattle.deeds.proofs.Batches.{refused_cannot}
 use Rattle.outside.specs.Changes.{CanDo, Write, IsPartOf, IsTorn, done, overwritten, in_file}
-use Rattle.outside.specs.Images.{Log, now, LeavesOnly, IsSteady, HasKept}
+use Rattle.outside.specs.Images.{Log, now, LeavesOnly}
 use Rattle.outside.proofs.Paths.{by_path, set_here, set_there, same_disk}
 use Rattle.outside.specs.Calls.{Told, Changes}
 use Rattle.outside.proofs.Told.{through}
 use Rattle.outside.proofs.Told.{both_changed, changed_from}
 use Rattle.outside.proofs.Moments.{weaker, joined}
-use Rattle.deeds.specs.Deeds.{PlainDeed, DoesAll, AreApart, LogGoesOn, Unnamed, IsAmid, StaysAmid, IsSameDisk}
+use Rattle.deeds.specs.Deeds.{PlainDeed, DoesAll, AreApart, GoesOnAt, Unnamed, IsAmid, StaysAmid, IsSameDisk}
+use Rattle.outside.specs.Unsynced.{IsSynced}
 use Rattle.deeds.specs.Applying.{Applies, GoesAsFar, StaysApplied}
 use Rattle.deeds.proofs.Applying.{apart_part, applied_again, applies_one, applies_whole, unnamed_part, whole_stays}
 use Rattle.deeds.proofs.Again.{at_disk, again_amid}
 use Rattle.deeds.proofs.Amid.{amid_start, tree_run}
 use Rattle.deeds.proofs.Frame.{framed, lone}
 use Rattle.deeds.proofs.Phases.{apart_ordered, unnamed_ordered}
-use Rattle.deeds.specs.Deeds.{in_order}
+use Rattle.deeds.specs.Deeds.{in_order, named}
 use Rattle.deeds.specs.Grammar.{behind_gate, IsBatch}
 use Rattle.deeds.proofs.Doing.{same_run}
-use Rattle.chunk_journal.specs.Stages.{LeavesParts, IsShutBeside, KeepsShut, HasStaged}
+use Rattle.chunk_journal.specs.Stages.{IsKept, LeavesParts, IsShutBeside, KeepsShut, HasStaged}
 use Rattle.chunk_journal.specs.Journal.{journal_file, new_file, journal_name, new_name, names_apart, IsAlike, IsBeforeOrAfter, IsReady, IsReopenable, IsRepeatable, AnyMoment, HasCommitted, RecoversTo, RecoversLike, Recovered, RecoveredLike, IsClosed, IsFound, StaysRecovered, HasRecovered, HoldsBatch}
 use Rattle.chunk_journal.proofs.Tidy.{deeds_tidy, pieces_tidy, tidy_joined, write_tidy}
 
@@ -136,7 +137,7 @@ module _ (bs : List PlainDeed) (batch : IsBatch bs) (repeatable : IsRepeatable b
   pub record IsStaged (old new : Log) : Type 0 where
     pub at_start : IsReady old
     pub any : AnyMoment bs old new
-    pub steady : IsSteady new
+    pub steady : IsSynced new
     pub rest : List ℕ
     pub gate : ℕ
     pub shut : gate ≢ 1
@@ -147,7 +148,7 @@ module _ (bs : List PlainDeed) (batch : IsBatch bs) (repeatable : IsRepeatable b
   pub record IsOpened (old new : Log) : Type 0 where
     pub at_start : IsReady old
     pub any : AnyMoment bs old new
-    pub steady : IsSteady new
+    pub steady : IsSynced new
     pub rest : List ℕ
     pub here : node_at (now new) journal_file ≡ Some (file (1 ∷ (behind_gate bs ++ rest)))
     pub alike : (q : Path) → q ≢ journal_file → node_at (now new) q ≡ node_at (now old) q
@@ -156,7 +157,7 @@ module _ (bs : List PlainDeed) (batch : IsBatch bs) (repeatable : IsRepeatable b
   pub record AreDone (old new : Log) : Type 0 where
     pub at_start : IsReady old
     pub any : AnyMoment bs old new
-    pub steady : IsSteady new
+    pub steady : IsSynced new
     pub rest : List ℕ
     pub here : node_at (now new) journal_file ≡ Some (file (1 ∷ (behind_gate bs ++ rest)))
     pub other : node_at (now new) new_file ≡ node_at (now old) new_file
@@ -209,7 +210,7 @@ module _ (bs : List PlainDeed) (batch : IsBatch bs) (repeatable : IsRepeatable b
     tidy = tidy_joined old mid new stage.any.tidy (write_tidy 0 (1 ∷ []) mid new stage.steady all);
   }
 
-  pub opened : (old mid new : Log) → IsStaged old mid → HasKept (Write journal_file 0 (1 ∷ [])) mid new → LeavesParts (Write journal_file 0 (1 ∷ [])) mid new → IsOpened old new
+  pub opened : (old mid new : Log) → IsStaged old mid → IsKept (Write journal_file 0 (1 ∷ [])) mid new → LeavesParts (Write journal_file 0 (1 ∷ [])) mid new → IsOpened old new
   opened old mid new stage kept all = record {
     at_start = stage.at_start;
     any = gate_leaves old mid new stage all;
@@ -235,16 +236,16 @@ module _ (bs : List PlainDeed) (batch : IsBatch bs) (repeatable : IsRepeatable b
         held_reopens c bs repeatable held (λ is. open_gate.at_start.no_folder (sym (amid.rest new_file un ∙ open_gate.alike new_file files_apart) ∙ is)),
       )
 
-  pub deeds_leave : (old mid new : Log) → IsOpened old mid → LogGoesOn mid new → StaysAmid ds mid new → AnyMoment bs old new
+  pub deeds_leave : (old mid new : Log) → IsOpened old mid → GoesOnAt (named bs) mid new → StaysAmid ds mid new → AnyMoment bs old new
   deeds_leave old mid new open_gate grown stays =
       let all = stays ds (now mid) apart (λ x one. one) (amid_start ds (now mid)) (λ image is. subst (IsAmid ds (now mid)) (sym (open_gate.steady.durable image is)) (amid_start ds (now mid))) in
       record {
         recovers = λ after run. joined old mid new (IsBeforeOrAfter (now old) after) (open_gate.any.recovers after run)
             (weaker mid new (IsAmid ds (now mid)) (IsBeforeOrAfter (now old) after) (λ c amid. amid_recovers old mid after c open_gate run amid) all.1);
-        tidy = tidy_joined old mid new open_gate.any.tidy (deeds_tidy bs mid new repeatable (batch, open_gate.rest, open_gate.here) open_gate.steady grown all.1);
+        tidy = tidy_joined old mid new open_gate.any.tidy (deeds_tidy bs mid new repeatable (batch, open_gate.rest, open_gate.here) open_gate.steady grown);
       }
 
-  pub deeds_done : (old mid new : Log) → IsOpened old mid → LogGoesOn mid new → StaysAmid ds mid new → IsSteady new × DoesAll ds (now mid) (now new) → AreDone old new
+  pub deeds_done : (old mid new : Log) → IsOpened old mid → GoesOnAt (named bs) mid new → StaysAmid ds mid new → IsSynced new × DoesAll ds (now mid) (now new) → AreDone old new
   deeds_done old mid new open_gate grown stays done =
       let all = stays ds (now mid) apart (λ x one. one) (amid_start ds (now mid)) (λ image is. subst (IsAmid ds (now mid)) (sym (open_gate.steady.durable image is)) (amid_start ds (now mid))) in
       record {
@@ -283,7 +284,7 @@ module _ (bs : List PlainDeed) (batch : IsBatch bs) (repeatable : IsRepeatable b
     tidy = tidy_joined old mid new all.any.tidy (write_tidy 0 (0 ∷ []) mid new all.steady leaves);
   }
 
-  pub closed : (old mid new : Log) → AreDone old mid → HasKept (Write journal_file 0 (0 ∷ [])) mid new → HasCommitted bs old new
+  pub closed : (old mid new : Log) → AreDone old mid → IsKept (Write journal_file 0 (0 ∷ [])) mid new → HasCommitted bs old new
   closed old mid new all kept = record {
     at_rest = record {
       steady = kept.steady;
@@ -306,8 +307,8 @@ module _ (bs : List PlainDeed) (batch : IsBatch bs) (repeatable : IsRepeatable b
   -- ---- the same of logs that are told
 
   module _ (path : Path) (is_path : path ≡ journal_file) where
-    kept_here : (at : ℕ) (bytes : List ℕ) (a b : Option Log) → Changes a b (HasKept (Write path at bytes)) → Changes a b (HasKept (Write journal_file at bytes))
-    kept_here at bytes a b is = subst (λ (p : Path). Changes a b (HasKept (Write p at bytes))) is_path is
+    kept_here : (at : ℕ) (bytes : List ℕ) (a b : Option Log) → Changes a b (IsKept (Write path at bytes)) → Changes a b (IsKept (Write journal_file at bytes))
+    kept_here at bytes a b is = subst (λ (p : Path). Changes a b (IsKept (Write p at bytes))) is_path is
 
     parts_here : (at : ℕ) (bytes : List ℕ) (a b : Option Log) → Changes a b (LeavesParts (Write path at bytes)) → Changes a b (LeavesParts (Write journal_file at bytes))
     parts_here at bytes a b is = subst (λ (p : Path). Changes a b (LeavesParts (Write p at bytes))) is_path is
@@ -321,24 +322,24 @@ module _ (bs : List PlainDeed) (batch : IsBatch bs) (repeatable : IsRepeatable b
     pub told_gate_leaves : (a b c : Option Log) → Changes a b IsStaged → Changes b c (LeavesParts (Write path 0 (1 ∷ []))) → Changes a c (AnyMoment bs)
     told_gate_leaves a b c stage parts = through a b c IsStaged (LeavesParts (Write journal_file 0 (1 ∷ []))) (AnyMoment bs) gate_leaves stage (parts_here 0 (1 ∷ []) b c parts)
 
-    pub told_opened : (a b c : Option Log) → Changes a b IsStaged → Changes b c (HasKept (Write path 0 (1 ∷ []))) → Changes b c (LeavesParts (Write path 0 (1 ∷ []))) → Changes a c IsOpened
-    told_opened a b c stage kept parts = through a b c IsStaged (λ x y. HasKept (Write journal_file 0 (1 ∷ [])) x y × LeavesParts (Write journal_file 0 (1 ∷ [])) x y) IsOpened (λ x y z s p. opened x y z s p.0 p.1) stage
-        (both_changed b c (HasKept (Write journal_file 0 (1 ∷ []))) (LeavesParts (Write journal_file 0 (1 ∷ []))) (kept_here 0 (1 ∷ []) b c kept) (parts_here 0 (1 ∷ []) b c parts))
+    pub told_opened : (a b c : Option Log) → Changes a b IsStaged → Changes b c (IsKept (Write path 0 (1 ∷ []))) → Changes b c (LeavesParts (Write path 0 (1 ∷ []))) → Changes a c IsOpened
+    told_opened a b c stage kept parts = through a b c IsStaged (λ x y. IsKept (Write journal_file 0 (1 ∷ [])) x y × LeavesParts (Write journal_file 0 (1 ∷ [])) x y) IsOpened (λ x y z s p. opened x y z s p.0 p.1) stage
+        (both_changed b c (IsKept (Write journal_file 0 (1 ∷ []))) (LeavesParts (Write journal_file 0 (1 ∷ []))) (kept_here 0 (1 ∷ []) b c kept) (parts_here 0 (1 ∷ []) b c parts))
 
-    pub told_deeds_leave : (a b c : Option Log) → Changes a b IsOpened → Changes b c LogGoesOn → Changes b c (StaysAmid ds) → Changes a c (AnyMoment bs)
-    told_deeds_leave a b c open_gate grown stays = through a b c IsOpened (λ x y. LogGoesOn x y × StaysAmid ds x y) (AnyMoment bs) (λ x y z o p. deeds_leave x y z o p.0 p.1) open_gate
-        (both_changed b c LogGoesOn (StaysAmid ds) grown stays)
+    pub told_deeds_leave : (a b c : Option Log) → Changes a b IsOpened → Changes b c (GoesOnAt (named bs)) → Changes b c (StaysAmid ds) → Changes a c (AnyMoment bs)
+    told_deeds_leave a b c open_gate grown stays = through a b c IsOpened (λ x y. GoesOnAt (named bs) x y × StaysAmid ds x y) (AnyMoment bs) (λ x y z o p. deeds_leave x y z o p.0 p.1) open_gate
+        (both_changed b c (GoesOnAt (named bs)) (StaysAmid ds) grown stays)
 
-    pub told_done : (a b c : Option Log) → Changes a b IsOpened → Changes b c LogGoesOn → Changes b c (StaysAmid ds) → Changes b c (λ x y. IsSteady y × DoesAll ds (now x) (now y)) → Changes a c AreDone
+    pub told_done : (a b c : Option Log) → Changes a b IsOpened → Changes b c (GoesOnAt (named bs)) → Changes b c (StaysAmid ds) → Changes b c (λ x y. IsSynced y × DoesAll ds (now x) (now y)) → Changes a c AreDone
     told_done a b c open_gate grown stays done =
-        through a b c IsOpened (λ x y. (LogGoesOn x y × StaysAmid ds x y) × (IsSteady y × DoesAll ds (now x) (now y))) AreDone (λ x y z o p. deeds_done x y z o p.0.0 p.0.1 p.1) open_gate
-        (both_changed b c (λ x y. LogGoesOn x y × StaysAmid ds x y) (λ x y. IsSteady y × DoesAll ds (now x) (now y)) (both_changed b c LogGoesOn (StaysAmid ds) grown stays) done)
+        through a b c IsOpened (λ x y. (GoesOnAt (named bs) x y × StaysAmid ds x y) × (IsSynced y × DoesAll ds (now x) (now y))) AreDone (λ x y z o p. deeds_done x y z o p.0.0 p.0.1 p.1) open_gate
+        (both_changed b c (λ x y. GoesOnAt (named bs) x y × StaysAmid ds x y) (λ x y. IsSynced y × DoesAll ds (now x) (now y)) (both_changed b c (GoesOnAt (named bs)) (StaysAmid ds) grown stays) done)
 
     pub told_close_leaves : (a b c : Option Log) → Changes a b AreDone → Changes b c (LeavesParts (Write path 0 (0 ∷ []))) → Changes a c (AnyMoment bs)
     told_close_leaves a b c all parts = through a b c AreDone (LeavesParts (Write journal_file 0 (0 ∷ []))) (AnyMoment bs) close_leaves all (parts_here 0 (0 ∷ []) b c parts)
 
-    pub told_closed : (a b c : Option Log) → Changes a b AreDone → Changes b c (HasKept (Write path 0 (0 ∷ []))) → Changes a c (HasCommitted bs)
-    told_closed a b c all kept = through a b c AreDone (HasKept (Write journal_file 0 (0 ∷ []))) (HasCommitted bs) closed all (kept_here 0 (0 ∷ []) b c kept)
+    pub told_closed : (a b c : Option Log) → Changes a b AreDone → Changes b c (IsKept (Write path 0 (0 ∷ []))) → Changes a c (HasCommitted bs)
+    told_closed a b c all kept = through a b c AreDone (IsKept (Write journal_file 0 (0 ∷ []))) (HasCommitted bs) closed all (kept_here 0 (0 ∷ []) b c kept)
 
   -- ---- recovery
 
@@ -369,17 +370,17 @@ module _ (bs : List PlainDeed) (batch : IsBatch bs) (repeatable : IsRepeatable b
   amid_all : (old new : Log) → IsFound bs old → StaysAmid ds old new → IsAmid ds (now old) (now new) × LeavesOnly old new (IsAmid ds (now old))
   amid_all old new found stays = stays ds (now old) apart (λ x one. one) (amid_start ds (now old)) (λ image is. subst (IsAmid ds (now old)) (sym (found.steady.durable image is)) (amid_start ds (now old)))
 
-  pub found_leaves : (old new : Log) → IsFound bs old → LogGoesOn old new → StaysAmid ds old new → StaysApplied ds old new → StaysRecovered bs old new
+  pub found_leaves : (old new : Log) → IsFound bs old → GoesOnAt (named bs) old new → StaysAmid ds old new → StaysApplied ds old new → StaysRecovered bs old new
   found_leaves old new found grown stays applied = record {
     whole = λ after run. weaker old new (IsAmid ds (now old)) (RecoversLike after) (λ c amid. found_amid old after c found run amid) (amid_all old new found stays).1;
     applied = applied_all old new found applied;
-    tidy = deeds_tidy bs old new repeatable found.open_gate found.steady grown (amid_all old new found stays).1;
+    tidy = deeds_tidy bs old new repeatable found.open_gate found.steady grown;
   }
 
   -- done again, with the gate still open
   pub record AreRedone (old new : Log) : Type 0 where
     pub stays : StaysRecovered bs old new
-    pub steady : IsSteady new
+    pub steady : IsSynced new
     pub rest : List ℕ
     pub here : node_at (now new) journal_file ≡ Some (file (1 ∷ (behind_gate bs ++ rest)))
     pub no_folder : IsFolder (now new) new_file → ⊥
@@ -387,7 +388,7 @@ module _ (bs : List PlainDeed) (batch : IsBatch bs) (repeatable : IsRepeatable b
     pub after : (after : Disk) → DoesAll ds (now old) after → now new ≡ after
     pub again : (more : Disk) × DoesAll ds (now new) more × IsSameDisk more (now new)
 
-  pub redone : (old new : Log) → IsFound bs old → LogGoesOn old new → StaysAmid ds old new → IsSteady new × DoesAll ds (now old) (now new) → AreRedone old new
+  pub redone : (old new : Log) → IsFound bs old → GoesOnAt (named bs) old new → StaysAmid ds old new → IsSynced new × DoesAll ds (now old) (now new) → AreRedone old new
   redone old new found grown stays done =
       let all = amid_all old new found stays in
       record {
@@ -428,7 +429,7 @@ module _ (bs : List PlainDeed) (batch : IsBatch bs) (repeatable : IsRepeatable b
       whole after run = joined old mid new (RecoversLike after) (all.stays.whole after run)
           (weaker mid new _ (RecoversLike after) (λ c part. part_shut old mid after c all run part) leaves.images)
 
-  pub recovered : (old mid new : Log) → AreRedone old mid → HasKept (Write journal_file 0 (0 ∷ [])) mid new → HasRecovered bs old new
+  pub recovered : (old mid new : Log) → AreRedone old mid → IsKept (Write journal_file 0 (0 ∷ [])) mid new → HasRecovered bs old new
   recovered old mid new all kept = record {
     at_rest = record {
       steady = kept.steady;

@@ -1,3 +1,4 @@
+pub mod Elsewhere
 pub mod Tidy
 pub mod Gate
 pub mod FirstJournal

@@ -2,9 +2,9 @@
 use Rattle.std.proofs.Common.{◌≡◌, ◌↔◌, ◌⊎◌, ℕ, zero, suc, ◌+◌, List, [], ◌∷◌, ◌++◌, take, drop, Contains, sym, ap, subst, ◌∙◌, inl, inr, arith, add-one, append_assoc, append-nil}
 use Rattle.std.proofs.lemmas.List.Elements.{Contains-append_cases, Contains-append_left, Contains-append_right}
 use Rattle.outside.specs.Disk.{Disk, Path}
-use Rattle.deeds.specs.Deeds.{PlainDeed, names}
+use Rattle.deeds.specs.Deeds.{PlainDeed, named, names}
 use Rattle.deeds.proofs.Windows.{take_next}
-use Rattle.chunk_journal.specs.Journal.{journal_file, new_file, HoldsBatch, IsClosed, IsLoose, named}
+use Rattle.chunk_journal.specs.Journal.{journal_file, new_file, HoldsBatch, IsClosed, IsLoose}
 use Rattle.chunk_journal.proofs.Gate.{closed_not_held, one_held}
 
 -- ---- what one deed more names

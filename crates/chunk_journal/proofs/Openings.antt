@@ -3,17 +3,18 @@ use Rattle.std.proofs.Common.{◌≡◌, ◌≢◌, ◌⊎◌, ℕ, List, [], �
 use Rattle.outside.specs.Disk.{Disk, Path, node_at}
 use Rattle.outside.specs.Calls.{Told, Changes}
 use Rattle.outside.specs.Changes.{Change, Write}
-use Rattle.outside.specs.Images.{Log, Synced, adds, now, IsImage, IsSteady, HasKept, LeavesOnly}
+use Rattle.outside.specs.Images.{Log, Synced, adds, now, IsImage, LeavesOnly}
 use Rattle.outside.proofs.Moments.{started}
 use Rattle.outside.proofs.Steady.{begun}
 use Rattle.deeds.specs.Deeds.{PlainDeed, DoesAll, LogGoesOn, in_order}
+use Rattle.outside.specs.Unsynced.{IsSynced, paths_of}
 use Rattle.deeds.specs.Applying.{Applies}
 use Rattle.deeds.proofs.Again.{at_disk}
-use Rattle.deeds.proofs.Growing.{goes_nowhere, goes_on_on, synced_goes_on}
+use Rattle.deeds.proofs.Growing.{at_nowhere, goes_nowhere, goes_on_on, steady_of, synced_goes_on}
 use Rattle.chunk_journal.specs.declared.fault.JournalErr.{JournalErr}
 use Rattle.chunk_journal.specs.declared.fault.JournalErr.TheVariants.{Device, JournalDamaged, Memory}
 use Rattle.chunk_journal.specs.Journal.{journal_file, new_file, HoldsBatch, IsClosed, RecoversLike, RecoveredLike, IsAlike, IsQuiet, IsFound, IsReopenable, IsRepeatable, StaysRecovered, StaysTidy, IsUnheld}
-use Rattle.chunk_journal.specs.Stages.{LeavesParts}
+use Rattle.chunk_journal.specs.Stages.{IsKept, LeavesParts}
 use Rattle.chunk_journal.specs.Opening.{HasFolder, HasLen, IsUnfitAt, IsDamagedAt, LeavesFolder, IsBadBehindGate, IfDamaged, IsLeftApplied, IsOpening, HasOpened}
 use Rattle.chunk_journal.proofs.Gate.{files_apart, held_reopens, written_here, written_there, one_held}
 use Rattle.chunk_journal.proofs.Damage.{recovers_undamaged, held_bytes}
@@ -35,14 +36,14 @@ damaged_by Memory P Q f p = tt
 -- ---- closing
 
 -- no change was begun
-pub parts_begun : (change : Change) (log : Log) → IsSteady log → LeavesParts change log log
-parts_begun change log steady = record { images = begun log change steady; grown = goes_nowhere log }
+pub parts_begun : (change : Change) (log : Log) → IsSynced log → LeavesParts change log log
+parts_begun change log steady = record { images = begun log change (steady_of log steady); grown = at_nowhere (paths_of change) log }
 
 -- what closing leaves beside the journal
 abbrev pub ClosesBeside : Log → Log → Type 0
 ClosesBeside old new = IsQuiet new × ((q : Path) → q ≢ journal_file → node_at (now new) q ≡ node_at (now old) q)
 
-pub shut_closes : (len : ℕ) (old new : Log) → HasLen (Some len) (now old) → HasKept (Write journal_file 0 (0 ∷ [])) old new → ClosesBeside old new
+pub shut_closes : (len : ℕ) (old new : Log) → HasLen (Some len) (now old) → IsKept (Write journal_file 0 (0 ∷ [])) old new → ClosesBeside old new
 shut_closes len old new has kept =
     let bytes = has.0.0 in
     let there = λ (q : Path) (ne : q ≢ journal_file). at_disk q kept.is ∙ written_there 0 (0 ∷ []) (now old) q ne in (
@@ -59,17 +60,17 @@ shut_closes len old new has kept =
 abbrev pub HasRedone : List PlainDeed → Log → Log → Type 0
 HasRedone bs old new = IsQuiet new × ((after : Disk) × DoesAll (in_order bs) (now old) after × IsAlike after (now new))
 
-pub redone_all : (bs : List PlainDeed) (old mid new : Log) → IsSteady mid × DoesAll (in_order bs) (now old) (now mid) → ClosesBeside mid new → HasRedone bs old new
+pub redone_all : (bs : List PlainDeed) (old mid new : Log) → IsSynced mid × DoesAll (in_order bs) (now old) (now mid) → ClosesBeside mid new → HasRedone bs old new
 redone_all bs old mid new did closes = (closes.0, (now mid, did.1, λ q ne nm. closes.1 q ne))
 
-pub leaves_folder : (bs : List PlainDeed) (at : ℕ) (old mid : Log) → IsFound bs old → IsSteady mid × DoesAll (in_order bs) (now old) (now mid) → HasFolder (now mid) × (at ≡ 0) → LeavesFolder (now old) at
+pub leaves_folder : (bs : List PlainDeed) (at : ℕ) (old mid : Log) → IsFound bs old → IsSynced mid × DoesAll (in_order bs) (now old) (now mid) → HasFolder (now mid) × (at ≡ 0) → LeavesFolder (now old) at
 leaves_folder bs at old mid found did folder = record { deeds = bs; held = found.open_gate; after = now mid; run = did.1; folder = folder.0; place = folder.1 }
 
 -- ---- the whole
 
 pub record HasSettled (old mid : Log) : Type 0 where
   pub is : mid ≡ adds old Synced
-  pub steady : IsSteady mid
+  pub steady : IsSynced mid
   pub begun : LeavesOnly old mid (IsImage old)
 
 found_stays : (bs : List PlainDeed) → IsRepeatable bs → (log : Log) → IsFound bs log → StaysRecovered bs log log
@@ -95,7 +96,7 @@ opening old mid new settled grown untouched stays tidy =
     record {
       grown = goes_on_on old mid new (synced_goes_on old mid settled.is) grown;
       begun = subst (λ (l : Log). LeavesOnly old l (IsImage old)) e settled.begun;
-      steady = subst IsSteady e settled.steady;
+      steady = subst IsSynced e settled.steady;
       untouched = subst (λ (l : Log). ((deeds : List PlainDeed) → IsFound deeds l → ⊥) → new ≡ l) e untouched;
       stays = subst (λ (l : Log). (deeds : List PlainDeed) → IsRepeatable deeds → IsFound deeds l → StaysRecovered deeds l new) e stays;
       tidy = subst (λ (l : Log). HoldsRepeatable (now l) → StaysTidy l new) e tidy;
@@ -117,7 +118,7 @@ now_settled old mid settled = ap now settled.is
 pub damaged_first : (at : ℕ) (old mid : Log) → HasSettled old mid → IsDamagedAt (now mid) at → IsDamagedAt (now old) at
 damaged_first at old mid settled bad = subst (λ (d : Disk). IsDamagedAt d at) (now_settled old mid settled) bad
 
-pub found_mid : (bs : List PlainDeed) (mid : Log) → IsSteady mid → HoldsBatch (now mid) bs → (HasFolder (now mid) → ⊥) → IsFound bs mid
+pub found_mid : (bs : List PlainDeed) (mid : Log) → IsSynced mid → HoldsBatch (now mid) bs → (HasFolder (now mid) → ⊥) → IsFound bs mid
 found_mid bs mid steady held none = record { steady = steady; open_gate = held; no_folder = λ is. none (inr is) }
 
 pub opened_closed : (old mid new : Log) → HasSettled old mid → IsClosed (now mid) → (HasFolder (now mid) → ⊥) → new ≡ mid → HasOpened old new
@@ -143,7 +144,7 @@ opened_redone bs old mid new settled found redone =
       undamaged = λ at. recovers_undamaged (now old) redone.1.0 at (inr (bs, held, run)) (λ is. found.no_folder (sym (at_disk new_file (sym d)) ∙ is));
     }
 
-pub shut_found : (found : Option ℕ) (old new : Log) → is_some found ≡ true → HasLen found (now old) → HasKept (Write journal_file 0 (0 ∷ [])) old new → ClosesBeside old new
+pub shut_found : (found : Option ℕ) (old new : Log) → is_some found ≡ true → HasLen found (now old) → IsKept (Write journal_file 0 (0 ∷ [])) old new → ClosesBeside old new
 shut_found None old new some has kept = absurd (let e : false ≡ true = some in cc)
 shut_found (Some len) old new some has kept = shut_closes len old new has kept
 
@@ -153,7 +154,7 @@ told_earlier None (Some y) P T U f p t = absurd p
 told_earlier (Some x) None P T U f p t = absurd p
 told_earlier (Some x) (Some y) P T U f p t = f x y p t
 
-pub told_settled : (a b : Option Log) → Changes a b (λ old mid. mid ≡ adds old Synced) → Changes a b (λ old mid. IsSteady mid) → Changes a b (λ old mid. LeavesOnly old mid (IsImage old)) → Changes a b HasSettled
+pub told_settled : (a b : Option Log) → Changes a b (λ old mid. mid ≡ adds old Synced) → Changes a b (λ old mid. IsSynced mid) → Changes a b (λ old mid. LeavesOnly old mid (IsImage old)) → Changes a b HasSettled
 told_settled None None p q r = tt
 told_settled None (Some y) p q r = absurd p
 told_settled (Some x) None p q r = absurd p

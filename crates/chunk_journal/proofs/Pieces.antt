@@ -4,11 +4,12 @@ use Rattle.std.proofs.lemmas.List.{take_at}
 use Rattle.outside.specs.Disk.{Disk, file, IsTree}
 use Rattle.outside.specs.Changes.{Write, IsPartOf, CanDo, overwritten}
 use Rattle.outside.specs.Calls.{Changes, Told}
-use Rattle.outside.specs.Images.{Did, Broke, Synced, Log, now, IsImage, adds, LeavesOnly, IsSound, IsSteady, HasDone, HasBroken}
+use Rattle.outside.specs.Images.{Did, Broke, Synced, Log, now, IsImage, adds, IsSound, HasDone, HasBroken}
 use Rattle.outside.proofs.Moments.{started, goes_to, ends}
 use Rattle.outside.proofs.Steady.{sound_tree}
+use Rattle.outside.specs.Unsynced.{IsSynced, unsynced}
 use Rattle.deeds.proofs.Again.{at_disk}
-use Rattle.deeds.proofs.Growing.{broke_goes_on, did_goes_on, goes_nowhere, goes_on_on, synced_goes_on}
+use Rattle.deeds.proofs.Growing.{at_broke, at_did, at_nowhere, at_synced, at_then}
 use Rattle.chunk_journal.specs.Journal.{journal_file, IsReady}
 use Rattle.chunk_journal.specs.Stages.{IsShutBeside, KeepsShut, HasFront}
 use Rattle.chunk_journal.proofs.Gate.{rewritten, written_here, written_there}
@@ -33,7 +34,7 @@ ready_beside log ready = record { bytes = ready.gate ∷ ready.rest; here = read
 pub pieces_begun : (log : Log) → IsReady log → KeepsShut log log
 pieces_begun log ready = record {
   images = started log (IsShutBeside (now log)) (λ c image. subst (IsShutBeside (now log)) (sym (ready.steady.durable c image)) (ready_beside log ready));
-  grown = goes_nowhere log;
+  grown = at_nowhere (journal_file ∷ []) log;
 }
 
 pub front_begun : (log : Log) → IsReady log → HasFront [] (now log) (now log)
@@ -44,7 +45,7 @@ piece_did at bytes old mid new keeps did = record {
   images = goes_to old mid new (Did (Write journal_file (1 + at) bytes)) (IsShutBeside (now old)) keeps.images did.1 (λ c image.
       let i = subst (λ (l : Log). IsImage l c) did.1 image in
       shut_part at bytes (now old) i.0 c (ends old mid (IsShutBeside (now old)) keeps.images i.0 i.1) i.2);
-  grown = goes_on_on old mid new keeps.grown (did_goes_on (Write journal_file (1 + at) bytes) mid new did);
+  grown = at_then (journal_file ∷ []) old mid new keeps.grown (at_did (Write journal_file (1 + at) bytes) mid new did);
 }
 
 pub piece_broke : (at : ℕ) (bytes : List ℕ) (old mid new : Log) → KeepsShut old mid → HasBroken (Write journal_file (1 + at) bytes) mid new → KeepsShut old new
@@ -53,7 +54,7 @@ piece_broke at bytes old mid new keeps (inr broke) = record {
   images = goes_to old mid new (Broke (Write journal_file (1 + at) bytes) broke.0) (IsShutBeside (now old)) keeps.images broke.2 (λ c image.
       let i = subst (λ (l : Log). IsImage l c) broke.2 image in
       shut_part at bytes (now old) i.0 c (ends old mid (IsShutBeside (now old)) keeps.images i.0 i.1) i.2);
-  grown = goes_on_on old mid new keeps.grown (broke_goes_on (Write journal_file (1 + at) bytes) mid new (inr broke));
+  grown = at_then (journal_file ∷ []) old mid new keeps.grown (at_broke (Write journal_file (1 + at) bytes) mid new (inr broke));
 }
 
 -- bytes written at the end of the front are more of it
@@ -77,11 +78,12 @@ front_more at front bytes old mid new long has did = record {
 pub can_piece : (at : ℕ) (front bytes : List ℕ) (d : Disk) (log : Log) → length front ≡ at → HasFront front d (now log) → CanDo (Write journal_file (1 + at) bytes) (now log)
 can_piece at front bytes d log long has = (has.gate ∷ (front ++ has.rest), has.here, omega (arith, long, length-append front has.rest))
 
-pub staged_synced : (bytes : List ℕ) (old mid new : Log) → IsSound mid.start mid.calls → HasFront bytes (now old) (now mid) → new ≡ adds mid Synced → IsSteady new × HasFront bytes (now old) (now new)
+pub staged_synced : (bytes : List ℕ) (old mid new : Log) → IsSound mid.start mid.calls → HasFront bytes (now old) (now mid) → new ≡ adds mid Synced → IsSynced new × HasFront bytes (now old) (now new)
 staged_synced bytes old mid new sound has is = (
   record {
     durable = λ c image. subst (λ (l : Log). IsImage l c) is image ∙ sym (ap now is);
     tree = subst IsTree (sym (ap now is)) (sound_tree mid.start mid.calls sound);
+    none = ap (λ (l : Log). unsynced l.calls) is;
   },
   subst (λ (d : Disk). HasFront bytes (now old) d) (sym (ap now is)) has,
 )
@@ -91,7 +93,7 @@ keeps_synced old mid new keeps here is = record {
   images = goes_to old mid new Synced (IsShutBeside (now old)) keeps.images is (λ c image.
       let i = subst (λ (l : Log). IsImage l c) is image in
       subst (IsShutBeside (now old)) (sym i) here);
-  grown = goes_on_on old mid new keeps.grown (synced_goes_on mid new is);
+  grown = at_then (journal_file ∷ []) old mid new keeps.grown (at_synced (journal_file ∷ []) mid new is);
 }
 
 pub front_shut : (bytes : List ℕ) (d c : Disk) → HasFront bytes d c → IsShutBeside d c

@@ -1,8 +1,9 @@
 -- The journal of a folder, and what an image of it recovers to.
-use Rattle.std.specs.Prelude.{◌≡◌, ◌≢◌, ◌⊎◌, ℕ, ◌≤◌, List, ◌∷◌, ◌++◌, Contains, flat_map, get_or, Some, None}
+use Rattle.std.specs.Prelude.{◌≡◌, ◌≢◌, ◌⊎◌, ℕ, ◌≤◌, List, ◌∷◌, ◌++◌, Contains, get_or, Some, None}
 use Rattle.outside.specs.Disk.{Disk, Path, file, node_at, IsFolder}
-use Rattle.outside.specs.Images.{Log, now, moment, log_at, IsImage, LeavesOnly, IsSteady}
-use Rattle.deeds.specs.Deeds.{PlainDeed, DoesAll, IsAlikeBut, LogGoesOn, in_order, names}
+use Rattle.outside.specs.Images.{Log, now, moment, log_at, LeavesOnly}
+use Rattle.deeds.specs.Deeds.{PlainDeed, DoesAll, IsAlikeBut, LogGoesOn, in_order, named}
+use Rattle.outside.specs.Unsynced.{IsSoundSinceSync, IsSynced, touched, unsynced}
 use Rattle.deeds.specs.Applying.{Applies}
 use Rattle.deeds.specs.Grammar.{IsBatch, behind_gate}
 pub use Rattle.deeds.specs.Repeatable.{journal_name, new_name, names_apart, journal_file, new_file, IsRepeatable}
@@ -41,34 +42,31 @@ IsAlike a b = IsAlikeBut journal_file new_file a b
 abbrev pub IsBeforeOrAfter : Disk → Disk → Disk → Type 0
 IsBeforeOrAfter before after image = (disk : Disk) × RecoversTo image disk × (IsAlike before disk ⊎ IsAlike after disk) × IsReopenable image
 
--- all is on the disk, no journal is open, and no folder is where the first one is made
+-- all is on the disk and synced, no journal is open, and no folder is where the first one is made
 pub record IsQuiet (log : Log) : Type 0 where
-  pub steady : IsSteady log
+  pub steady : IsSynced log
   pub closed : IsClosed (now log)
   pub no_folder : IsFolder (now log) new_file → ⊥
 
 -- besides, the journal is there
 pub record IsReady (log : Log) : Type 0 where
-  pub steady : IsSteady log
+  pub steady : IsSynced log
   pub gate : ℕ
   pub rest : List ℕ
   pub here : node_at (now log) journal_file ≡ Some (file (gate ∷ rest))
   pub shut : gate ≢ 1
   pub no_folder : IsFolder (now log) new_file → ⊥
 
--- ---- what isn't on the disk
-
--- the paths that deeds name
-abbrev pub named : List PlainDeed → List Path
-named deeds = flat_map names deeds
+-- ---- what is unsynced
 
 -- one of the journal's two files is there, or the batch that the disk holds names the path
 abbrev pub IsLoose : Disk → Path → Type 0
 IsLoose disk path = (path ≡ journal_file) ⊎ ((path ≡ new_file) ⊎ ((deeds : List PlainDeed) × HoldsBatch disk deeds × Contains (named deeds) path))
 
--- a stop leaves what reads give, but at paths that are loose on the disk that reads give
-abbrev pub IsTidy : Log → Type 0
-IsTidy log = (image : Disk) → IsImage log image → (path : Path) → (IsLoose (now log) path → ⊥) → node_at image path ≡ node_at (now log) path
+-- each change since the last sync was as it can be, and names only paths that are loose on the disk that reads give
+pub record IsTidy (log : Log) : Type 0 where
+  pub sound : IsSoundSinceSync log.start log.calls
+  pub loose : (path : Path) → Contains (touched (unsynced log.calls)) path → IsLoose (now log) path
 
 -- so it is at each moment from this one on
 abbrev pub TidySince : ℕ → Log → Type 0
@@ -81,7 +79,7 @@ pub record StaysTidy (old new : Log) : Type 0 where
 
 -- ---- commits
 
--- At each moment since, whatever the deeds leave in the end, an image recovers to what was before or to that; and what isn't on the disk is loose.
+-- At each moment since, whatever the deeds leave in the end, an image recovers to what was before or to that; and what is unsynced is loose.
 pub record AnyMoment (deeds : List PlainDeed) (old new : Log) : Type 0 where
   pub recovers : (after : Disk) → DoesAll (in_order deeds) (now old) after → LeavesOnly old new (IsBeforeOrAfter (now old) after)
   pub tidy : StaysTidy old new
@@ -97,9 +95,9 @@ pub record HasCommitted (deeds : List PlainDeed) (old new : Log) : Type 0 where
 abbrev pub RecoversLike : Disk → Disk → Type 0
 RecoversLike after image = (disk : Disk) × RecoversTo image disk × IsAlike after disk × IsReopenable image
 
--- a journal with this batch was found open, and all is on the disk
+-- a journal with this batch was found open, and all is on the disk and synced
 pub record IsFound (deeds : List PlainDeed) (log : Log) : Type 0 where
-  pub steady : IsSteady log
+  pub steady : IsSynced log
   pub open_gate : HoldsBatch (now log) deeds
   pub no_folder : IsFolder (now log) new_file → ⊥
 
@@ -107,7 +105,7 @@ pub record IsFound (deeds : List PlainDeed) (log : Log) : Type 0 where
 abbrev pub RecoveredLike : Disk → Disk → Type 0
 RecoveredLike after image = (disk : Disk) × Recovered image disk × IsAlike after disk × IsReopenable image
 
--- At each moment since an image recovers to what the disk that was found does, whether all deeds can be done on it or not; and what isn't on the disk
+-- At each moment since an image recovers to what the disk that was found does, whether all deeds can be done on it or not; and what is unsynced
 -- is loose.
 pub record StaysRecovered (deeds : List PlainDeed) (old new : Log) : Type 0 where
   pub whole : (after : Disk) → DoesAll (in_order deeds) (now old) after → LeavesOnly old new (RecoversLike after)
@@ -121,7 +119,7 @@ pub record HasRecovered (deeds : List PlainDeed) (old new : Log) : Type 0 where
 
 -- ---- the first journal
 
--- at each moment since an image recovers to what reads gave, and what isn't on the disk is loose
+-- at each moment since an image recovers to what reads gave, and what is unsynced is loose
 pub record StaysShut (old new : Log) : Type 0 where
   pub recovers : LeavesOnly old new (RecoversLike (now old))
   pub tidy : StaysTidy old new

@@ -2,8 +2,9 @@
 use Rattle.std.specs.Prelude.{◌≡◌, ◌⊎◌, ⊤, ℕ, ◌+◌, ◌<◌, ◌^◌, List, length, take, drop, get_or, Option, None, Some}
 use Rattle.std.specs.Int.{w64, from_be_bytes}
 use Rattle.outside.specs.Disk.{Disk, file, node_at, IsFolder}
-use Rattle.outside.specs.Images.{Log, Synced, adds, now, IsImage, IsSteady, LeavesOnly}
+use Rattle.outside.specs.Images.{Log, Synced, adds, now, IsImage, LeavesOnly}
 use Rattle.deeds.specs.Deeds.{PlainDeed, DoesAll, IsRefusedAt, LogGoesOn, in_order}
+use Rattle.outside.specs.Unsynced.{IsSynced}
 use Rattle.deeds.specs.Grammar.{IsBadAt, spelled_deeds}
 use Rattle.chunk_journal.specs.declared.fault.JournalErr.{JournalErr}
 use Rattle.chunk_journal.specs.declared.fault.JournalErr.TheVariants.{Device, JournalDamaged, Memory}
@@ -89,11 +90,11 @@ IfDamaged Memory P = ⊤
 
 -- The sync that it begins with leaves nothing that a stop couldn't have left before. Nothing else is done if there is no
 -- batch to be done; and if its deeds can be repeated, each image at each moment since recovers to what the disk that was
--- found recovers to, and what isn't on the disk is loose. The folder's calls go on from those before.
+-- found recovers to, and what is unsynced is loose. The folder's calls go on from those before.
 pub record IsOpening (old new : Log) : Type 0 where
   pub grown : LogGoesOn old new
   pub begun : LeavesOnly old (adds old Synced) (IsImage old)
-  pub steady : IsSteady (adds old Synced)
+  pub steady : IsSynced (adds old Synced)
   pub untouched : ((deeds : List PlainDeed) → IsFound deeds (adds old Synced) → ⊥) → new ≡ adds old Synced
   pub stays : (deeds : List PlainDeed) → IsRepeatable deeds → IsFound deeds (adds old Synced) → StaysRecovered deeds (adds old Synced) new
   pub tidy : ((deeds : List PlainDeed) → HoldsBatch (now old) deeds → IsRepeatable deeds) → StaysTidy (adds old Synced) new

@@ -1,16 +1,23 @@
 -- The stages of a commit, up to the batch that follows the closed gate.
-use Rattle.std.specs.Prelude.{◌≡◌, ◌≢◌, ℕ, List, ◌∷◌, ◌++◌, get_or, Some}
+use Rattle.std.specs.Prelude.{◌≡◌, ◌≢◌, ℕ, List, [], ◌∷◌, ◌++◌, get_or, Some}
 use Rattle.outside.specs.Disk.{Disk, Path, file, node_at}
-use Rattle.outside.specs.Changes.{Change, IsPartOf}
-use Rattle.outside.specs.Images.{Log, now, LeavesOnly, IsSteady}
-use Rattle.deeds.specs.Deeds.{PlainDeed, LogGoesOn}
+use Rattle.outside.specs.Changes.{Change, CanDo, IsPartOf, done}
+use Rattle.outside.specs.Images.{Log, now, LeavesOnly}
+use Rattle.deeds.specs.Deeds.{PlainDeed, GoesOnAt}
+use Rattle.outside.specs.Unsynced.{IsSynced, paths_of}
 use Rattle.deeds.specs.Grammar.{behind_gate}
 use Rattle.chunk_journal.specs.Journal.{journal_file}
 
--- the calls go on from the old ones, and at each moment since an image has some part of the change alone
+-- The calls go on from the old ones, and the changes since name the change's paths alone; at each moment since an image has some part of the change.
 pub record LeavesParts (change : Change) (old new : Log) : Type 0 where
   pub images : LeavesOnly old new (IsPartOf change (now old))
-  pub grown : LogGoesOn old new
+  pub grown : GoesOnAt (paths_of change) old new
+
+-- a change was done, and nothing since it was synced
+pub record IsKept (change : Change) (old new : Log) : Type 0 where
+  pub can : CanDo change (now old)
+  pub is : now new ≡ done change (now old)
+  pub steady : IsSynced new
 
 -- the journal is there and closed, and all else is as it was
 pub record IsShutBeside (disk image : Disk) : Type 0 where
@@ -19,10 +26,10 @@ pub record IsShutBeside (disk image : Disk) : Type 0 where
   pub shut : get_or bytes 0 0 ≢ 1
   pub alike : (q : Path) → q ≢ journal_file → node_at image q ≡ node_at disk q
 
--- the calls go on from the old ones, and so is each image at each moment since
+-- the calls go on from the old ones, and change the journal's file alone; and so is each image at each moment since
 pub record KeepsShut (old new : Log) : Type 0 where
   pub images : LeavesOnly old new (IsShutBeside (now old))
-  pub grown : LogGoesOn old new
+  pub grown : GoesOnAt (journal_file ∷ []) old new
 
 -- these bytes follow the closed gate, and all else is as it was
 pub record HasFront (front : List ℕ) (disk new : Disk) : Type 0 where
@@ -35,9 +42,9 @@ pub record HasFront (front : List ℕ) (disk new : Disk) : Type 0 where
 abbrev pub HasWritten : List PlainDeed → Log → Log → Type 0
 HasWritten deeds old new = HasFront (behind_gate deeds) (now old) (now new)
 
--- besides, all is on the disk
+-- besides, all is on the disk, and nothing was changed since
 abbrev pub HasStaged : List PlainDeed → Log → Log → Type 0
-HasStaged deeds old new = IsSteady new × HasFront (behind_gate deeds) (now old) (now new)
+HasStaged deeds old new = IsSynced new × HasFront (behind_gate deeds) (now old) (now new)
 
 -- the journal is there, and isn't empty
 abbrev pub HasGate : Disk → Type 0

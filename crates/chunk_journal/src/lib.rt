@@ -13,7 +13,7 @@
 //! gate, with a sync after each. The first journal is made at `served.journal.new` and moved to its place. Opening does what is
 //! left of an open gate's batch, or says at which byte the journal is damaged.
 //!
-//! A run that is killed leaves no change off the disk but at the paths that `loose_paths` gives.
+//! The changes that a run which is killed leaves unsynced name no path but those that `loose_paths` gives.
 //!
 //! Laws: `recovering_is_undamaged`, `undamaged_recovers`, `recovering_is_unique`, `opening_stays_found`, `journals_stay_undamaged`
 //! and `tidy_logs_are_flushed`, which do nothing.
@@ -29,14 +29,15 @@ mod running;
 mod stage;
 mod steps;
 
-ghost use Rattle.std.specs.Prelude.{◌≡◌, ◌⊎◌, ℕ, suc, List};
-ghost use Rattle.outside.specs.Disk.{Disk, IsFolder};
-ghost use Rattle.outside.specs.Images.{Log, Synced, adds, now, moment, IsImage, LeavesOnly};
+ghost use Rattle.std.specs.Prelude.{◌≡◌, ◌⊎◌, ℕ, suc, List, Contains};
+ghost use Rattle.outside.specs.Disk.{Disk, Path, IsFolder};
+ghost use Rattle.outside.specs.Images.{Log, Synced, adds, now, moment, IsImage, IsSound, LeavesOnly};
 ghost use Rattle.deeds.specs.Deeds.{PlainDeed, DoesAll, in_order};
-ghost use Rattle.chunk_journal.specs.Journal.{new_file, HoldsBatch, RecoversTo, RecoversLike, Recovered, IsAlike, IsReopenable, AnyMoment, IsTidy, TidySince};
+ghost use Rattle.outside.specs.Unsynced.{touched, unsynced};
+ghost use Rattle.chunk_journal.specs.Journal.{new_file, HoldsBatch, RecoversTo, RecoversLike, Recovered, IsAlike, IsReopenable, AnyMoment, IsLoose, IsTidy, TidySince};
 ghost use Rattle.chunk_journal.specs.Opening.{IsDamagedAt, LeavesFolder, HasFileBytes, IsOpenable, IsOpening, StaysOpening, HasOpened};
 ghost use Rattle.chunk_journal.specs.Commits.{StaysFound, StaysAsFound, StaysOpenable};
-ghost use Rattle.chunk_journal.specs.Flushed.{IsFlushedWhole};
+ghost use Rattle.chunk_journal.specs.Flushed.{IsFirm, IsFlushedWhole};
 
 pub use fault::{Device, JournalErr};
 pub use journal::Journal;
@@ -64,7 +65,7 @@ pub fn recovering_is_unique()
 {}
 
 /// If the disk that an opening finds is reopenable, each image since its first sync recovers to what that disk recovers to,
-/// what isn't on the disk is loose, and the calls go on from there; if it ended well, what reads give is that. It does nothing.
+/// what is unsynced is loose, and the calls go on from there; if it ended well, what reads give is that. It does nothing.
 pub fn opening_stays_found()
     ensures stays { (old new : Log) → StaysOpening old new → IsReopenable (now old) → StaysFound old new }
     ensures applied { (old new : Log) → StaysOpening old new → IsReopenable (now old) → StaysAsFound old new }
@@ -88,7 +89,11 @@ pub fn journals_stay_undamaged()
     ensures recovers { (image disk : Disk) → RecoversTo image disk → IsReopenable image → IsOpenable image }
 {}
 
-/// If what isn't on the disk is at loose paths, all is on it once these are flushed as they are read. It does nothing.
+/// A log each of whose calls was as it can be is tidy if the changes since its last sync name loose paths alone. Then a stop leaves what reads give
+/// elsewhere; and all is on the disk once the loose paths are flushed as they are read. It does nothing.
 pub fn tidy_logs_are_flushed()
-    ensures { (log : Log) → IsTidy log → IsFlushedWhole log }
+    ensures tidy { (log : Log) → IsSound log.start log.calls
+        → ((path : Path) → Contains (touched (unsynced log.calls)) path → IsLoose (now log) path) → IsTidy log }
+    ensures firm { (log : Log) → IsTidy log → IsFirm log }
+    ensures flushed { (log : Log) → IsTidy log → IsFlushedWhole log }
 {}

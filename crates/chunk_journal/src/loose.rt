@@ -2,9 +2,9 @@ ghost use Rattle.std.specs.Prelude.{◌≡◌, ◌↔◌, ◌∷◌, [], ◌++�
 ghost use Rattle.outside.specs.Calls.{HasCause, Told};
 ghost use Rattle.outside.specs.Disk.{Path};
 ghost use Rattle.outside.specs.Images.{now};
-ghost use Rattle.deeds.specs.Deeds.{names};
+ghost use Rattle.deeds.specs.Deeds.{named, names};
 ghost use Rattle.deeds.specs.Plain.{plain, plains};
-ghost use Rattle.chunk_journal.specs.Journal.{journal_file, new_file, IsLoose, named};
+ghost use Rattle.chunk_journal.specs.Journal.{journal_file, new_file, IsLoose};
 ghost use Rattle.chunk_journal.specs.Opening.{IfDamaged, IsDamagedAt};
 
 use crate::fault::JournalErr;
@@ -52,8 +52,8 @@ fn add_named(paths: &mut Vec<VaultPath>, deeds: &[Deed]) -> Result<(), AllocErro
     Ok(())
 }
 
-/// The paths of the journal's two files, and those that the batch after an open gate names: at them alone can changes be
-/// off the disk that a run made which was killed. It reads the journal as it is found, without a sync. An error is one of
+/// The paths of the journal's two files, and those that the batch after an open gate names: the changes since its last sync
+/// of a run that was killed name no others. It reads the journal as it is found, without a sync. An error is one of
 /// `Journal::open`, but that no deed is tried.
 pub fn loose_paths<D: Reads>(alloc: Global, folder: &mut D) -> Result<Vec<VaultPath>, JournalErr>
     ensures exact { IfOk result (λ paths. Told (D.log folder.old)

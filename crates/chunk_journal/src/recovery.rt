@@ -3,7 +3,8 @@ ghost use Rattle.outside.specs.Calls.{HasCause, Told, Changes};
 ghost use Rattle.outside.specs.Disk.{Disk, Path, node_at};
 ghost use Rattle.outside.specs.Changes.{Write};
 ghost use Rattle.outside.specs.Images.{now, adds, Synced, IsImage, IsSteady, LeavesOnly};
-ghost use Rattle.deeds.specs.Deeds.{DoesAll, StaysAmid, LogGoesOn, IsRefusedAt, in_order};
+ghost use Rattle.deeds.specs.Deeds.{DoesAll, StaysAmid, GoesOnAt, LogGoesOn, IsRefusedAt, in_order, named};
+ghost use Rattle.outside.specs.Unsynced.{IsSynced};
 ghost use Rattle.deeds.specs.Applying.{Applies, StaysApplied};
 ghost use Rattle.deeds.specs.Grammar.{IsBatch, spelled_deeds};
 ghost use Rattle.deeds.specs.Plain.{plains};
@@ -22,7 +23,7 @@ use vault_path::VaultPath;
 // Begins an opening: after the sync all is on the disk, and no stop leaves what it couldn't have left before.
 fn settle<D: Folder>(folder: &mut D) -> Result<(), Device>
     ensures synced { OnOk result (Changes (D.log folder.old) (D.log folder.new) (λ old new. new ≡ adds old Synced)) }
-    ensures steady { OnOk result (Changes (D.log folder.old) (D.log folder.new) (λ old new. IsSteady new)) }
+    ensures steady { OnOk result (Changes (D.log folder.old) (D.log folder.new) (λ old new. IsSynced new)) }
     ensures any_moment { OnOk result (Changes (D.log folder.old) (D.log folder.new) (λ old new. LeavesOnly old new (IsImage old))) }
     ensures broken { OnErr result (D.log folder.new ≡ D.log folder.old) }
     ensures cause { HasCause (D.faults folder.old) (D.faults folder.new) (IsErr result) }
@@ -36,9 +37,9 @@ fn redo_deeds<D: Folder>(folder: &mut D, deeds: &[Deed]) -> Result<(), JournalEr
     requires batch { IsBatch (plains deeds.now) }
     requires steady { Told (D.log folder.old) IsSteady }
     ensures done { OnOk result (Changes (D.log folder.old) (D.log folder.new)
-        (λ old new. IsSteady new × DoesAll (in_order (plains deeds.now)) (now old) (now new))) }
+        (λ old new. IsSynced new × DoesAll (in_order (plains deeds.now)) (now old) (now new))) }
     ensures amid { Changes (D.log folder.old) (D.log folder.new) (StaysAmid (in_order (plains deeds.now))) }
-    ensures grown { Changes (D.log folder.old) (D.log folder.new) LogGoesOn }
+    ensures grown { Changes (D.log folder.old) (D.log folder.new) (GoesOnAt (named (plains deeds.now))) }
     ensures applied { Changes (D.log folder.old) (D.log folder.new) (StaysApplied (in_order (plains deeds.now))) }
     ensures damaged { IfErr result (λ error. IfDamaged error (λ at. Told (D.log folder.old) (λ log. (index : ℕ)
         × IsRefusedAt (plains deeds.now) index (now log) × (at ≡ 13 + length (spelled_deeds (take index (plains deeds.now))))))) }
@@ -64,7 +65,7 @@ fn close<D: Folder>(
 ) -> Result<(), JournalErr>
     requires journal { journal.now ≡ journal_file }
     requires beside { beside.now ≡ new_file }
-    requires steady { Told (D.log folder.old) IsSteady }
+    requires steady { Told (D.log folder.old) IsSynced }
     ensures closed { OnOk result (Changes (D.log folder.old) (D.log folder.new)
         (λ old new. IsQuiet new × ((q : Path) → q ≢ journal_file → node_at (now new) q ≡ node_at (now old) q))) }
     ensures any_moment { Changes (D.log folder.old) (D.log folder.new) (LeavesParts (Write journal_file 0 (0 ∷ []))) }

@@ -2,7 +2,8 @@ ghost use Rattle.std.specs.Prelude.{◌≡◌, Some, OnOk, IfOk, IsErr, IsTrue};
 ghost use Rattle.outside.specs.Calls.{HasCause, Told, Changes};
 ghost use Rattle.outside.specs.Disk.{Disk};
 ghost use Rattle.outside.specs.Images.{now, IsSteady};
-ghost use Rattle.deeds.specs.Deeds.{DoesAll, StaysAmid, LogGoesOn, in_order};
+ghost use Rattle.deeds.specs.Deeds.{DoesAll, StaysAmid, GoesOnAt, in_order, named};
+ghost use Rattle.outside.specs.Unsynced.{IsSynced};
 ghost use Rattle.deeds.specs.Grammar.{IsBatch};
 ghost use Rattle.deeds.specs.Plain.{plains};
 ghost use Rattle.chunk_journal.specs.Stages.{HasGate};
@@ -22,9 +23,9 @@ pub fn do_deeds<D: Folder>(folder: &mut D, deeds: &[Deed]) -> Result<(), Device>
     requires steady { Told (D.log folder.old) IsSteady }
     requires can { Told (D.log folder.old) (λ log. (after : Disk) × DoesAll (in_order (plains deeds.now)) (now log) after) }
     ensures done { OnOk result (Changes (D.log folder.old) (D.log folder.new)
-        (λ old new. IsSteady new × DoesAll (in_order (plains deeds.now)) (now old) (now new))) }
+        (λ old new. IsSynced new × DoesAll (in_order (plains deeds.now)) (now old) (now new))) }
     ensures amid { Changes (D.log folder.old) (D.log folder.new) (StaysAmid (in_order (plains deeds.now))) }
-    ensures grown { Changes (D.log folder.old) (D.log folder.new) LogGoesOn }
+    ensures grown { Changes (D.log folder.old) (D.log folder.new) (GoesOnAt (named (plains deeds.now))) }
     ensures cause { HasCause (D.faults folder.old) (D.faults folder.new) (IsErr result) }
 {
     do_batch(folder, deeds).map_err(|_| Device)

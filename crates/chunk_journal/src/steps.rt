@@ -1,8 +1,8 @@
 ghost use Rattle.std.specs.Prelude.{OnOk, IsErr};
 ghost use Rattle.outside.specs.Calls.{HasCause, Told, Changes};
 ghost use Rattle.outside.specs.Changes.{Put, Write, Move, CanDo};
-ghost use Rattle.outside.specs.Images.{now, IsSteady, HasKept};
-ghost use Rattle.chunk_journal.specs.Stages.{LeavesParts};
+ghost use Rattle.outside.specs.Images.{now, IsSteady};
+ghost use Rattle.chunk_journal.specs.Stages.{IsKept, LeavesParts};
 
 use crate::fault::Device;
 use outside::Folder;
@@ -29,7 +29,7 @@ pub fn write_synced<D: Folder>(
 ) -> Result<(), Device>
     requires steady { Told (D.log folder.old) IsSteady }
     requires can { Told (D.log folder.old) (λ log. CanDo (Write path.now at bytes.now) (now log)) }
-    ensures written { OnOk result (Changes (D.log folder.old) (D.log folder.new) (HasKept (Write path.now at bytes.now))) }
+    ensures written { OnOk result (Changes (D.log folder.old) (D.log folder.new) (IsKept (Write path.now at bytes.now))) }
     ensures any_moment { Changes (D.log folder.old) (D.log folder.new) (LeavesParts (Write path.now at bytes.now)) }
     ensures cause { HasCause (D.faults folder.old) (D.faults folder.new) (IsErr result) }
 {
@@ -42,7 +42,7 @@ pub fn write_synced<D: Folder>(
 pub fn put_synced<D: Folder>(folder: &mut D, path: &VaultPath, bytes: &[u8]) -> Result<(), Device>
     requires steady { Told (D.log folder.old) IsSteady }
     requires can { Told (D.log folder.old) (λ log. CanDo (Put path.now bytes.now) (now log)) }
-    ensures put { OnOk result (Changes (D.log folder.old) (D.log folder.new) (HasKept (Put path.now bytes.now))) }
+    ensures put { OnOk result (Changes (D.log folder.old) (D.log folder.new) (IsKept (Put path.now bytes.now))) }
     ensures any_moment { Changes (D.log folder.old) (D.log folder.new) (LeavesParts (Put path.now bytes.now)) }
     ensures cause { HasCause (D.faults folder.old) (D.faults folder.new) (IsErr result) }
 {
@@ -59,7 +59,7 @@ pub fn move_synced<D: Folder>(
 ) -> Result<(), Device>
     requires steady { Told (D.log folder.old) IsSteady }
     requires can { Told (D.log folder.old) (λ log. CanDo (Move from.now to.now) (now log)) }
-    ensures moved { OnOk result (Changes (D.log folder.old) (D.log folder.new) (HasKept (Move from.now to.now))) }
+    ensures moved { OnOk result (Changes (D.log folder.old) (D.log folder.new) (IsKept (Move from.now to.now))) }
     ensures any_moment { Changes (D.log folder.old) (D.log folder.new) (LeavesParts (Move from.now to.now)) }
     ensures cause { HasCause (D.faults folder.old) (D.faults folder.new) (IsErr result) }
 {

@@ -118,7 +118,7 @@ abbrev pub StateRecovers : DiskShows → Type 0
 StateRecovers Shows = (opened : ℕ) (rows : Rows) (history : List Entry) (pending : List PlainDeed) (log : Log) (stopped : Option ℕ)
     → IsInState Shows opened rows history pending log stopped → StopsRecover Shows opened rows history log
 
--- at each moment since, what isn't on the disk is loose
+-- at each moment since, what is unsynced is loose
 abbrev pub StateIsTidy : DiskShows → Type 0
 StateIsTidy Shows = (opened : ℕ) (rows : Rows) (history : List Entry) (pending : List PlainDeed) (log : Log) (stopped : Option ℕ)
     → IsInState Shows opened rows history pending log stopped → TidySince opened log

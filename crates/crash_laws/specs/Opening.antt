@@ -20,7 +20,7 @@ abbrev pub StaysAsFound : Log → Log → Type 0
 StaysAsFound old new = (found : Disk) → Recovered (now old) found →
     (m : ℕ) → suc (moment old) ≤ m → m ≤ moment new → (image : Disk) → IsImage (log_at new m) image → RecoveredLike found image
 
--- the journal is quiet, what the found disk recovers to is on the disk, and at each moment since the first sync what isn't on the disk is loose
+-- the journal is quiet, what the found disk recovers to is on the disk, and at each moment since the first sync what is unsynced is loose
 pub record HasFound (old new : Log) : Type 0 where
   pub at_rest : IsQuiet new
   pub since : suc (moment old) ≤ moment new

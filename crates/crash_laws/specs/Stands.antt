@@ -14,7 +14,7 @@ WasSafe Shows opened rows history log end =
     (m : ℕ) → opened ≤ m → m < end → (image : Disk) → IsImage (log_at log m) image → IsCrash Shows rows history m image
 
 -- The journal is at rest, the first `base` entries are on the disk, what is pending makes the rest of them, and nothing that is stable
--- is pending. Of the present moment nothing is said beside: its one image is what reads give. At each moment what isn't on the disk is loose.
+-- is pending. Of the present moment nothing is said beside: its one image is what reads give. At each moment what is unsynced is loose.
 pub record IsRunning (Shows : DiskShows) (opened : ℕ) (rows : Rows) (history : List Entry) (pending : List PlainDeed) (log : Log) : Type 0 where
   pub since : opened ≤ moment log
   pub past : WasSafe Shows opened rows history log (moment log)

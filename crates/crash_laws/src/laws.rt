@@ -70,7 +70,7 @@ pub fn begins<S: ShowsRows>(shape: &S)
     ensures failed { IsBlind (S.shows shape.now) → OpeningFails (S.shows shape.now) }
 {}
 
-/// A stop at any moment recovers to a prefix of the history that holds all that was synced; and what isn't on the disk is loose. It does
+/// A stop at any moment recovers to a prefix of the history that holds all that was synced; and what is unsynced is loose. It does
 /// nothing.
 pub fn stops_recover<S: ShowsRows>(shape: &S)
     ensures prefix { StateRecovers (S.shows shape.now) }

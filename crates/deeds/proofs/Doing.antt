@@ -5,13 +5,15 @@ use Rattle.std.specs.Option.{option_map}
 use Rattle.outside.specs.Disk.{Disk, Path, Node, file, node_at, kind_at, kind_of, IsTree}
 use Rattle.outside.specs.declared.folder.Kind.{Kind}
 use Rattle.outside.specs.Changes.{Change, Write, SetLen, IsPartOf, done, set_at, in_file, overwritten}
-use Rattle.outside.specs.Calls.{Told}
+use Rattle.outside.specs.Calls.{Told, Changes}
 use Rattle.outside.specs.Images.{Did, Broke, Synced, Log, now, disk_in, IsImage, adds, HasDone, HasBroken, IsSteady}
 use Rattle.outside.proofs.Paths.{by_path, set_here, set_there, same_disk}
 use Rattle.outside.proofs.Moments.{started, goes_to, ends, joined}
 use Rattle.outside.proofs.Steady.{whole_part}
+use Rattle.outside.proofs.Told.{through}
 use Rattle.deeds.specs.Reshape.{Ranges, written, CanWrite, EndWithin, IsRangeOf}
 use Rattle.deeds.specs.Deeds.{PlainDeed, MakesDir, Puts, Renames, Removes, RemovesDir, Reshapes, IsDoneAlready, Does, DoesAll, reshaped, IsPartOfDeed, IsOneOf, IsAmid, StaysAmid, IsLeft}
+use Rattle.outside.specs.Unsynced.{IsSynced, unsynced}
 use Rattle.deeds.proofs.Amid.{amid_part, tree_run}
 
 -- one call of a deed, whatever it is
@@ -35,6 +37,15 @@ broke_amid x change old mid new its stays (inr broke) = λ deeds base apart with
           let i = subst (λ (l : Log). IsImage l c) broke.2 image in
           amid_part deeds x base i.0 c apart one (its i.0 c i.2) (ends old mid (IsAmid deeds base) so_far.1 i.0 i.1)),
     )
+
+-- the same of logs that may be told
+pub did_more : (x : PlainDeed) (change : Change) → ((s t : Disk) → IsPartOf change s t → IsPartOfDeed x s t) → (a b c : Option Log)
+    → Changes a b (StaysAmid (x ∷ [])) → Changes b c (HasDone change) → Changes a c (StaysAmid (x ∷ []))
+did_more x change its a b c stays did = through a b c (StaysAmid (x ∷ [])) (HasDone change) (StaysAmid (x ∷ [])) (λ old mid new first second. did_amid x change old mid new its first second) stays did
+
+pub broke_more : (x : PlainDeed) (change : Change) → ((s t : Disk) → IsPartOf change s t → IsPartOfDeed x s t) → (a b c : Option Log)
+    → Changes a b (StaysAmid (x ∷ [])) → Changes b c (HasBroken change) → Changes a c (StaysAmid (x ∷ []))
+broke_more x change its a b c stays broke = through a b c (StaysAmid (x ∷ [])) (HasBroken change) (StaysAmid (x ∷ [])) (λ old mid new first second. broke_amid x change old mid new its first second) stays broke
 
 pub still_amid : (x : PlainDeed) (log : Log) → StaysAmid (x ∷ []) log log
 still_amid x log = λ deeds base apart within at images. (at, started log (IsAmid deeds base) images)
@@ -159,11 +170,12 @@ stays_then xs ys a b c first second = λ deeds base apart within at images.
     let two = second deeds base apart (λ x one. within x (one_right x xs ys one)) one.0 (λ image is. ends a b (IsAmid deeds base) one.1 image is) in
     (two.0, joined a b c (IsAmid deeds base) one.1 two.1)
 
-pub phase_done : (xs : List PlainDeed) (old mid new : Log) → IsSteady old → DoesAll xs (now old) (now mid) → new ≡ adds mid Synced → IsSteady new × DoesAll xs (now old) (now new)
+pub phase_done : (xs : List PlainDeed) (old mid new : Log) → IsSteady old → DoesAll xs (now old) (now mid) → new ≡ adds mid Synced → IsSynced new × DoesAll xs (now old) (now new)
 phase_done xs old mid new steady does is = (
   record {
     durable = λ c image. subst (λ (l : Log). IsImage l c) is image ∙ sym (ap now is);
     tree = subst IsTree (sym (ap now is)) (tree_run xs (now old) (now mid) steady.tree does);
+    none = ap (λ (l : Log). unsynced l.calls) is;
   },
   subst (λ (d : Disk). DoesAll xs (now old) d) (sym (ap now is)) does,
 )

@@ -1,16 +1,17 @@
--- A folder's log that goes on: by no call, by one that was done, that broke or that synced, and by several; and what reads give on the way.
-use Rattle.std.proofs.Common.{◌≡◌, ℕ, zero, suc, ◌-◌, ◌≤◌, List, [], ◌∷◌, ◌++◌, length, drop, Option, refl, sym, ap, subst, ◌∙◌, inl, inr, arith, append_assoc, length-append}
+-- A folder's log that goes on: by no call, by one that was done, that broke or that synced, and by several; and at which paths.
+use Rattle.std.proofs.Common.{◌≡◌, ◌⊎◌, ⊎_elim, List, [], ◌∷◌, ◌++◌, Contains, Option, refl, sym, ap, subst, ◌∙◌, inl, inr, arith, append_assoc}
+use Rattle.std.proofs.lemmas.List.{append-nil}
+use Rattle.std.proofs.lemmas.List.Elements.{Contains-append_cases, Contains-append_left, Contains-append_right}
 use Rattle.outside.specs.Calls.{Changes}
 use Rattle.outside.specs.Changes.{Change, CanDo}
-use Rattle.outside.specs.Disk.{Disk, IsTree}
-use Rattle.outside.specs.Images.{Call, Did, Broke, Synced, Log, adds, now, moment, log_at, disk_after, MayLeave, IsImage, IsSteady, HasDone, HasBroken, BreaksInto}
-use Rattle.outside.proofs.Steady.{whole_part}
+use Rattle.outside.specs.Disk.{Disk, Path}
+use Rattle.outside.specs.Images.{Call, Did, Broke, Synced, Log, adds, disk_after, IsSteady, HasDone, HasBroken, BreaksInto}
 use Rattle.outside.proofs.Told.{unchanged, changed_by, through}
-use Rattle.outside.proofs.Trees.{tree_done}
-use Rattle.deeds.specs.Deeds.{AreSound, LogGoesOn}
+use Rattle.deeds.specs.Deeds.{AreSound, LogGoesOn, GoesOnAt}
+use Rattle.outside.specs.Unsynced.{IsSynced, changes_in, paths_of, touched, unsynced}
 
 -- the log that goes on, by the calls since
-since_is : (old new : Log) (goes : LogGoesOn old new) → new ≡ record { start = old.start; calls = goes.later.0 ++ old.calls }
+pub since_is : (old new : Log) (goes : LogGoesOn old new) → new ≡ record { start = old.start; calls = goes.later.0 ++ old.calls }
 since_is old new goes = λ i. record { start = goes.start i; calls = goes.later.1 i }
 
 -- ---- what goes on
@@ -49,52 +50,91 @@ broke_goes_on change old new (inr broke) = goes_by_one (Broke change broke.0) ol
 pub synced_goes_on : (old new : Log) → new ≡ adds old Synced → LogGoesOn old new
 synced_goes_on old new is = goes_by_one Synced old new tt is
 
+-- ---- at these paths alone
+
+-- nothing was changed
+none_touched : (paths : List Path) (path : Path) → Contains (touched (changes_in [])) path → Contains paths path
+none_touched paths path there = absurd (omega (arith, there.1))
+
+pub at_nowhere : (paths : List Path) (log : Log) → GoesOnAt paths log log
+unfolding goes_nowhere
+at_nowhere paths log = record { goes = goes_nowhere log; only = none_touched paths }
+
+-- among more paths
+pub at_more : (some paths : List Path) (old new : Log) → ((path : Path) → Contains some path → Contains paths path) → GoesOnAt some old new → GoesOnAt paths old new
+at_more some paths old new more at = record { goes = at.goes; only = λ path there. more path (at.only path there) }
+
+-- a change more names its own paths more
+either_touched : (change : Change) (second first : List Call) (path : Path)
+    → (Contains (touched (changes_in (second ++ first))) path → Contains (touched (changes_in second)) path ⊎ Contains (touched (changes_in first)) path)
+    → Contains (paths_of change ++ touched (changes_in (second ++ first))) path → Contains (paths_of change ++ touched (changes_in second)) path ⊎ Contains (touched (changes_in first)) path
+either_touched change second first path rest there = ⊎_elim
+    (λ own. inl (Contains-append_left (paths_of change) (touched (changes_in second)) path own))
+    (λ others. ⊎_elim (λ later. inl (Contains-append_right (paths_of change) (touched (changes_in second)) path later)) (λ earlier. inr earlier) (rest others))
+    (Contains-append_cases (paths_of change) (touched (changes_in (second ++ first))) path there)
+
+-- a change names its own paths alone
+one_touched : (change : Change) (path : Path) → Contains (paths_of change ++ []) path → Contains (paths_of change) path
+one_touched change path there = subst (λ (paths : List Path). Contains paths path) (append-nil (paths_of change)) there
+
+-- what later calls and earlier ones name
+touched_cases : (second first : List Call) (path : Path) → Contains (touched (changes_in (second ++ first))) path → Contains (touched (changes_in second)) path ⊎ Contains (touched (changes_in first)) path
+touched_cases [] first path there = inr there
+touched_cases (Did change ∷ second) first path there = either_touched change second first path (touched_cases second first path) there
+touched_cases (Broke change left ∷ second) first path there = either_touched change second first path (touched_cases second first path) there
+touched_cases (Synced ∷ second) first path there = touched_cases second first path there
+
+pub at_then : (paths : List Path) (a b c : Log) → GoesOnAt paths a b → GoesOnAt paths b c → GoesOnAt paths a c
+unfolding goes_on_on
+at_then paths a b c first second = record {
+  goes = goes_on_on a b c first.goes second.goes;
+  only = λ path there. ⊎_elim (second.only path) (first.only path) (touched_cases second.goes.later.0 first.goes.later.0 path there);
+}
+
+at_by_one : (paths : List Path) (call : Call) (old new : Log) → AreSound old.start old.calls (call ∷ []) → ((path : Path) → Contains (touched (changes_in (call ∷ []))) path → Contains paths path) → new ≡ adds old call → GoesOnAt paths old new
+at_by_one paths call old new sound only is = subst (GoesOnAt paths old) (sym is) (record { goes = record { start = refl; later = (call ∷ [], refl); sound = sound }; only = only })
+
+pub at_did : (change : Change) (old new : Log) → HasDone change old new → GoesOnAt (paths_of change) old new
+at_did change old new did = at_by_one (paths_of change) (Did change) old new (tt, did.0) (one_touched change) did.1
+
+pub at_broke : (change : Change) (old new : Log) → HasBroken change old new → GoesOnAt (paths_of change) old new
+at_broke change old new (inl same) = subst (GoesOnAt (paths_of change) old) (sym same) (at_nowhere (paths_of change) old)
+at_broke change old new (inr broke) = at_by_one (paths_of change) (Broke change broke.0) old new (tt, broke.1) (one_touched change) broke.2
+
+pub at_synced : (paths : List Path) (old new : Log) → new ≡ adds old Synced → GoesOnAt paths old new
+at_synced paths old new is = at_by_one paths Synced old new tt (none_touched paths) is
+
 -- ---- the same if it is told
 
-pub still_grown : (a b : Option Log) → b ≡ a → Changes a b LogGoesOn
-still_grown a b same = unchanged a b LogGoesOn same goes_nowhere
+pub still_grown : (paths : List Path) (a b : Option Log) → b ≡ a → Changes a b (GoesOnAt paths)
+still_grown paths a b same = unchanged a b (GoesOnAt paths) same (at_nowhere paths)
 
-pub did_grown : (change : Change) (a b : Option Log) → Changes a b (HasDone change) → Changes a b LogGoesOn
-did_grown change a b did = changed_by a b (HasDone change) LogGoesOn (did_goes_on change) did
+pub did_grown : (change : Change) (a b : Option Log) → Changes a b (HasDone change) → Changes a b (GoesOnAt (paths_of change))
+did_grown change a b did = changed_by a b (HasDone change) (GoesOnAt (paths_of change)) (at_did change) did
 
-pub broke_grown : (change : Change) (a b : Option Log) → Changes a b (HasBroken change) → Changes a b LogGoesOn
-broke_grown change a b broke = changed_by a b (HasBroken change) LogGoesOn (broke_goes_on change) broke
+pub broke_grown : (change : Change) (a b : Option Log) → Changes a b (HasBroken change) → Changes a b (GoesOnAt (paths_of change))
+broke_grown change a b broke = changed_by a b (HasBroken change) (GoesOnAt (paths_of change)) (at_broke change) broke
 
-pub synced_grown : (a b : Option Log) → Changes a b (λ old new. new ≡ adds old Synced) → Changes a b LogGoesOn
-synced_grown a b synced = changed_by a b (λ old new. new ≡ adds old Synced) LogGoesOn synced_goes_on synced
+pub synced_grown : (paths : List Path) (a b : Option Log) → Changes a b (λ old new. new ≡ adds old Synced) → Changes a b (GoesOnAt paths)
+synced_grown paths a b synced = changed_by a b (λ old new. new ≡ adds old Synced) (GoesOnAt paths) (at_synced paths) synced
+
+pub grown_at : (paths : List Path) (a b c : Option Log) → Changes a b (GoesOnAt paths) → Changes b c (GoesOnAt paths) → Changes a c (GoesOnAt paths)
+grown_at paths a b c first second = through a b c (GoesOnAt paths) (GoesOnAt paths) (GoesOnAt paths) (at_then paths) first second
+
+pub grown_more : (some paths : List Path) (a b : Option Log) → ((path : Path) → Contains some path → Contains paths path) → Changes a b (GoesOnAt some) → Changes a b (GoesOnAt paths)
+grown_more some paths a b more grown = changed_by a b (GoesOnAt some) (GoesOnAt paths) (λ old new at. at_more some paths old new more at) grown
 
 pub grown_on : (a b c : Option Log) → Changes a b LogGoesOn → Changes b c LogGoesOn → Changes a c LogGoesOn
 grown_on a b c first second = through a b c LogGoesOn LogGoesOn LogGoesOn goes_on_on first second
 
--- ---- what reads give is an image, at each moment since all was on the disk, if there is any
+-- at whatever paths
+pub goes_told : (paths : List Path) (a b : Option Log) → Changes a b (GoesOnAt paths) → Changes a b LogGoesOn
+goes_told paths a b grown = changed_by a b (GoesOnAt paths) LogGoesOn (λ old new at. at.goes) grown
 
-sound_before : (start : Disk) (older since : List Call) (call : Call) → AreSound start older (call ∷ since) → AreSound start older since
-sound_before start older since (Did change) sound = sound.0
-sound_before start older since (Broke change left) sound = sound.0
-sound_before start older since Synced sound = sound
+-- ---- logs that are synced
 
-module _ (start : Disk) (older : List Call) (durable : (image : Disk) → MayLeave start older image → image ≡ disk_after start older) (tree : IsTree (disk_after start older)) where
-  tree_since : (since : List Call) → AreSound start older since → IsTree (disk_after start (since ++ older))
-  tree_since [] sound = tree
-  tree_since (Did change ∷ since) sound = tree_done change (disk_after start (since ++ older)) (tree_since since sound.0) sound.1
-  tree_since (Broke change left ∷ since) sound = sound.1.tree
-  tree_since (Synced ∷ since) sound = tree_since since sound
+pub steady_of : (log : Log) → IsSynced log → IsSteady log
+steady_of log synced = record { durable = synced.durable; tree = synced.tree }
 
-  shown_since : (since : List Call) → AreSound start older since → (image : Disk) → MayLeave start (since ++ older) image → MayLeave start (since ++ older) (disk_after start (since ++ older))
-  shown_since [] sound image is = subst (MayLeave start older) (durable image is) is
-  shown_since (Did change ∷ since) sound image is =
-      let before = disk_after start (since ++ older) in
-      let host = tree_since since sound.0 in
-      (before, shown_since since sound.0 is.0 is.1, whole_part change before sound.1, tree_done change before host sound.1)
-  shown_since (Broke change left ∷ since) sound image is = (disk_after start (since ++ older), shown_since since sound.0 is.0 is.1, sound.1.part, sound.1.tree)
-  shown_since (Synced ∷ since) sound image is = refl
-
-  shown_earlier : (since : List Call) (k : ℕ) → k ≤ length since → AreSound start older since → (image : Disk) → MayLeave start (drop k (since ++ older)) image
-      → MayLeave start (drop k (since ++ older)) (disk_after start (drop k (since ++ older)))
-  shown_earlier since zero le sound image is = shown_since since sound image is
-  shown_earlier [] (suc k) le sound image is = absurd (omega (arith, le))
-  shown_earlier (call ∷ since) (suc k) le sound image is = shown_earlier since k (omega (arith, le)) (sound_before start older since call sound) image is
-
-pub shown_at : (old new : Log) → IsSteady old → LogGoesOn old new → (m : ℕ) → moment old ≤ m → (image : Disk) → IsImage (log_at new m) image → IsImage (log_at new m) (now (log_at new m))
-shown_at old new steady goes m from = subst (λ (l : Log). (image : Disk) → IsImage (log_at l m) image → IsImage (log_at l m) (now (log_at l m))) (sym (since_is old new goes))
-    (λ image is. shown_earlier old.start old.calls steady.durable steady.tree goes.later.0 (length (goes.later.0 ++ old.calls) - m) (omega (arith, from, length-append goes.later.0 old.calls)) goes.sound image is)
+pub synced_of : (mid new : Log) → IsSteady new → new ≡ adds mid Synced → IsSynced new
+synced_of mid new steady is = record { durable = steady.durable; tree = steady.tree; none = ap (λ (l : Log). unsynced l.calls) is }

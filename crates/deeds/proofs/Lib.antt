@@ -15,6 +15,9 @@ pub mod Rising
 pub mod Windows
 pub mod Lengths
 pub mod Growing
+pub mod Named
 pub mod CutShort
 pub mod Applying
 pub mod Written
+pub mod Reshaping
+pub mod InPhase

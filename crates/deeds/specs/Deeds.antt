@@ -1,5 +1,5 @@
 -- Deeds: what they do, which lists of them can be done again, and what a stop may leave of them.
-use Rattle.std.specs.Prelude.{◌≡◌, ◌⊎◌, ◌≢◌, ⊤, ℕ, suc, ◌≤◌, List, [], ◌∷◌, ◌++◌, length, take, drop, Bool, true, false, IsTrue, filter, Option, Some, None}
+use Rattle.std.specs.Prelude.{◌≡◌, ◌⊎◌, ◌≢◌, ⊤, ℕ, suc, ◌≤◌, List, [], ◌∷◌, ◌++◌, length, take, drop, Bool, true, false, IsTrue, filter, flat_map, Contains, Option, Some, None}
 use Rattle.outside.specs.Disk.{Disk, Path, Node, folder, file, node_at, IsFile}
 use Rattle.outside.specs.Calls.{Rose}
 use Rattle.outside.specs.Images.{Call, Did, Broke, Synced, Log, now, disk_after, IsImage, BreaksInto, LeavesOnly}
@@ -8,6 +8,7 @@ use Rattle.deeds.specs.declared.phase.Phase.TheVariants as phases
 use Rattle.deeds.specs.declared.phase.DeedErr.{DeedErr}
 use Rattle.deeds.specs.declared.phase.DeedErr.TheVariants.{Failed, Unfit}
 use Rattle.outside.specs.Changes.{MakeDir, Put, Write, SetLen, Move, RemoveFile, RemoveDir, CanDo, done, IsPartOf, IsFree, set_at, in_file}
+use Rattle.outside.specs.Unsynced.{changes_in, touched}
 use Rattle.deeds.specs.Reshape.{Ranges, written, CanWrite, EndWithin, IsRangeOf, IsReshaping}
 
 pub data PlainDeed : Type 0 where
@@ -73,6 +74,10 @@ names (Renames from to) = from ∷ to ∷ []
 names (Removes path) = path ∷ []
 names (RemovesDir path) = path ∷ []
 names (Reshapes path len ranges) = path ∷ []
+
+-- those of all deeds
+abbrev pub named : List PlainDeed → List Path
+named deeds = flat_map names deeds
 
 abbrev pub NotIn : Path → List Path → Type 0
 NotIn q [] = ⊤
@@ -157,6 +162,11 @@ pub record LogGoesOn (old new : Log) : Type 0 where
   pub start : new.start ≡ old.start
   pub later : (since : List Call) × (new.calls ≡ since ++ old.calls)
   pub sound : AreSound old.start old.calls later.0
+
+-- they go on so, and the changes since name these paths alone
+pub record GoesOnAt (paths : List Path) (old new : Log) : Type 0 where
+  pub goes : LogGoesOn old new
+  pub only : (path : Path) → Contains (touched (changes_in goes.later.0)) path → Contains paths path
 
 -- the calls that are left of a reshaping can be made, and leave this
 abbrev pub IsLeft : Path → ℕ → Ranges → Disk → Disk → Type 0

@@ -1,7 +1,8 @@
 ghost use Rattle.std.specs.Prelude.{◌≡◌, ◌≤◌, ◌-◌, ◌++◌, ◌+◌, length, take, drop, min, IfOk, IfErr, OnOk, IsErrOf};
 ghost use Rattle.outside.specs.Calls.{Told, Changes, HasCause};
 ghost use Rattle.outside.specs.Images.{now, IsSteady};
-ghost use Rattle.deeds.specs.Deeds.{DoesAll, StaysAmid, LogGoesOn, in_order, IsRefusal, IsRefusedAt, IfUnfit};
+ghost use Rattle.deeds.specs.Deeds.{DoesAll, StaysAmid, GoesOnAt, named, in_order, IsRefusal, IsRefusedAt, IfUnfit};
+ghost use Rattle.outside.specs.Unsynced.{IsSynced};
 ghost use Rattle.deeds.specs.Applying.{StaysApplied, HasStopped};
 ghost use Rattle.std.specs.List.{AllByRecursion};
 ghost use Rattle.deeds.specs.Plain.{plains};
@@ -88,9 +89,9 @@ pub fn do_batch<F: Folder>(folder: &mut F, deeds: &[Deed]) -> Result<(), DeedErr
     requires batch { IsBatch (plains deeds.now) }
     requires steady { Told (F.log folder.old) IsSteady }
     ensures done { OnOk result (Changes (F.log folder.old) (F.log folder.new)
-        (λ old new. IsSteady new × DoesAll (in_order (plains deeds.now)) (now old) (now new))) }
+        (λ old new. IsSynced new × DoesAll (in_order (plains deeds.now)) (now old) (now new))) }
     ensures amid { Changes (F.log folder.old) (F.log folder.new) (StaysAmid (in_order (plains deeds.now))) }
-    ensures grown { Changes (F.log folder.old) (F.log folder.new) LogGoesOn }
+    ensures grown { Changes (F.log folder.old) (F.log folder.new) (GoesOnAt (named (plains deeds.now))) }
     ensures applied { Changes (F.log folder.old) (F.log folder.new) (StaysApplied (in_order (plains deeds.now))) }
     ensures unfit { IfErr result (λ error. IfUnfit error (λ index.
         IsRefusal (F.log folder.old) (F.faults folder.old) (F.faults folder.new) (IsRefusedAt (plains deeds.now) index))) }

@@ -2,7 +2,8 @@ ghost use Rattle.std.specs.Prelude.{◌≡◌, ◌↔◌, [], ◌∷◌, IfOk, I
 ghost use Rattle.outside.specs.Calls.{HasCause, Told, Changes, IsUnfit};
 ghost use Rattle.outside.specs.Disk.{Disk};
 ghost use Rattle.outside.specs.Images.{now, IsSteady};
-ghost use Rattle.deeds.specs.Deeds.{MakesDir, Puts, Renames, Removes, RemovesDir, IsDoneAlready, Does, DoesAll, StaysAmid, LogGoesOn, is_of, of_phase, IsRefusal, IsRefusedIn, IfUnfit, IsWithin, AreWithin};
+ghost use Rattle.deeds.specs.Deeds.{MakesDir, Puts, Renames, Removes, RemovesDir, IsDoneAlready, Does, DoesAll, StaysAmid, GoesOnAt, names, named, is_of, of_phase, IsRefusal, IsRefusedIn, IfUnfit, IsWithin, AreWithin};
+ghost use Rattle.outside.specs.Unsynced.{IsSynced};
 ghost use Rattle.deeds.specs.Applying.{KeepsStill, StaysApplied, StaysRefused, HasBrokenOff, HasStopped};
 ghost use Rattle.deeds.specs.Plain.{plain, plains};
 
@@ -60,7 +61,7 @@ fn is_moved<F: Reads>(folder: &mut F, from: &VaultPath, to: &VaultPath) -> Resul
 fn do_make_dir<F: Folder>(folder: &mut F, path: &VaultPath) -> Result<(), FolderErr>
     ensures done { OnOk result (Changes (F.log folder.old) (F.log folder.new) (λ old new. Does (MakesDir path.now) (now old) (now new))) }
     ensures amid { Changes (F.log folder.old) (F.log folder.new) (StaysAmid (MakesDir path.now ∷ [])) }
-    ensures grown { Changes (F.log folder.old) (F.log folder.new) LogGoesOn }
+    ensures grown { Changes (F.log folder.old) (F.log folder.new) (GoesOnAt (path.now ∷ [])) }
     ensures still { Changes (F.log folder.old) (F.log folder.new) (KeepsStill (MakesDir path.now)) }
     ensures unfit { IsErrOf result FolderErr.Unfit
         → IsUnfit (F.log folder.old) (F.faults folder.old) (F.faults folder.new) (λ log. (after : Disk) × Does (MakesDir path.now) (now log) after) }
@@ -75,7 +76,7 @@ fn do_make_dir<F: Folder>(folder: &mut F, path: &VaultPath) -> Result<(), Folder
 fn do_put<F: Folder>(folder: &mut F, path: &VaultPath, bytes: &[u8]) -> Result<(), FolderErr>
     ensures done { OnOk result (Changes (F.log folder.old) (F.log folder.new) (λ old new. Does (Puts path.now bytes.now) (now old) (now new))) }
     ensures amid { Changes (F.log folder.old) (F.log folder.new) (StaysAmid (Puts path.now bytes.now ∷ [])) }
-    ensures grown { Changes (F.log folder.old) (F.log folder.new) LogGoesOn }
+    ensures grown { Changes (F.log folder.old) (F.log folder.new) (GoesOnAt (path.now ∷ [])) }
     ensures still { Changes (F.log folder.old) (F.log folder.new) (KeepsStill (Puts path.now bytes.now)) }
     ensures unfit { IsErrOf result FolderErr.Unfit
         → IsUnfit (F.log folder.old) (F.faults folder.old) (F.faults folder.new) (λ log. (after : Disk) × Does (Puts path.now bytes.now) (now log) after) }
@@ -90,7 +91,7 @@ fn do_put<F: Folder>(folder: &mut F, path: &VaultPath, bytes: &[u8]) -> Result<(
 fn do_remove<F: Folder>(folder: &mut F, path: &VaultPath) -> Result<(), FolderErr>
     ensures done { OnOk result (Changes (F.log folder.old) (F.log folder.new) (λ old new. Does (Removes path.now) (now old) (now new))) }
     ensures amid { Changes (F.log folder.old) (F.log folder.new) (StaysAmid (Removes path.now ∷ [])) }
-    ensures grown { Changes (F.log folder.old) (F.log folder.new) LogGoesOn }
+    ensures grown { Changes (F.log folder.old) (F.log folder.new) (GoesOnAt (path.now ∷ [])) }
     ensures still { Changes (F.log folder.old) (F.log folder.new) (KeepsStill (Removes path.now)) }
     ensures unfit { IsErrOf result FolderErr.Unfit
         → IsUnfit (F.log folder.old) (F.faults folder.old) (F.faults folder.new) (λ log. (after : Disk) × Does (Removes path.now) (now log) after) }
@@ -105,7 +106,7 @@ fn do_remove<F: Folder>(folder: &mut F, path: &VaultPath) -> Result<(), FolderEr
 fn do_remove_dir<F: Folder>(folder: &mut F, path: &VaultPath) -> Result<(), FolderErr>
     ensures done { OnOk result (Changes (F.log folder.old) (F.log folder.new) (λ old new. Does (RemovesDir path.now) (now old) (now new))) }
     ensures amid { Changes (F.log folder.old) (F.log folder.new) (StaysAmid (RemovesDir path.now ∷ [])) }
-    ensures grown { Changes (F.log folder.old) (F.log folder.new) LogGoesOn }
+    ensures grown { Changes (F.log folder.old) (F.log folder.new) (GoesOnAt (path.now ∷ [])) }
     ensures still { Changes (F.log folder.old) (F.log folder.new) (KeepsStill (RemovesDir path.now)) }
     ensures unfit { IsErrOf result FolderErr.Unfit
         → IsUnfit (F.log folder.old) (F.faults folder.old) (F.faults folder.new) (λ log. (after : Disk) × Does (RemovesDir path.now) (now log) after) }
@@ -120,7 +121,7 @@ fn do_remove_dir<F: Folder>(folder: &mut F, path: &VaultPath) -> Result<(), Fold
 fn do_rename<F: Folder>(folder: &mut F, from: &VaultPath, to: &VaultPath) -> Result<(), FolderErr>
     ensures done { OnOk result (Changes (F.log folder.old) (F.log folder.new) (λ old new. Does (Renames from.now to.now) (now old) (now new))) }
     ensures amid { Changes (F.log folder.old) (F.log folder.new) (StaysAmid (Renames from.now to.now ∷ [])) }
-    ensures grown { Changes (F.log folder.old) (F.log folder.new) LogGoesOn }
+    ensures grown { Changes (F.log folder.old) (F.log folder.new) (GoesOnAt (from.now ∷ to.now ∷ [])) }
     ensures still { Changes (F.log folder.old) (F.log folder.new) (KeepsStill (Renames from.now to.now)) }
     ensures unfit { IsErrOf result FolderErr.Unfit
         → IsUnfit (F.log folder.old) (F.faults folder.old) (F.faults folder.new) (λ log. (after : Disk) × Does (Renames from.now to.now) (now log) after) }
@@ -139,7 +140,7 @@ pub fn do_deed<F: Folder>(folder: &mut F, deed: &Deed) -> Result<(), FolderErr>
     requires { IsWithin (plain deed.now) }
     ensures done { OnOk result (Changes (F.log folder.old) (F.log folder.new) (λ old new. Does (plain deed.now) (now old) (now new))) }
     ensures amid { Changes (F.log folder.old) (F.log folder.new) (StaysAmid (plain deed.now ∷ [])) }
-    ensures grown { Changes (F.log folder.old) (F.log folder.new) LogGoesOn }
+    ensures grown { Changes (F.log folder.old) (F.log folder.new) (GoesOnAt (names (plain deed.now))) }
     ensures refused { Changes (F.log folder.old) (F.log folder.new) (StaysRefused (plain deed.now)) }
     ensures unfit { IsErrOf result FolderErr.Unfit
         → IsUnfit (F.log folder.old) (F.faults folder.old) (F.faults folder.new) (λ log. (after : Disk) × Does (plain deed.now) (now log) after) }
@@ -162,7 +163,7 @@ fn do_deeds<F: Folder>(folder: &mut F, deeds: &[Deed], phase: Phase) -> Result<(
     requires within { AreWithin (plains deeds.now) }
     ensures done { OnOk result (Changes (F.log folder.old) (F.log folder.new) (λ old new. DoesAll (of_phase phase (plains deeds.now)) (now old) (now new))) }
     ensures amid { Changes (F.log folder.old) (F.log folder.new) (StaysAmid (of_phase phase (plains deeds.now))) }
-    ensures grown { Changes (F.log folder.old) (F.log folder.new) LogGoesOn }
+    ensures grown { Changes (F.log folder.old) (F.log folder.new) (GoesOnAt (named (of_phase phase (plains deeds.now)))) }
     ensures applied { Changes (F.log folder.old) (F.log folder.new) (StaysApplied (of_phase phase (plains deeds.now))) }
     ensures unfit { IfErr result (λ error. IfUnfit error (λ index. IsRefusal (F.log folder.old) (F.faults folder.old) (F.faults folder.new) (IsRefusedIn phase (plains deeds.now) index))) }
     ensures left { IfErr result (λ error. IfUnfit error (λ at. Changes (F.log folder.old) (F.log folder.new) (HasStopped (of_phase phase (plains deeds.now))))) }
@@ -179,7 +180,7 @@ fn do_at<F: Folder>(folder: &mut F, deed: &Deed, index: usize, phase: Phase) -> 
     requires { IsWithin (plain deed.now) }
     ensures done { OnOk result (Changes (F.log folder.old) (F.log folder.new) (λ old new. DoesAll (of_phase phase (plain deed.now ∷ [])) (now old) (now new))) }
     ensures amid { Changes (F.log folder.old) (F.log folder.new) (StaysAmid (of_phase phase (plain deed.now ∷ []))) }
-    ensures grown { Changes (F.log folder.old) (F.log folder.new) LogGoesOn }
+    ensures grown { Changes (F.log folder.old) (F.log folder.new) (GoesOnAt (named (of_phase phase (plain deed.now ∷ [])))) }
     ensures applied { Changes (F.log folder.old) (F.log folder.new) (StaysApplied (of_phase phase (plain deed.now ∷ []))) }
     ensures unfit { IfErr result (λ error. IfUnfit error (λ at. (at ≡ index) × IsTrue (is_of phase (plain deed.now))
         × IsUnfit (F.log folder.old) (F.faults folder.old) (F.faults folder.new) (λ log. (after : Disk) × Does (plain deed.now) (now log) after))) }
@@ -201,9 +202,9 @@ fn do_at<F: Folder>(folder: &mut F, deed: &Deed, index: usize, phase: Phase) -> 
 pub fn do_phase<F: Folder>(folder: &mut F, deeds: &[Deed], phase: Phase) -> Result<(), DeedErr>
     requires within { AreWithin (plains deeds.now) }
     requires steady { Told (F.log folder.old) IsSteady }
-    ensures done { OnOk result (Changes (F.log folder.old) (F.log folder.new) (λ old new. IsSteady new × DoesAll (of_phase phase (plains deeds.now)) (now old) (now new))) }
+    ensures done { OnOk result (Changes (F.log folder.old) (F.log folder.new) (λ old new. IsSynced new × DoesAll (of_phase phase (plains deeds.now)) (now old) (now new))) }
     ensures amid { Changes (F.log folder.old) (F.log folder.new) (StaysAmid (of_phase phase (plains deeds.now))) }
-    ensures grown { Changes (F.log folder.old) (F.log folder.new) LogGoesOn }
+    ensures grown { Changes (F.log folder.old) (F.log folder.new) (GoesOnAt (named (of_phase phase (plains deeds.now)))) }
     ensures applied { Changes (F.log folder.old) (F.log folder.new) (StaysApplied (of_phase phase (plains deeds.now))) }
     ensures unfit { IfErr result (λ error. IfUnfit error (λ index. IsRefusal (F.log folder.old) (F.faults folder.old) (F.faults folder.new) (IsRefusedIn phase (plains deeds.now) index))) }
     ensures left { IfErr result (λ error. IfUnfit error (λ at. Changes (F.log folder.old) (F.log folder.new) (HasStopped (of_phase phase (plains deeds.now))))) }

@@ -3,7 +3,7 @@ ghost use Rattle.outside.specs.Calls.{HasCause, Changes, IsUnfit};
 ghost use Rattle.outside.specs.Disk.{Disk};
 ghost use Rattle.outside.specs.Images.{now};
 ghost use Rattle.deeds.specs.Reshape.{EndWithin};
-ghost use Rattle.deeds.specs.Deeds.{Reshapes, Does, StaysAmid, LogGoesOn};
+ghost use Rattle.deeds.specs.Deeds.{Reshapes, Does, StaysAmid, GoesOnAt};
 ghost use Rattle.deeds.specs.Applying.{StaysRefused, HasBrokenOff};
 ghost use Rattle.deeds.specs.Plain.{plain_ranges};
 
@@ -29,7 +29,7 @@ pub fn do_reshape<F: Folder>(
     requires { EndWithin len (plain_ranges ranges.now) }
     ensures done { OnOk result (Changes (F.log folder.old) (F.log folder.new) (λ old new. Does (Reshapes path.now len (plain_ranges ranges.now)) (now old) (now new))) }
     ensures amid { Changes (F.log folder.old) (F.log folder.new) (StaysAmid (Reshapes path.now len (plain_ranges ranges.now) ∷ [])) }
-    ensures grown { Changes (F.log folder.old) (F.log folder.new) LogGoesOn }
+    ensures grown { Changes (F.log folder.old) (F.log folder.new) (GoesOnAt (path.now ∷ [])) }
     ensures refused { Changes (F.log folder.old) (F.log folder.new) (StaysRefused (Reshapes path.now len (plain_ranges ranges.now))) }
     ensures unfit { IsErrOf result FolderErr.Unfit
         → IsUnfit (F.log folder.old) (F.faults folder.old) (F.faults folder.new) (λ log. (after : Disk) × Does (Reshapes path.now len (plain_ranges ranges.now)) (now log) after) }

@@ -3,3 +3,4 @@ pub mod Calls
 pub mod Changes
 pub mod Images
 pub mod Views
+pub mod Unsynced

@@ -1,10 +1,9 @@
 use Rattle.std.proofs.Common.{List, ◌++◌, take, sym, ap, ◌∙◌, append_assoc, append-nil, arith}
 use Rattle.outside.specs.Disk.{Path}
-use Rattle.deeds.specs.Deeds.{PlainDeed, names}
+use Rattle.deeds.specs.Deeds.{PlainDeed, named, names}
 use Rattle.deeds.specs.Plain.{plain, plains}
 use Rattle.deeds.proofs.Doing.{split_at}
 use Rattle.deeds.proofs.Phases.{plains_next, plains_all}
-use Rattle.chunk_journal.specs.Journal.{named}
 use Rattle.chunk_journal.proofs.LoosePaths.{named_more}
 use Rattle.chunk_journal.proofs.loose.add_named.Goals as goal
 

@@ -1,6 +1,6 @@
 use Rattle.std.proofs.Common.{◌≡◌, ◌++◌, take}
+use Rattle.deeds.specs.Deeds.{named}
 use Rattle.deeds.specs.Plain.{plains}
-use Rattle.chunk_journal.specs.Journal.{named}
 use Rattle.chunk_journal.proofs.loose.add_named.Given as goal
 
 abbrev pub invariant-loop-deed : goal.invariant-loop-deed

@@ -6,9 +6,10 @@ use Rattle.outside.specs.Calls.{Told}
 use Rattle.outside.specs.Disk.{Path}
 use Rattle.outside.specs.Images.{Log, now}
 use Rattle.outside.proofs.Told.{told_then}
+use Rattle.deeds.specs.Deeds.{named}
 use Rattle.deeds.specs.Plain.{plains}
 use Rattle.deeds.specs.declared.deed.Deed.{Deed}
-use Rattle.chunk_journal.specs.Journal.{HoldsBatch, IsClosed, IsLoose, named}
+use Rattle.chunk_journal.specs.Journal.{HoldsBatch, IsClosed, IsLoose}
 use Rattle.chunk_journal.specs.Opening.{HasFolder}
 use Rattle.chunk_journal.proofs.LoosePaths.{closed_loose, held_loose, two_files}
 use Rattle.chunk_journal.proofs.loose.loose_paths.Goals as goal

@@ -4,18 +4,20 @@ use Rattle.outside.specs.Calls.{Changes}
 use Rattle.outside.specs.Images.{Log, now, IsSteady}
 use Rattle.outside.proofs.Told.{both_changed, through, changed_by, told_new, unchanged}
 use Rattle.deeds.specs.declared.phase.Phase.TheVariants as phases
-use Rattle.deeds.specs.Deeds.{PlainDeed, DoesAll, StaysAmid, of_phase}
+use Rattle.deeds.specs.Deeds.{PlainDeed, DoesAll, StaysAmid, GoesOnAt, named, of_phase}
+use Rattle.outside.specs.Unsynced.{IsSynced}
 use Rattle.deeds.specs.Applying.{HasStopped, StaysApplied}
 use Rattle.deeds.specs.Plain.{plains}
 use Rattle.deeds.proofs.Doing.{does_then, stays_then, stays_front}
 use Rattle.deeds.proofs.Applying.{applied_front, applied_stays, stopped_front, stopped_then, unfit_by}
 use Rattle.deeds.proofs.Phases.{cause_then}
 use Rattle.deeds.proofs.Batches.{within_batch, refused_in}
-use Rattle.deeds.proofs.Growing.{grown_on}
+use Rattle.deeds.proofs.Growing.{grown_at, steady_of}
+use Rattle.deeds.proofs.Named.{phase_grown}
 use Rattle.deeds.proofs.batch.do_batch.Goals as goal
 
 abbrev Done : List PlainDeed → Log → Log → Type 0
-Done xs old new = IsSteady new × DoesAll xs (now old) (now new)
+Done xs old new = IsSynced new × DoesAll xs (now old) (now new)
 
 done_then : (xs ys : List PlainDeed) (a b c : Log) → Done xs a b → Done ys b c → Done (xs ++ ys) a c
 done_then xs ys a b c first second = (second.0, does_then xs ys (now a) (now b) (now c) first.1 second.1)
@@ -57,6 +59,14 @@ module _ (ds : List PlainDeed) where
       all_amid first second third =
           through l0 l2 l3 (StaysAmid (made ++ moved)) (StaysAmid removed) (StaysAmid (made ++ moved ++ removed)) (stays_then (made ++ moved) removed) (moved_amid first second) third
 
+-- ---- at the paths that the batch names
+
+two_grown : (ds : List PlainDeed) (l0 l1 l2 : Option Log) → Changes l0 l1 (GoesOnAt (named (made ds))) → Changes l1 l2 (GoesOnAt (named (moved ds))) → Changes l0 l2 (GoesOnAt (named ds))
+two_grown ds l0 l1 l2 first second = grown_at (named ds) l0 l1 l2 (phase_grown phases.Make ds l0 l1 first) (phase_grown phases.Move ds l1 l2 second)
+
+all_grown : (ds : List PlainDeed) (l0 l1 l2 l3 : Option Log) → Changes l0 l1 (GoesOnAt (named (made ds))) → Changes l1 l2 (GoesOnAt (named (moved ds))) → Changes l2 l3 (GoesOnAt (named (removed ds))) → Changes l0 l3 (GoesOnAt (named ds))
+all_grown ds l0 l1 l2 l3 first second third = grown_at (named ds) l0 l2 l3 (two_grown ds l0 l1 l2 first second) (phase_grown phases.Remove ds l2 l3 third)
+
 -- ---- the answers
 
 pub do_phase-requires-clause-within : goal.do_phase-requires-clause-within
@@ -69,10 +79,10 @@ pub do_phase-requires-3-clause-within : goal.do_phase-requires-3-clause-within
 do_phase-requires-3-clause-within g c = within_batch (plains c.args.deeds.now) c.requires.batch.each
 
 pub do_phase-requires-2-clause-steady : goal.do_phase-requires-2-clause-steady
-do_phase-requires-2-clause-steady g c = told_new (g.F.Reads.log c.args.folder.now) (g.F.Reads.log c.do_phase.new.folder) (Done (of_phase phases.Make (plains c.args.deeds.now))) IsSteady (λ old new done. done.0) c.in_ok-do_phase.ensures.done
+do_phase-requires-2-clause-steady g c = told_new (g.F.Reads.log c.args.folder.now) (g.F.Reads.log c.do_phase.new.folder) (Done (of_phase phases.Make (plains c.args.deeds.now))) IsSteady (λ old new done. steady_of new done.0) c.in_ok-do_phase.ensures.done
 
 pub do_phase-requires-3-clause-steady : goal.do_phase-requires-3-clause-steady
-do_phase-requires-3-clause-steady g c = told_new (g.F.Reads.log c.do_phase.new.folder) (g.F.Reads.log c.do_phase-2.new.folder) (Done (of_phase phases.Move (plains c.args.deeds.now))) IsSteady (λ old new done. done.0) c.in_ok-do_phase-2.ensures.done
+do_phase-requires-3-clause-steady g c = told_new (g.F.Reads.log c.do_phase.new.folder) (g.F.Reads.log c.do_phase-2.new.folder) (Done (of_phase phases.Move (plains c.args.deeds.now))) IsSteady (λ old new done. steady_of new done.0) c.in_ok-do_phase-2.ensures.done
 
 pub returns-clause-done : goal.returns-clause-done
 returns-clause-done g c =
@@ -148,23 +158,22 @@ returns-in_err-do_phase-3-clause-cause g c =
 pub returns-clause-cause : goal.returns-clause-cause
 returns-clause-cause g c = record { later = omega (arith, c.in_ok-do_phase.ensures.cause.later, c.in_ok-do_phase-2.ensures.cause.later, c.in_ok-do_phase-3.ensures.cause.later); rose = λ failed. absurd cc }
 
-pub returns-clause-grown : goal.returns-clause-grown
-returns-clause-grown g c =
-    let l0 = g.F.Reads.log c.args.folder.now in
-    let l1 = g.F.Reads.log c.do_phase.new.folder in
-    let l2 = g.F.Reads.log c.do_phase-2.new.folder in
-    grown_on l0 l2 (g.F.Reads.log c.do_phase-3.new.folder) (grown_on l0 l1 l2 c.in_ok-do_phase.ensures.grown c.in_ok-do_phase-2.ensures.grown) c.in_ok-do_phase-3.ensures.grown
+pub returns-in_err-do_phase-clause-grown : goal.returns-in_err-do_phase-clause-grown
+returns-in_err-do_phase-clause-grown g c = phase_grown phases.Make (plains c.args.deeds.now) (g.F.Reads.log c.args.folder.now) (g.F.Reads.log c.do_phase.new.folder) c.in_err-do_phase.ensures.grown
 
 pub returns-in_err-do_phase-2-clause-grown : goal.returns-in_err-do_phase-2-clause-grown
 returns-in_err-do_phase-2-clause-grown g c =
-    grown_on (g.F.Reads.log c.args.folder.now) (g.F.Reads.log c.do_phase.new.folder) (g.F.Reads.log c.do_phase-2.new.folder) c.in_ok-do_phase.ensures.grown c.in_err-do_phase-2.ensures.grown
+    two_grown (plains c.args.deeds.now) (g.F.Reads.log c.args.folder.now) (g.F.Reads.log c.do_phase.new.folder) (g.F.Reads.log c.do_phase-2.new.folder) c.in_ok-do_phase.ensures.grown c.in_err-do_phase-2.ensures.grown
 
 pub returns-in_err-do_phase-3-clause-grown : goal.returns-in_err-do_phase-3-clause-grown
 returns-in_err-do_phase-3-clause-grown g c =
-    let l0 = g.F.Reads.log c.args.folder.now in
-    let l1 = g.F.Reads.log c.do_phase.new.folder in
-    let l2 = g.F.Reads.log c.do_phase-2.new.folder in
-    grown_on l0 l2 (g.F.Reads.log c.do_phase-3.new.folder) (grown_on l0 l1 l2 c.in_ok-do_phase.ensures.grown c.in_ok-do_phase-2.ensures.grown) c.in_err-do_phase-3.ensures.grown
+    all_grown (plains c.args.deeds.now) (g.F.Reads.log c.args.folder.now) (g.F.Reads.log c.do_phase.new.folder) (g.F.Reads.log c.do_phase-2.new.folder) (g.F.Reads.log c.do_phase-3.new.folder)
+    c.in_ok-do_phase.ensures.grown c.in_ok-do_phase-2.ensures.grown c.in_err-do_phase-3.ensures.grown
+
+pub returns-clause-grown : goal.returns-clause-grown
+returns-clause-grown g c =
+    all_grown (plains c.args.deeds.now) (g.F.Reads.log c.args.folder.now) (g.F.Reads.log c.do_phase.new.folder) (g.F.Reads.log c.do_phase-2.new.folder) (g.F.Reads.log c.do_phase-3.new.folder)
+    c.in_ok-do_phase.ensures.grown c.in_ok-do_phase-2.ensures.grown c.in_ok-do_phase-3.ensures.grown
 
 -- ---- if a deed is refused, or the folder fails
 

@@ -38,4 +38,4 @@ pub returns-in-Err-Failed-clause-applied : goal.returns-in-Err-Failed-clause-app
 returns-in-Err-Failed-clause-applied g c = applied_at c.args.phase (plain c.args.deed.now) (sym c.if-not-is_of.ensures) (g.F.Reads.log c.args.folder.now) (g.F.Reads.log c.do_deed.new.folder) c.do_deed.ensures.amid c.do_deed.ensures.refused
 
 pub returns-then-not-is_of-clause-grown : goal.returns-then-not-is_of-clause-grown
-returns-then-not-is_of-clause-grown g c = still_grown (g.F.Reads.log c.args.folder.now) (g.F.Reads.log c.args.folder.now) refl
+returns-then-not-is_of-clause-grown g c = still_grown _ (g.F.Reads.log c.args.folder.now) (g.F.Reads.log c.args.folder.now) refl

@@ -5,12 +5,13 @@ use Rattle.outside.specs.Calls.{Changes}
 use Rattle.outside.specs.Disk.{Disk}
 use Rattle.outside.specs.Images.{Log, Synced, now, adds, IsSteady}
 use Rattle.outside.proofs.Told.{both_changed, changed_by, through, told_through}
-use Rattle.deeds.specs.Deeds.{DoesAll, StaysAmid, of_phase}
+use Rattle.deeds.specs.Deeds.{DoesAll, StaysAmid, named, of_phase}
+use Rattle.outside.specs.Unsynced.{IsSynced}
 use Rattle.deeds.specs.Applying.{StaysApplied}
 use Rattle.deeds.specs.Plain.{plains}
 use Rattle.deeds.proofs.Doing.{phase_done, synced_amid}
 use Rattle.deeds.proofs.Applying.{whole_stays}
-use Rattle.deeds.proofs.Growing.{synced_grown, grown_on}
+use Rattle.deeds.proofs.Growing.{synced_grown, grown_at}
 use Rattle.deeds.proofs.deed.do_phase.Goals as goal
 
 on_ok_mapped : {T D E P Q : Type 0} (mapped : Result T D) (r : Result T E) → is_ok mapped ≡ is_ok r → (P → Q) → OnOk r P → OnOk mapped Q
@@ -27,7 +28,7 @@ returns-clause-done g c =
     let xs = of_phase c.args.phase (plains c.args.deeds.now) in
     on_ok_mapped c.map_err.result c.sync.result c.map_err.ensures.variant
     (told_through (g.F.Reads.log c.args.folder.now) (g.F.Reads.log c.do_deeds.new.folder) (g.F.Reads.log c.sync.new.self) IsSteady
-    (λ old new. DoesAll xs (now old) (now new)) (λ mid new. new ≡ adds mid Synced) (λ old new. IsSteady new × DoesAll xs (now old) (now new))
+    (λ old new. DoesAll xs (now old) (now new)) (λ mid new. new ≡ adds mid Synced) (λ old new. IsSynced new × DoesAll xs (now old) (now new))
     (λ old mid new steady does is. phase_done xs old mid new steady does is) c.requires.steady c.in_ok-do_deeds.ensures.done) c.sync.ensures.synced
 
 pub returns-clause-amid : goal.returns-clause-amid
@@ -40,11 +41,12 @@ returns-clause-amid g c =
 
 pub returns-clause-grown : goal.returns-clause-grown
 returns-clause-grown g c =
+    let ps = named (of_phase c.args.phase (plains c.args.deeds.now)) in
     let a = g.F.Reads.log c.args.folder.now in
     let b = g.F.Reads.log c.do_deeds.new.folder in
     let d = g.F.Reads.log c.sync.new.self in
     on_either c.sync.result c.sync.ensures.synced c.sync.ensures.failed
-    (λ synced. grown_on a b d c.in_ok-do_deeds.ensures.grown (synced_grown b d synced))
+    (λ synced. grown_at ps a b d c.in_ok-do_deeds.ensures.grown (synced_grown ps b d synced))
     (λ same. rw same c.in_ok-do_deeds.ensures.grown)
 
 pub returns-clause-applied : goal.returns-clause-applied

@@ -3,7 +3,7 @@ use Rattle.outside.specs.Changes.{Move}
 use Rattle.outside.specs.Calls.{Changes}
 use Rattle.outside.specs.Images.{Log, now, HasDone, HasBroken}
 use Rattle.outside.proofs.Told.{changed_by, unchanged, told_same, told_then}
-use Rattle.deeds.specs.Deeds.{Renames, Does, StaysAmid, LogGoesOn, IsDoneAlready}
+use Rattle.deeds.specs.Deeds.{Renames, Does, StaysAmid, GoesOnAt, IsDoneAlready}
 use Rattle.deeds.specs.Applying.{KeepsStill}
 use Rattle.deeds.proofs.Doing.{did_amid, broke_amid, still_amid}
 use Rattle.deeds.proofs.Growing.{still_grown, did_grown, broke_grown}
@@ -48,19 +48,19 @@ returns-in_err-rename-clause-amid g c =
     (changed_by (g.F.Reads.log c.is_moved.new.folder) (g.F.Reads.log c.rename.new.self) (HasBroken m) (StaysAmid (x ∷ [])) (λ old new broke. broke_amid x m old old new (λ b d part. part) (still_amid x old) broke) c.in_err-rename.ensures.broken)
 
 pub returns-in_err-is_moved-clause-grown : goal.returns-in_err-is_moved-clause-grown
-returns-in_err-is_moved-clause-grown g c = still_grown (g.F.Reads.log c.args.folder.now) (g.F.Reads.log c.is_moved.new.folder) c.in_err-is_moved.ensures.log
+returns-in_err-is_moved-clause-grown g c = still_grown (c.args.from.now ∷ c.args.to.now ∷ []) (g.F.Reads.log c.args.folder.now) (g.F.Reads.log c.is_moved.new.folder) c.in_err-is_moved.ensures.log
 
 pub returns-then-branch-clause-grown : goal.returns-then-branch-clause-grown
-returns-then-branch-clause-grown g c = still_grown (g.F.Reads.log c.args.folder.now) (g.F.Reads.log c.is_moved.new.folder) c.in_ok-is_moved.ensures.log
+returns-then-branch-clause-grown g c = still_grown (c.args.from.now ∷ c.args.to.now ∷ []) (g.F.Reads.log c.args.folder.now) (g.F.Reads.log c.is_moved.new.folder) c.in_ok-is_moved.ensures.log
 
 pub returns-clause-grown : goal.returns-clause-grown
 returns-clause-grown g c =
-    subst (λ (o : Option Log). Changes o (g.F.Reads.log c.rename.new.self) LogGoesOn) c.in_ok-is_moved.ensures.log
+    subst (λ (o : Option Log). Changes o (g.F.Reads.log c.rename.new.self) (GoesOnAt (c.args.from.now ∷ c.args.to.now ∷ []))) c.in_ok-is_moved.ensures.log
     (did_grown (Move c.args.from.now c.args.to.now) (g.F.Reads.log c.is_moved.new.folder) (g.F.Reads.log c.rename.new.self) c.in_ok-rename.ensures.done)
 
 pub returns-in_err-rename-clause-grown : goal.returns-in_err-rename-clause-grown
 returns-in_err-rename-clause-grown g c =
-    subst (λ (o : Option Log). Changes o (g.F.Reads.log c.rename.new.self) LogGoesOn) c.in_ok-is_moved.ensures.log
+    subst (λ (o : Option Log). Changes o (g.F.Reads.log c.rename.new.self) (GoesOnAt (c.args.from.now ∷ c.args.to.now ∷ []))) c.in_ok-is_moved.ensures.log
     (broke_grown (Move c.args.from.now c.args.to.now) (g.F.Reads.log c.is_moved.new.folder) (g.F.Reads.log c.rename.new.self) c.in_err-rename.ensures.broken)
 
 pub returns-in_err-is_moved-clause-still : goal.returns-in_err-is_moved-clause-still
