@@ -139,6 +139,17 @@ notes call story = record {
   unnoted = false;
 }
 
+-- a host that lives on, as a folder of it is opened anew
+abbrev pub restarted : Story → Story
+restarted story = record {
+  base = story.base;
+  naming = story.naming;
+  files = story.files;
+  doubt = story.doubt;
+  diary = record { start = disk_now story; calls = [] };
+  unnoted = false;
+}
+
 -- ---- what holds of a story
 
 -- no file has two names

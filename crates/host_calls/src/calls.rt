@@ -8,6 +8,7 @@ ghost use Rattle.host_calls.specs.Story.{Story, names_now, disk_now};
 ghost use Rattle.host_calls.specs.Calls.{AtPath, IsFound, HasTaken, MayHaveTaken, HasCreated, MayHaveCreated, IsLongFile, HasWritten, MayHaveWritten, MayHaveCut, written, HasFlushed, HasDoubt, change_of, HasNoted, HasNotedBreak};
 
 use crate::found::{Found, Inode};
+use crate::lock::{Locking, Sharing};
 use outside::FolderErr;
 use std::alloc::Global;
 use vault_path::{Text, VaultPath};
@@ -41,6 +42,9 @@ pub trait HostCalls {
 
     /// The text of the folder's own path.
     ghost top: { Self → List ℕ };
+
+    /// What keeps a folder locked.
+    type Lock;
 
     /// What is at a path. A link at its end is followed only if it is that of the vault's folder itself.
     fn stat(&mut self, text: &str, is_top: bool) -> Result<Found, FolderErr>
@@ -155,6 +159,11 @@ pub trait HostCalls {
         ensures done { OnOk result (Changes (story self.old) (story self.new) (λ s t. AtPath (top self.old) text.now (λ path. HasFlushed path s t))) }
         ensures doubt { OnErr result (Changes (story self.old) (story self.new) HasDoubt) }
         ensures failed { IsOkUnless result FolderErr.Failed }
+        ensures top { top self.new ≡ top self.old };
+
+    /// Takes the lock of a folder. It keeps nobody from changing what is in it, but who takes the lock first; what is in it stays as it is.
+    fn lock(&mut self, text: &str, sharing: Sharing) -> Locking<Self::Lock>
+        ensures story { story self.new ≡ story self.old }
         ensures top { top self.new ≡ top self.old };
 
     /// Has the diary of a told story say that a change was done. It does nothing.

@@ -8,6 +8,8 @@
 
 mod calls;
 mod found;
+mod lock;
 
 pub use calls::{HostCalls, HostChange};
 pub use found::{Found, Inode, is_same};
+pub use lock::{Locking, Sharing};

@@ -3,12 +3,13 @@ ghost use Rattle.outside_real.specs.Behind.{files_of};
 
 use crate::errors::{change_error, failed};
 use crate::found::found_at;
+use crate::lock::lock;
 use crate::opened::{create, fsync, read_at, set_len, write_at};
-use host_calls::{Found, HostCalls, HostChange, Inode};
+use host_calls::{Found, HostCalls, HostChange, Inode, Locking, Sharing};
 use outside::FolderErr;
 use std::alloc::{AllocError, Global};
 use std::fs;
-use std::fs::DirBuilder;
+use std::fs::{DirBuilder, File};
 use std::os::unix::fs::DirBuilderExt;
 use std::rt::Files;
 use vault_path::Text;
@@ -39,10 +40,12 @@ fn push_name(alloc: Global, names: &mut Vec<Text>, name: &str) -> Result<(), All
     Ok(())
 }
 
-impl<R: Files> HostCalls for StdCalls<R> {
+impl<R: Files<File = File>> HostCalls for StdCalls<R> {
     ghost story = { λ _. None };
 
     ghost top = { λ _. [] };
+
+    type Lock = File;
 
     fn stat(&mut self, text: &str, is_top: bool) -> Result<Found, FolderErr> {
         found_at(&self.rt, text, is_top)
@@ -106,6 +109,10 @@ impl<R: Files> HostCalls for StdCalls<R> {
 
     fn fsync(&mut self, text: &str, seen: Found) -> Result<(), FolderErr> {
         fsync(&self.rt, text, seen).map_err(failed)
+    }
+
+    fn lock(&mut self, text: &str, sharing: Sharing) -> Locking<File> {
+        lock(&self.rt, text, sharing)
     }
 
     fn did(&mut self, _change: HostChange) {}

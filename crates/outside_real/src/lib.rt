@@ -29,6 +29,8 @@
 //!   say that it has what it hasn't. Until then it leaves each change of a name whole or not at all, and each write or cut of a file whole, in part or not at
 //!   all, in their order. A kill of the program takes nothing away.
 //! - After a failure of `mkdir`, `set_len`, `rename`, `unlink` or `rmdir`, its change was made whole or not at all.
+//! - `lock`: open(2) and flock(2), which doesn't wait. While the lock is taken nobody else takes it, unless both share it; it is given back once what took it is
+//!   dropped, or the program ends.
 //! - `did`, `broke`, `synced`: they do nothing.
 //! - ENOENT, ENOTDIR, EISDIR and ENOTEMPTY mean that the path isn't what the change needs and that nothing changed. A call that a signal cuts short is made again.
 //! - `OsEntropy`: `/dev/urandom` gives bytes that nobody can foresee. It is opened by the first draw.
@@ -45,6 +47,7 @@ mod clock;
 mod entropy;
 mod errors;
 mod found;
+mod lock;
 mod opened;
 
 pub use calls::StdCalls;

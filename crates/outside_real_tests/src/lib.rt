@@ -4,6 +4,8 @@
 #[cfg(test)]
 mod folders;
 #[cfg(test)]
+mod locks;
+#[cfg(test)]
 mod objects;
 #[cfg(test)]
 mod script;
