@@ -3,9 +3,9 @@ use Rattle.std.proofs.Common.{◌≡◌, ℕ, Option, Some, None, Result, Ok, Er
 use Rattle.std.specs.Option.{option_map}
 use Rattle.outside.specs.declared.folder.FolderErr.{FolderErr}
 use Rattle.outside.specs.declared.folder.FolderErr.TheVariants.{Failed, Unfit, Memory}
-use Rattle.outside.specs.Calls.{Told, Changes, Rose, IsUnfit}
-use Rattle.outside.specs.Changes.{Change, CanDo}
-use Rattle.outside.specs.Images.{Log, HasDone, HasBroken, DoesNotFit, now}
+use Rattle.outside.specs.Calls.{Changes, Rose}
+use Rattle.outside.specs.Changes.{Change}
+use Rattle.outside.specs.Images.{Log, HasDone, HasBroken, DoesNotFit}
 use Rattle.host_calls.specs.Story.{Story}
 use Rattle.host_folder.specs.Answers.{IsAnswer}
 use Rattle.host_folder.specs.Telling.{diary_of}

@@ -3,9 +3,9 @@ use Rattle.std.proofs.Common.{◌≡◌, ◌⊎◌, ◌≤◌, ℕ, Bool, true, 
 use Rattle.outside.specs.declared.folder.FolderErr.{FolderErr}
 use Rattle.outside.specs.declared.folder.FolderErr.TheVariants.{Failed, Unfit, Memory}
 use Rattle.outside.specs.Calls.{Changes}
-use Rattle.outside.specs.Disk.{Disk, Path, Node, folder as folder_node, file, node_at, parent}
+use Rattle.outside.specs.Disk.{Path, Node, folder as folder_node, file, node_at, parent}
 use Rattle.outside.specs.Changes.{Change, MakeDir, Put, Write, SetLen, Move, RemoveFile, RemoveDir, CanDo, done, set_at, in_file, overwritten, IsFree}
-use Rattle.outside.specs.Images.{Log, Did, Broke, HasDone, HasBroken, now}
+use Rattle.outside.specs.Images.{Log, Did, Broke}
 use Rattle.host_calls.specs.declared.found.Inode.{Inode}
 use Rattle.host_calls.specs.Volume.{Folder, File, entry_at}
 use Rattle.host_calls.specs.Names.{MadeFolder, Moved, Dropped, HasFolder, HasFile, CanMake, CanMoveTo, IsEmptyFolder}

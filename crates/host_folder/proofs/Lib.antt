@@ -1,6 +1,7 @@
 pub mod Ascii
 pub mod HostPathLemmas
 pub mod Telling
+pub mod Unsynced
 pub mod Keeping
 pub mod FlushSteps
 pub mod Answering
@@ -10,9 +11,11 @@ pub mod HostSteps
 pub mod OpeningSteps
 pub mod PathLists
 pub mod Changing
+pub mod Gone
 pub mod Bytes
 pub mod Since
 pub mod Misfits
 pub mod Seen
 pub mod Passing
+pub mod PassingReads
 pub mod Unsettling

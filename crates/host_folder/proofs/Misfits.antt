@@ -1,7 +1,7 @@
 -- Which change doesn't fit what was found at a path.
-use Rattle.std.proofs.Common.{◌≡◌, ◌≢◌, ◌⊎◌, ◌<◌, ◌≤◌, ℕ, true, false, List, [], ◌∷◌, length, Option, Some, None, IsNone, refl, sym, ap, subst, ◌∙◌, inl, inr, arith, true≢false}
-use Rattle.outside.specs.Disk.{Disk, Path, Node, folder, file, node_at, parent, IsFolder, IsFile, IsTree}
-use Rattle.outside.specs.Changes.{MakeDir, Put, Write, SetLen, Move, RemoveFile, RemoveDir, CanDo, IsBare, IsFree}
+use Rattle.std.proofs.Common.{◌≡◌, ◌≢◌, ◌⊎◌, ◌<◌, ◌≤◌, ℕ, List, [], length, Option, Some, None, IsNone, refl, ap, subst, inl, inr, arith, true≢false}
+use Rattle.outside.specs.Disk.{Path, Node, folder, file, node_at, IsFolder, IsFile, IsTree}
+use Rattle.outside.specs.Changes.{MakeDir, Put, Write, SetLen, Move, RemoveFile, RemoveDir, CanDo, IsFree}
 use Rattle.host_calls.specs.declared.found.Inode.{Inode}
 use Rattle.host_calls.specs.declared.found.Found.{Found}
 use Rattle.host_calls.specs.declared.found.Found.TheVariants.{Nothing, Dir, File, Other}

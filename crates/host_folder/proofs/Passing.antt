@@ -1,15 +1,16 @@
 -- What a folder passes on of its host's answers, by its own log and counts.
-use Rattle.std.proofs.Common.{◌≡◌, ℕ, Bool, true, false, Option, Some, None, Result, Ok, Err, OnOk, OnErr, IsErrOf, refl, sym, ap, subst, ◌∙◌}
+use Rattle.std.proofs.Common.{◌≡◌, ℕ, Bool, true, Option, Some, None, Result, Ok, Err, OnOk, OnErr, IsErrOf, refl, sym, ap, subst, ◌∙◌}
 use Rattle.std.specs.Option.{option_map}
 use Rattle.outside.specs.declared.folder.FolderErr.{FolderErr}
-use Rattle.outside.specs.declared.folder.FolderErr.TheVariants.{Unfit}
-use Rattle.outside.specs.Calls.{Told, Changes, Rose, IsUnfit}
+use Rattle.outside.specs.declared.folder.FolderErr.TheVariants.{Failed, Unfit, Memory}
+use Rattle.outside.specs.Calls.{Told, Changes, HasCause, Rose, IsUnfit, risen}
 use Rattle.outside.specs.Disk.{Disk, IsTree}
 use Rattle.outside.specs.Changes.{Change}
 use Rattle.outside.specs.Images.{Log, IsSound, Synced, HasDone, HasBroken, DoesNotFit, adds, disk_in}
 use Rattle.outside.proofs.Steady.{sound_tree}
 use Rattle.host_calls.specs.Story.{Story}
 use Rattle.host_folder.specs.Answers.{IsAnswer, IsSameLog, HasSynced}
+use Rattle.host_folder.specs.Holding.{Holding, story_in, log_in}
 use Rattle.host_folder.specs.Telling.{told_if, diary_of}
 use Rattle.host_folder.proofs.Answered.{answered_done, answered_refused, answered_broken, answered_unfit}
 
@@ -17,29 +18,68 @@ use Rattle.host_folder.proofs.Answered.{answered_done, answered_refused, answere
 pub passed : {R X : Type 0} (q r : R) (a b : X) (P : R → X → Type 0) → q ≡ r → a ≡ b → P r a → P q b
 passed q r a b P same is p = subst (P q) is (subst (λ x. P x a) (sym same) p)
 
+-- an answer is passed on and counted
+abbrev pub IsCounted : {T : Type 0} → Result T FolderErr → Result T FolderErr → ℕ → ℕ → Type 0
+IsCounted q r had last = record {
+  same : q ≡ r;
+  cause : HasCause had last (IsErrOf q Failed);
+  unfit : IsErrOf q Unfit → Rose had last;
+}
+
 -- ---- changes
 
-pub passed_done : {T : Type 0} (change : Change) (q r : Result T FolderErr) (before : Option Log) (a b : Option Story) → q ≡ r → option_map diary_of a ≡ before
+passed_done : {T : Type 0} (change : Change) (q r : Result T FolderErr) (before : Option Log) (a b : Option Story) → q ≡ r → option_map diary_of a ≡ before
     → Changes a b (IsAnswer change r) → OnOk q (Changes before (option_map diary_of b) (HasDone change))
 passed_done {T = T} change q r before a b same is answer =
     passed q r (option_map diary_of a) before (λ (x : Result T FolderErr) (l : Option Log). OnOk x (Changes l (option_map diary_of b) (HasDone change))) same is
     (answered_done change r a b answer)
 
-pub passed_broken : {T : Type 0} (change : Change) (q r : Result T FolderErr) (before : Option Log) (a b : Option Story) → q ≡ r → option_map diary_of a ≡ before
+passed_broken : {T : Type 0} (change : Change) (q r : Result T FolderErr) (before : Option Log) (a b : Option Story) → q ≡ r → option_map diary_of a ≡ before
     → Changes a b (IsAnswer change r) → OnErr q (Changes before (option_map diary_of b) (HasBroken change))
 passed_broken {T = T} change q r before a b same is answer =
     passed q r (option_map diary_of a) before (λ (x : Result T FolderErr) (l : Option Log). OnErr x (Changes l (option_map diary_of b) (HasBroken change))) same is
     (answered_broken change r a b answer)
 
-pub passed_refused : {T : Type 0} (change : Change) (q r : Result T FolderErr) (before : Option Log) (a b : Option Story) → q ≡ r → option_map diary_of a ≡ before
+passed_refused : {T : Type 0} (change : Change) (q r : Result T FolderErr) (before : Option Log) (a b : Option Story) → q ≡ r → option_map diary_of a ≡ before
     → Changes a b (IsAnswer change r) → IsErrOf q Unfit → option_map diary_of b ≡ before
 passed_refused change q r before a b same is answer unfit = answered_refused change r a b answer (sym same ∙ unfit) ∙ is
 
-pub passed_unfit : {T : Type 0} (change : Change) (q r : Result T FolderErr) (before : Option Log) (a b : Option Story) (had first last : ℕ) → q ≡ r → option_map diary_of a ≡ before → had ≡ first
+passed_unfit : {T : Type 0} (change : Change) (q r : Result T FolderErr) (before : Option Log) (a b : Option Story) (had first last : ℕ) → q ≡ r → option_map diary_of a ≡ before → had ≡ first
     → Changes a b (IsAnswer change r) → (IsErrOf q Unfit → Rose had last) → IsErrOf q Unfit → DoesNotFit change before first last
 passed_unfit change q r before a b had first last same is count answer rose unfit =
     subst (λ (l : Option Log). DoesNotFit change l first last) is
     (answered_unfit change r a b first last answer (λ e. subst (λ (n : ℕ). Rose n last) count (rose (same ∙ e))) (sym same ∙ unfit))
+
+-- what a folder owes after each of its changes: its log before and after, its faults, and how many changes there were
+abbrev pub HasPassed : {T : Type 0} → Change → Result T FolderErr → Option Log → Option Log → ℕ → ℕ → ℕ → ℕ → Type 0
+HasPassed change q before after first last earlier later = record {
+  done : OnOk q (Changes before after (HasDone change));
+  unfit : IsErrOf q Unfit → DoesNotFit change before first last;
+  refused : IsErrOf q Unfit → after ≡ before;
+  broken : OnErr q (Changes before after (HasBroken change));
+  no_memory : IsErrOf q Memory → ⊥;
+  cause : HasCause first last (IsErrOf q Failed);
+  counted : later ≡ risen earlier;
+}
+
+-- by what it held, which is what clauses see of it, and what its host answered
+pub change_passed : {H T : Type 0} (tell : H → Option Story) (change : Change) (q r : Result T FolderErr) (held old : Holding H) (after : Option Story) (last later : ℕ) → held ≡ old
+    → Changes (story_in tell held) after (IsAnswer change r) → (IsErrOf r Memory → ⊥) → IsCounted q r held.faults last → later ≡ risen held.changes
+    → HasPassed change q (log_in tell old) (option_map diary_of after) old.faults last old.changes later
+change_passed {H = H} tell change q r held old after last later is answer never count more =
+    let story = story_in tell held in
+    let before = log_in tell old in
+    let same = ap (log_in tell) is in
+    let faults = ap (λ (h : Holding H). h.faults) is in
+    record {
+      done = passed_done change q r before story after count.same same answer;
+      unfit = passed_unfit change q r before story after held.faults old.faults last count.same same faults answer count.unfit;
+      refused = passed_refused change q r before story after count.same same answer;
+      broken = passed_broken change q r before story after count.same same answer;
+      no_memory = λ e. never (sym count.same ∙ e);
+      cause = subst (λ (n : ℕ). HasCause n last (IsErrOf q Failed)) faults count.cause;
+      counted = more ∙ ap (λ (h : Holding H). risen h.changes) is;
+    }
 
 -- ---- reads
 
@@ -53,12 +93,9 @@ passed_no q r a b had first last P same is count never rose unfit =
     subst (λ (l : Option Log). IsUnfit (disk_in l) first last P) is
     (unfit_if a first last P (never (sym same ∙ unfit)) (subst (λ (n : ℕ). Rose n last) count (rose unfit)))
 
-tree_of : (a : Option Story) → Told a (λ s. IsSound s.diary.start s.diary.calls) → Told (disk_in (option_map diary_of a)) IsTree
+pub tree_of : (a : Option Story) → Told a (λ s. IsSound s.diary.start s.diary.calls) → Told (disk_in (option_map diary_of a)) IsTree
 tree_of None sound = tt
 tree_of (Some s) sound = sound_tree s.diary.start s.diary.calls sound
-
-pub passed_tree : (a : Option Story) (before : Option Log) → option_map diary_of a ≡ before → Told a (λ s. IsSound s.diary.start s.diary.calls) → Told (disk_in before) IsTree
-passed_tree a before is sound = subst (λ (l : Option Log). Told (disk_in l) IsTree) is (tree_of a sound)
 
 -- ---- a log that is told
 

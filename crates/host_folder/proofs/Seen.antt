@@ -4,7 +4,7 @@ use Rattle.std.specs.Option.{option_map}
 use Rattle.outside.specs.declared.folder.Kind.{Kind}
 use Rattle.outside.specs.declared.folder.Kind.TheVariants as kinds
 use Rattle.outside.specs.Calls.{Told}
-use Rattle.outside.specs.Disk.{Disk, Path, kind_of, kind_at, node_at, folder, file, IsFolder, IsFile}
+use Rattle.outside.specs.Disk.{Disk, Path, kind_of, kind_at, node_at, file, IsFolder, IsFile}
 use Rattle.outside.specs.Images.{disk_in, now}
 use Rattle.outside.proofs.Told.{told_then}
 use Rattle.host_calls.specs.declared.found.Inode.{Inode}

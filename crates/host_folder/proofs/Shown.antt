@@ -1,7 +1,8 @@
 -- What follows of what a folder tells and keeps, by its fields.
-use Rattle.std.proofs.Common.{◌≡◌, ℕ, Bool, true, false, List, Option, Some, None, refl, sym, ap, subst, ◌∙◌}
+use Rattle.std.proofs.Common.{◌≡◌, ℕ, Bool, true, false, List, Option, sym, ap, subst, ◌∙◌}
 use Rattle.outside.specs.Calls.{Told, Changes}
 use Rattle.outside.specs.Disk.{Path}
+use Rattle.outside.proofs.Told.{told_then}
 use Rattle.host_calls.specs.Story.{Story}
 use Rattle.host_folder.specs.Held.{IsHeld}
 use Rattle.host_folder.specs.Telling.{told_if}
@@ -52,5 +53,8 @@ kept_looked tell text old new looked kept =
     (λ s is. kept_of tell text old new s looked is) kept
 
 -- reads of what is kept
-pub shown_of : {H : Type 0} (text : H → List ℕ) (host : Host H) (s : Story) → IsKept text host s → IsShown text host s
+shown_of : {H : Type 0} (text : H → List ℕ) (host : Host H) (s : Story) → IsKept text host s → IsShown text host s
 shown_of text host s kept = record { texts = kept.texts; log = kept.held.log; shows = kept.held.shows }
+
+pub shown_kept : {H : Type 0} (tell : H → Option Story) (text : H → List ℕ) (host : Host H) → Told (story_of tell host) (IsKept text host) → Told (story_of tell host) (IsShown text host)
+shown_kept tell text host kept = told_then (story_of tell host) (IsKept text host) (IsShown text host) kept (λ s is. shown_of text host s is)

@@ -65,6 +65,13 @@ pub kept_found : {H : Type 0} (tell : H → Option Story) (top : H → List ℕ)
     → Told (story_of tell host) (λ s. IsComposed top host path s × E s) → Told (story_of tell host) (λ s. IsKept top host s × F s)
 kept_found tell top host path E F f told = told_then (story_of tell host) (λ s. IsComposed top host path s × E s) (λ s. IsKept top host s × F s) told (λ s p. (p.0.kept, f s p.1))
 
+-- a change that doesn't fit what was found
+pub misfit_found : {H : Type 0} (tell : H → Option Story) (top : H → List ℕ) (old new : Host H) (path : Path) (change : Change) (E : Story → Type 0) → ((s : Story) → E s → ¬ CanDo change (disk_now s))
+    → Changes (story_of tell old) (story_of tell new) IsSameLog → Told (story_of tell new) (λ s. IsComposed top new path s × E s)
+    → Changes (story_of tell old) (story_of tell new) (IsAnswer {T = Unit {0}} change (Err Unfit))
+misfit_found tell top old new path change E misfit same told =
+    misfit_since tell top old new change E (λ s kept there. misfit s there) same (kept_found tell top new path E E (λ s there. there) told)
+
 -- and the text that was composed
 pub composed_found : {H : Type 0} (tell : H → Option Story) (top : H → List ℕ) (host : Host H) (path : Path) (E F : Story → Type 0) → ((s : Story) → E s → F s)
     → Told (story_of tell host) (λ s. IsComposed top host path s × E s) → Told (story_of tell host) (λ s. IsComposed top host path s × F s)

@@ -1,5 +1,5 @@
 -- What follows of stories that are told.
-use Rattle.std.proofs.Common.{◌≡◌, ℕ, List, [], ◌∷◌, Option, Some, None, Contains, refl, sym, ap, subst, ◌∙◌, inl, inr}
+use Rattle.std.proofs.Common.{◌≡◌, Option, Some, None, sym, subst}
 use Rattle.outside.specs.Calls.{Told, Changes}
 use Rattle.outside.proofs.Told.{told_then}
 

@@ -1,5 +1,5 @@
 -- What a folder keeps that is only read until it is settled.
-use Rattle.std.proofs.Common.{◌≡◌, ℕ, Bool, true, false, List, [], Option, Some, None, refl, sym, ap, subst, ◌∙◌, string_bytes}
+use Rattle.std.proofs.Common.{◌≡◌, ℕ, Bool, true, false, List, [], Option, Some, None, sym, ap, subst, ◌∙◌, string_bytes}
 use Rattle.std.specs.Option.{option_map}
 use Rattle.outside.specs.Calls.{Told, Changes}
 use Rattle.outside.specs.Images.{Log, IsSound, now}

@@ -1,10 +1,13 @@
 -- What a folder over a host keeps: how the host's story and the folder's log belong together.
 use Rattle.std.specs.Prelude.{◌≡◌, ◌⊎◌, Bool, false, List, [], ◌∷◌, ◌++◌, Some, Contains}
+use Rattle.std.specs.List.{flat_map}
 use Rattle.outside.specs.Disk.{Path}
-use Rattle.outside.specs.Images.{IsSound, IsImage, now}
+use Rattle.outside.specs.Images.{Log, IsSound, IsImage, now}
+use Rattle.outside.specs.Unsynced.{touched, unsynced}
 use Rattle.host_calls.specs.declared.found.Inode.{Inode}
 use Rattle.host_calls.specs.Volume.{Volume, File, entry_at, disk_of}
 use Rattle.host_calls.specs.Story.{Story, IsLeft, IsSoundStory, IsLooseAt, names_now, disk_now}
+use Rattle.host_folder.specs.First.{with_folder}
 
 -- a file that is left under a name has it now, if it has one that it wasn't moved to
 abbrev pub AreUnmoved : Story → List Path → Type 0
@@ -17,7 +20,12 @@ pub record IsSure (story : Story) (touched : List Path) : Type 0 where
   pub sure : story.doubt ≡ false
   pub loose : IsLooseAt story touched
 
--- Reads give what the log says, a power cut leaves an image of it, and a sync can bring all to the disk unless a flush failed.
+-- where the changes since the last sync were made: at their paths, and in the folders that these are in
+abbrev pub unsynced_paths : Log → List Path
+unsynced_paths log = flat_map with_folder (touched (unsynced log.calls))
+
+-- Reads give what the log says, a power cut leaves an image of it, what isn't on the disk yet is where the log says that a change was made
+-- since its last sync, and a sync can bring all to the disk unless a flush failed.
 pub record IsHeld (story : Story) (touched moved : List Path) (failed : Bool) : Type 0 where
   pub log : IsSound story.diary.start story.diary.calls
   pub noted : story.unnoted ≡ false
@@ -25,11 +33,12 @@ pub record IsHeld (story : Story) (touched moved : List Path) (failed : Bool) : 
   pub shows : disk_now story ≡ now story.diary
   pub images : (volume : Volume) → IsLeft story volume → IsImage story.diary (disk_of volume)
   pub unmoved : AreUnmoved story moved
+  pub loose : IsLooseAt story (unsynced_paths story.diary)
   pub surely : failed ≡ false → IsSure story touched
 
 -- ---- flushes
 
--- what flushes leave: no other volume, and what reads gave
+-- what flushes leave: no other volume, what reads gave, and no more that isn't on the disk
 pub record IsLater (old new : Story) : Type 0 where
   pub sound : IsSoundStory new
   pub left : (volume : Volume) → IsLeft new volume → IsLeft old volume
@@ -37,6 +46,7 @@ pub record IsLater (old new : Story) : Type 0 where
   pub disk : disk_now new ≡ disk_now old
   pub diary : new.diary ≡ old.diary
   pub unnoted : new.unnoted ≡ old.unnoted
+  pub loose : (paths : List Path) → IsLooseAt old paths → IsLooseAt new paths
 
 -- what was first among what isn't on the disk has come there
 pub record HasCome (path : Path) (old new : Story) : Type 0 where

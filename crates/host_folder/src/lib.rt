@@ -16,11 +16,12 @@
 //! leave what no log says, and the folder tells nothing.
 #![tactic(auto)]
 
-ghost use Rattle.std.specs.Prelude.{◌≡◌, false, Bool, List, []};
+ghost use Rattle.std.specs.Prelude.{◌≡◌, false, Bool, List, [], Contains};
 ghost use Rattle.outside.specs.Disk.{Path};
-ghost use Rattle.outside.specs.Images.{Synced, IsImage, now};
+ghost use Rattle.outside.specs.Images.{Call, Synced, IsImage, now};
+ghost use Rattle.outside.specs.Unsynced.{touched, unsynced};
 ghost use Rattle.host_calls.specs.Volume.{Volume, disk_of};
-ghost use Rattle.host_calls.specs.Story.{Story, IsLeft, disk_now, notes};
+ghost use Rattle.host_calls.specs.Story.{Story, IsLeft, disk_now, notes, restarted};
 ghost use Rattle.host_folder.specs.Held.{IsHeld, IsSure, IsLater};
 ghost use Rattle.host_folder.specs.Opened.{IsOpened};
 
@@ -51,4 +52,14 @@ pub fn stops()
 /// Once all is on the disk that an earlier run left off it, a log that begins with what reads give is kept. It does nothing.
 pub fn starts()
     ensures { (paths : List Path) (old new : Story) → IsOpened paths old → IsLater old new → IsSure new [] → IsHeld new [] [] false }
+{}
+
+/// After a kill a folder can be opened anew, and settled at paths among which are those of each change since the last sync, unless a flush
+/// failed. If the kill came amid a change, what that left is what it would leave broken off; and a kill amid the settling leaves what
+/// can be settled at the same paths. It does nothing.
+pub fn restarts()
+    ensures kill { (story : Story) (kept moved paths : List Path) → IsHeld story kept moved false
+        → ((path : Path) → Contains (touched (unsynced story.diary.calls)) path → Contains paths path) → IsOpened paths (restarted story) }
+    ensures amid { (story : Story) (call : Call) → restarted (notes call story) ≡ restarted story }
+    ensures again { (paths : List Path) (old new : Story) → IsOpened paths old → IsLater old new → new.doubt ≡ false → IsOpened paths new }
 {}

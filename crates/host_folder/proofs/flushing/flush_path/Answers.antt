@@ -1,9 +1,7 @@
-use Rattle.std.proofs.Common.{ℕ, List, OnOk, Option, sym, subst, string_bytes}
-use Rattle.outside.specs.Calls.{Changes}
+use Rattle.std.proofs.Common.{ℕ, List, sym, subst, string_bytes}
 use Rattle.outside.proofs.Told.{told_same}
-use Rattle.host_calls.specs.Story.{Story}
 use Rattle.host_calls.specs.Calls.{IsTextOf, AtPath, IsFound}
-use Rattle.host_folder.specs.Held.{IsLater, HasCome}
+use Rattle.host_folder.specs.Held.{HasCome}
 use Rattle.host_folder.specs.Ready.{IfReady}
 use Rattle.host_folder.proofs.FlushSteps.{named_by, come_nothing, answers_later, answers_come}
 use Rattle.host_folder.proofs.flushing.flush_path.Goals as goal
@@ -21,20 +19,10 @@ returns-in-Nothing-clause-come g c =
 
 pub returns-in_default-clause-later : goal.returns-in_default-clause-later
 returns-in_default-clause-later g c =
-    let base = string_bytes c.args.paths.now.base in
-    let top = g.H.HostCalls.top c.args.host.now in
-    let path = c.args.path.now in
-    let named : IsTextOf base c.text-in_default.result.now path = subst (λ (r : List ℕ). IsTextOf base r path) (sym c.text-in_default.ensures) c.compose.ensures.text in
-    subst (λ (o : Option Story). Changes o (g.H.HostCalls.story c.fsync.new.self) (IfReady base top IsLater)) c.stat.ensures.story
-    (answers_later c.fsync.result (g.H.HostCalls.story c.stat.new.self) (g.H.HostCalls.story c.fsync.new.self) base top (g.H.HostCalls.top c.stat.new.self) c.text-in_default.result.now path
-    c.stat.ensures.top named c.fsync.ensures.done c.fsync.ensures.doubt)
+    answers_later c.fsync.result (g.H.HostCalls.story c.args.host.now) (g.H.HostCalls.story c.stat.new.self) (g.H.HostCalls.story c.fsync.new.self) (string_bytes c.args.paths.now.base) (g.H.HostCalls.top c.args.host.now)
+    (g.H.HostCalls.top c.stat.new.self) _ c.text-in_default.result.now c.args.path.now c.stat.ensures.story c.stat.ensures.top c.text-in_default.ensures c.compose.ensures.text c.fsync.ensures.done c.fsync.ensures.doubt
 
 pub returns-in_default-clause-come : goal.returns-in_default-clause-come
 returns-in_default-clause-come g c =
-    let base = string_bytes c.args.paths.now.base in
-    let top = g.H.HostCalls.top c.args.host.now in
-    let path = c.args.path.now in
-    let named : IsTextOf base c.text-in_default.result.now path = subst (λ (r : List ℕ). IsTextOf base r path) (sym c.text-in_default.ensures) c.compose.ensures.text in
-    subst (λ (o : Option Story). OnOk c.fsync.result (Changes o (g.H.HostCalls.story c.fsync.new.self) (IfReady base top (HasCome path)))) c.stat.ensures.story
-    (answers_come c.fsync.result (g.H.HostCalls.story c.stat.new.self) (g.H.HostCalls.story c.fsync.new.self) base top (g.H.HostCalls.top c.stat.new.self) c.text-in_default.result.now path
-    c.stat.ensures.top named c.fsync.ensures.done)
+    answers_come c.fsync.result (g.H.HostCalls.story c.args.host.now) (g.H.HostCalls.story c.stat.new.self) (g.H.HostCalls.story c.fsync.new.self) (string_bytes c.args.paths.now.base) (g.H.HostCalls.top c.args.host.now)
+    (g.H.HostCalls.top c.stat.new.self) _ c.text-in_default.result.now c.args.path.now c.stat.ensures.story c.stat.ensures.top c.text-in_default.ensures c.compose.ensures.text c.fsync.ensures.done

@@ -1,76 +1,53 @@
-use Rattle.std.proofs.Common.{◌≡◌, ◌+◌, ◌∙◌, refl, string_bytes}
+use Rattle.std.proofs.Common.{◌∙◌, string_bytes}
 use Rattle.std.specs.List.{flat_map}
-use Rattle.outside.proofs.Told.{unchanged, through, changed_by, both_changed}
-use Rattle.outside.specs.Disk.{parent}
-use Rattle.host_calls.specs.Story.{Story}
+use Rattle.outside.proofs.Told.{changed_by}
 use Rattle.host_folder.specs.First.{with_folder}
-use Rattle.host_folder.specs.Held.{IsLater, HasCome, HaveComeFirst}
+use Rattle.host_folder.specs.Held.{HasCome, HaveComeFirst}
 use Rattle.host_folder.specs.Ready.{IfReady}
-use Rattle.host_folder.proofs.Keeping.{later_itself}
-use Rattle.host_folder.proofs.OpeningSteps.{ComesTo, pair_ready, come_all, later_through}
+use Rattle.host_folder.proofs.FlushSteps.{IsFlushing, later_through, begins_flushing, flushing_then}
+use Rattle.host_folder.proofs.OpeningSteps.{ComesTo, pair_comes, next_comes, come_all}
 use Rattle.host_folder.proofs.flushing.flush_with_folders.Goals as goal
 
 pub loop-path-init : goal.loop-path-init
 loop-path-init g c =
-    let story = g.H.HostCalls.story c.args.host.now in
-    let base = string_bytes c.args.paths.now.base in
-    let top = g.H.HostCalls.top c.args.host.now in
-    record {
-      base = refl;
-      top = refl;
-      later = unchanged story story (IfReady base top IsLater) refl (λ s ready. later_itself s ready.sound);
-      come = unchanged story story (IfReady base top (ComesTo c.args.touched.now 0)) refl (λ s ready. (later_itself s ready.sound, λ others sure. sure));
-    }
+    begins_flushing (string_bytes c.args.paths.now.base) (g.H.HostCalls.top c.args.host.now) (g.H.HostCalls.story c.args.host.now)
+    (ComesTo c.args.touched.now 0) (λ s ready others sure. sure)
 
 pub loop-path-preserved : goal.loop-path-preserved
 loop-path-preserved g c =
     let story = g.H.HostCalls.story in
-    let touched = c.args.touched.now in
-    let index = c.loop-path.path-index in
-    let start = c.args.host.now in
+    let top = g.H.HostCalls.top in
     let old = c.loop-path.host in
     let mid = c.flush_path.new.host in
     let new = c.flush_path-in-loop-path.new.host in
-    let base = string_bytes c.args.paths.now.base in
-    let top = g.H.HostCalls.top c.args.host.now in
-    let here = string_bytes c.loop-path.paths.base in
-    let there = g.H.HostCalls.top c.loop-path.host in
-    let beyond = string_bytes c.flush_path.new.paths.base in
-    let above = g.H.HostCalls.top c.flush_path.new.host in
-    let same_beyond : beyond ≡ base = c.flush_path.ensures.base ∙ c.loop-path.invariant.base in
-    let same_above : above ≡ top = c.flush_path.ensures.top ∙ c.loop-path.invariant.top in
-    record {
-      base = c.flush_path-in-loop-path.ensures.base ∙ same_beyond;
-      top = c.flush_path-in-loop-path.ensures.top ∙ same_above;
-      later = later_through (story start) (story mid) (story new) base top beyond above same_beyond same_above
-          (later_through (story start) (story old) (story mid) base top here there c.loop-path.invariant.base c.loop-path.invariant.top c.loop-path.invariant.later c.flush_path.ensures.later)
-          c.flush_path-in-loop-path.ensures.later;
-      come = through (story start) (story mid) (story new)
-          (λ s u. (old : Story) × IfReady base top (ComesTo touched index) s old × (IfReady here there IsLater old u × IfReady here there (HasCome c.path-item.result) old u))
-          (λ u v. IfReady beyond above IsLater u v × IfReady beyond above (HasCome c.parent.result) u v)
-          (IfReady base top (ComesTo touched (index + 1)))
-          (λ s u v so_far now.
-          pair_ready base top here there beyond above touched index c.path-item.result c.parent.result s so_far.0 u v c.loop-path-test.true c.path-item.is c.parent.ensures
-          c.loop-path.invariant.base c.loop-path.invariant.top same_beyond same_above so_far.1 so_far.2 now)
-          (through (story start) (story old) (story mid)
-          (IfReady base top (ComesTo touched index))
-          (λ t u. IfReady here there IsLater t u × IfReady here there (HasCome c.path-item.result) t u)
-          (λ s u. (old : Story) × IfReady base top (ComesTo touched index) s old × (IfReady here there IsLater old u × IfReady here there (HasCome c.path-item.result) old u))
-          (λ s t u so_far now. (t, so_far, now))
-          c.loop-path.invariant.come
-          (both_changed (story old) (story mid) (IfReady here there IsLater) (IfReady here there (HasCome c.path-item.result)) c.flush_path.ensures.later c.in_ok-flush_path.ensures.come))
-          (both_changed (story mid) (story new) (IfReady beyond above IsLater) (IfReady beyond above (HasCome c.parent.result)) c.flush_path-in-loop-path.ensures.later c.in_ok-flush_path-2.ensures.come);
-    }
+    let old_base = string_bytes c.loop-path.paths.base in
+    let mid_base = string_bytes c.flush_path.new.paths.base in
+    let new_base = string_bytes c.flush_path-in-loop-path.new.paths.base in
+    let path = c.path-item.result in
+    let first : IsFlushing old_base (top old) mid_base (top mid) (story old) (story mid) (HasCome path) = record {
+      base = c.flush_path.ensures.base;
+      top = c.flush_path.ensures.top;
+      later = c.flush_path.ensures.later;
+      come = c.in_ok-flush_path.ensures.come;
+    } in
+    let second : IsFlushing mid_base (top mid) new_base (top new) (story mid) (story new) (HasCome c.parent.result) = record {
+      base = c.flush_path-in-loop-path.ensures.base;
+      top = c.flush_path-in-loop-path.ensures.top;
+      later = c.flush_path-in-loop-path.ensures.later;
+      come = c.in_ok-flush_path-2.ensures.come;
+    } in
+    let both : IsFlushing old_base (top old) new_base (top new) (story old) (story new) (HaveComeFirst (with_folder path)) =
+    flushing_then first second (λ s t u. pair_comes path c.parent.result s t u c.parent.ensures) in
+    flushing_then c.loop-path.invariant both
+    (λ s t u. next_comes c.args.touched.now c.loop-path.path-index path s t u c.loop-path-test.true c.path-item.is)
 
 pub returns-clause-come : goal.returns-clause-come
 returns-clause-come g c =
-    let story = g.H.HostCalls.story in
-    let touched = c.args.touched.now in
-    let index = c.loop-path.path-index in
     let base = string_bytes c.args.paths.now.base in
     let top = g.H.HostCalls.top c.args.host.now in
-    changed_by (story c.args.host.now) (story c.loop-path.host) (IfReady base top (ComesTo touched index)) (IfReady base top (HaveComeFirst (flat_map with_folder touched)))
-    (λ s t so_far ready. come_all touched index s t c.loop-path-test.false (so_far ready)) c.loop-path.invariant.come
+    changed_by (g.H.HostCalls.story c.args.host.now) (g.H.HostCalls.story c.loop-path.host) (IfReady base top (ComesTo c.args.touched.now c.loop-path.path-index))
+    (IfReady base top (HaveComeFirst (flat_map with_folder c.args.touched.now)))
+    (λ s t so_far ready. come_all c.args.touched.now c.loop-path.path-index s t c.loop-path-test.false (so_far ready)) c.loop-path.invariant.come
 
 pub returns-in_err-flush_path-clause-later : goal.returns-in_err-flush_path-clause-later
 returns-in_err-flush_path-clause-later g c =

@@ -1,30 +1,9 @@
-use Rattle.std.proofs.Common.{ap}
 use Rattle.outside.specs.Changes.{SetLen}
 use Rattle.host_folder.specs.Behind.{story_of}
-use Rattle.host_folder.specs.Holding.{log_in}
-use Rattle.host_folder.proofs.Passing.{passed_done, passed_broken, passed_refused, passed_unfit}
+use Rattle.host_folder.proofs.Passing.{change_passed}
 use Rattle.host_folder.proofs.folder.HostFolderFolder.set_len.Goals as goal
 
-pub returns-clause-done : goal.returns-clause-done
-returns-clause-done g c =
-    passed_done (SetLen c.args.path.now c.args.len) c.counted_in_folder.result c.set_len-answer.result (log_in g.H.HostCalls.story c.args.self.now)
-    (story_of g.H.HostCalls.story c.self.inside.host) (story_of g.H.HostCalls.story c.set_len-answer.new.self)
-    c.counted_in_folder.ensures.same (ap (log_in g.H.HostCalls.story) c.self.view_is) c.set_len-answer.ensures.answer
-
-pub returns-clause-unfit : goal.returns-clause-unfit
-returns-clause-unfit g c =
-    passed_unfit (SetLen c.args.path.now c.args.len) c.counted_in_folder.result c.set_len-answer.result (log_in g.H.HostCalls.story c.args.self.now)
-    (story_of g.H.HostCalls.story c.self.inside.host) (story_of g.H.HostCalls.story c.set_len-answer.new.self) c.self.inside.faults c.args.self.now.faults c.counted_in_folder.new.faults
-    c.counted_in_folder.ensures.same (ap (log_in g.H.HostCalls.story) c.self.view_is) (ap (λ h. h.faults) c.self.view_is) c.set_len-answer.ensures.answer c.counted_in_folder.ensures.unfit
-
-pub returns-clause-refused : goal.returns-clause-refused
-returns-clause-refused g c =
-    passed_refused (SetLen c.args.path.now c.args.len) c.counted_in_folder.result c.set_len-answer.result (log_in g.H.HostCalls.story c.args.self.now)
-    (story_of g.H.HostCalls.story c.self.inside.host) (story_of g.H.HostCalls.story c.set_len-answer.new.self)
-    c.counted_in_folder.ensures.same (ap (log_in g.H.HostCalls.story) c.self.view_is) c.set_len-answer.ensures.answer
-
-pub returns-clause-broken : goal.returns-clause-broken
-returns-clause-broken g c =
-    passed_broken (SetLen c.args.path.now c.args.len) c.counted_in_folder.result c.set_len-answer.result (log_in g.H.HostCalls.story c.args.self.now)
-    (story_of g.H.HostCalls.story c.self.inside.host) (story_of g.H.HostCalls.story c.set_len-answer.new.self)
-    c.counted_in_folder.ensures.same (ap (log_in g.H.HostCalls.story) c.self.view_is) c.set_len-answer.ensures.answer
+pub returns : goal.returns
+returns g c =
+    change_passed g.H.HostCalls.story (SetLen c.args.path.now c.args.len) c.counted_in_folder.result c.set_len-answer.result _ c.args.self.now (story_of g.H.HostCalls.story c.set_len-answer.new.self) _ _
+    c.self.view_is c.set_len-answer.ensures.answer c.set_len-answer.ensures.no_memory c.counted_in_folder.ensures c.count_change.ensures

@@ -4,17 +4,15 @@ use Rattle.outside.specs.declared.folder.FolderErr.{FolderErr}
 use Rattle.outside.specs.Calls.{Told}
 use Rattle.outside.specs.Disk.{node_at, file, IsFile}
 use Rattle.outside.specs.Images.{Log, disk_in}
-use Rattle.outside.proofs.Told.{told_then}
-use Rattle.host_folder.specs.Behind.{story_of, log_of, IsKept, IsShown}
+use Rattle.host_folder.specs.Behind.{log_of}
 use Rattle.host_folder.specs.Holding.{log_in}
 use Rattle.host_folder.specs.Telling.{diary_of}
-use Rattle.host_folder.proofs.Shown.{story_looked, kept_looked, shown_of}
+use Rattle.host_folder.proofs.Shown.{story_looked, kept_looked, shown_kept}
 use Rattle.host_folder.proofs.Passing.{passed, passed_no}
 use Rattle.host_folder.proofs.folder.HostFolderReads.read.Goals as goal
 
 pub read-answer-requires : goal.read-answer-requires
-read-answer-requires g c = told_then (story_of g.H.HostCalls.story c.self.inside.host) (IsKept g.H.HostCalls.top c.self.inside.host) (IsShown g.H.HostCalls.top c.self.inside.host) c.self.invariant
-    (λ s is. shown_of g.H.HostCalls.top c.self.inside.host s is)
+read-answer-requires g c = shown_kept g.H.HostCalls.story g.H.HostCalls.top c.self.inside.host c.self.invariant
 
 pub invariant_of-self : goal.invariant_of-self
 invariant_of-self g c = kept_looked g.H.HostCalls.story g.H.HostCalls.top c.self.inside.host c.read-answer.new.self c.read-answer.ensures.looked c.self.invariant

@@ -1,26 +1,34 @@
-use Rattle.std.proofs.Common.{◌≡◌, None, ◌∙◌}
+use Rattle.std.proofs.Common.{◌≡◌, None}
 use Rattle.outside.specs.Changes.{MakeDir}
 use Rattle.host_calls.specs.Volume.{entry_at}
 use Rattle.host_calls.specs.Names.{MadeFolder, CanMake}
 use Rattle.host_calls.specs.Story.{names_now}
 use Rattle.host_calls.specs.Calls.{HasTaken, MayHaveTaken}
 use Rattle.host_folder.proofs.Answering.{dir_made}
-use Rattle.host_folder.proofs.Changing.{changed_at, told_composed, touched_alone}
+use Rattle.host_folder.proofs.Changing.{changed_at, composed_alone, touched_alone}
 use Rattle.host_folder.proofs.host.Host.make_new_dir.Goals as goal
 
 pub returns-in_err-touch_name-clause-kept : goal.returns-in_err-touch_name-clause-kept
 returns-in_err-touch_name-clause-kept g c =
-    told_composed g.H.HostCalls.story g.H.HostCalls.top c.args.self.now c.touch_name.new.self c.args.path.now (λ s. entry_at (names_now s) c.args.path.now ≡ None)
-    (touched_alone c.args.self.now c.touch_name.new.self c.touch_name.ensures.more c.touch_name.ensures.rest) c.requires
+    composed_alone g.H.HostCalls.story g.H.HostCalls.top c.args.self.now c.touch_name.new.self c.args.path.now (λ s. entry_at (names_now s) c.args.path.now ≡ None) c.touch_name.ensures.more c.touch_name.ensures.rest c.requires
 
 pub returns : goal.returns
 returns g c =
     let path = c.args.path.now in
+    let old = c.args.self.now in
     let host = c.touch_name.new.self in
     let answer = c.mkdir-answer in
-    let all = changed_at g.H.HostCalls.story g.H.HostCalls.top c.args.self.now host (g.H.HostCalls.story answer.new.self) c.note.new.host path c.text.result.now (MakeDir path) answer.result
-    (λ s. entry_at (names_now s) path ≡ None) (λ p. HasTaken (MadeFolder p)) (λ p s t. (t ≡ s) × ¬ CanMake (names_now s) p) (λ p. MayHaveTaken (MadeFolder p))
-    (touched_alone c.args.self.now host c.touch_name.ensures.more c.touch_name.ensures.rest) c.text.ensures (c.note.ensures.top ∙ answer.ensures.top) c.requires
-    answer.ensures.done answer.ensures.unfit answer.ensures.broken answer.ensures.no_memory c.note.ensures.noted
-    (λ s t u held there took noted. dir_made path answer.result s t u host.touched.paths.items host.moved.paths.items host.flush_failed held there c.in_ok-touch_name.ensures.above took noted) in
-    record { kept = all.kept; answer = all.answer; no_memory = answer.ensures.no_memory }
+    changed_at g.H.HostCalls.story g.H.HostCalls.top (MakeDir path) answer.result old host c.note.new.host path
+    (λ s. entry_at (names_now s) path ≡ None) (λ p. HasTaken (MadeFolder p)) (λ p s t. (t ≡ s) × ¬ CanMake (names_now s) p)
+    (λ p. MayHaveTaken (MadeFolder p)) (record {
+      next = answer.new.self;
+      text = c.text.result.now;
+      touched = touched_alone old host c.touch_name.ensures.more c.touch_name.ensures.rest;
+      composed = c.text.ensures;
+      told = c.requires;
+      called = answer.ensures;
+      noted = c.note.ensures;
+      done = λ s t u held there took noted.
+          dir_made path answer.result s t u host.touched.paths.items host.moved.paths.items host.flush_failed held there
+          c.in_ok-touch_name.ensures.above took noted;
+    })

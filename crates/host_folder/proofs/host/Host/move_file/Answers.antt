@@ -1,4 +1,4 @@
-use Rattle.std.proofs.Common.{◌≡◌, ℕ, List, string_bytes, sym, subst, ◌∙◌}
+use Rattle.std.proofs.Common.{◌≡◌, ℕ, List, string_bytes, sym, subst}
 use Rattle.outside.specs.Changes.{Move}
 use Rattle.host_calls.specs.Names.{Moved, CanMoveTo}
 use Rattle.host_calls.specs.Story.{names_now}
@@ -24,14 +24,24 @@ returns g c =
     let text = c.text-2.result.now in
     let kept = c.in_ok-touch_move.ensures in
     let is : IsTouched old host = record { touched = c.touch_move.ensures.more; moved = c.touch_move.ensures.more_moved; rest = c.touch_move.ensures.rest } in
-    let all = changed_at g.H.HostCalls.story top old host (g.H.HostCalls.story answer.new.self) c.note.new.host from c.text.result.now (Move from to) answer.result
+    changed_at g.H.HostCalls.story top (Move from to) answer.result old host c.note.new.host from
     (λ s. IsTextOf (top old.host) (string_bytes old.target.room) to)
     (λ p s t. AtPath (top host.host) text (λ q. HasTaken (Moved p q) s t))
     (λ p s t. AtPath (top host.host) text (λ q. (t ≡ s) × ¬ CanMoveTo (names_now s) p q))
     (λ p s t. AtPath (top host.host) text (λ q. MayHaveTaken (Moved p q) s t))
-    is c.text.ensures (c.note.ensures.top ∙ answer.ensures.top) c.requires
-    answer.ensures.done answer.ensures.unfit answer.ensures.broken answer.ensures.no_memory c.note.ensures.noted
-    (λ s t u held there took noted. file_moved from to answer.result s t u host.touched.paths.items host.moved.paths.items host.flush_failed held kept.left kept.touched kept.above kept.moved
-    (took_at answer.result (top host.host) text to (λ q. HasTaken (Moved from q)) (λ q a b. (b ≡ a) × ¬ CanMoveTo (names_now a) from q) (λ q. MayHaveTaken (Moved from q)) s t
-    (subst (λ (l : List ℕ). IsTextOf (top host.host) l to) (sym c.text-2.ensures) (target_still top old host to is there)) took) noted) in
-    record { kept = all.kept; answer = all.answer; no_memory = answer.ensures.no_memory }
+    (record {
+      next = answer.new.self;
+      text = c.text.result.now;
+      touched = is;
+      composed = c.text.ensures;
+      told = c.requires;
+      called = answer.ensures;
+      noted = c.note.ensures;
+      done = λ s t u held there took noted.
+          file_moved from to answer.result s t u host.touched.paths.items host.moved.paths.items host.flush_failed held
+          kept.left kept.touched kept.above kept.moved
+          (took_at answer.result (top host.host) text to (λ q. HasTaken (Moved from q))
+          (λ q a b. (b ≡ a) × ¬ CanMoveTo (names_now a) from q) (λ q. MayHaveTaken (Moved from q)) s t
+          (subst (λ (l : List ℕ). IsTextOf (top host.host) l to) (sym c.text-2.ensures) (target_still top old host to is there)) took)
+          noted;
+    })

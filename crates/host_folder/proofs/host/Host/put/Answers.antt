@@ -5,7 +5,7 @@ use Rattle.host_calls.specs.Volume.{File, entry_at}
 use Rattle.host_calls.specs.Story.{names_now}
 use Rattle.host_calls.specs.Calls.{IsFound}
 use Rattle.host_folder.specs.Behind.{story_of}
-use Rattle.host_folder.proofs.Since.{answered_since, misfit_since, kept_found, composed_found}
+use Rattle.host_folder.proofs.Since.{answered_since, misfit_found, composed_found}
 use Rattle.host_folder.proofs.Misfits.{no_put}
 use Rattle.host_folder.proofs.host.Host.put.Goals as goal
 
@@ -33,9 +33,5 @@ returns-in-File-clause-answer g c =
 
 pub returns-in_default-clause-answer : goal.returns-in_default-clause-answer
 returns-in_default-clause-answer g c =
-    let path = c.args.path.now in
-    let host = c.reach_bytes.new.self in
-    misfit_since g.H.HostCalls.story g.H.HostCalls.top c.args.self.now host (Put path c.args.bytes.now) (λ s. IsFound c.in_ok-reach_bytes.field-0 s path)
-    (λ s kept there. no_put c.in_ok-reach_bytes.field-0 path c.args.bytes.now s c.in_default.not-Nothing c.in_default.not-File there)
-    c.reach_bytes.ensures.log
-    (kept_found g.H.HostCalls.story g.H.HostCalls.top host path (λ s. IsFound c.in_ok-reach_bytes.field-0 s path) (λ s. IsFound c.in_ok-reach_bytes.field-0 s path) (λ s there. there) c.in_ok-reach_bytes.ensures.composed)
+    misfit_found g.H.HostCalls.story g.H.HostCalls.top c.args.self.now c.reach_bytes.new.self c.args.path.now (Put c.args.path.now c.args.bytes.now) (λ s. IsFound c.in_ok-reach_bytes.field-0 s c.args.path.now)
+    (λ s there. no_put c.in_ok-reach_bytes.field-0 c.args.path.now c.args.bytes.now s c.in_default.not-Nothing c.in_default.not-File there) c.reach_bytes.ensures.log c.in_ok-reach_bytes.ensures.composed

@@ -6,7 +6,7 @@ use Rattle.host_calls.specs.Names.{HasFile}
 use Rattle.host_calls.specs.Story.{names_now}
 use Rattle.host_calls.specs.Calls.{IsFound}
 use Rattle.host_folder.specs.Behind.{story_of}
-use Rattle.host_folder.proofs.Since.{answered_since, misfit_since, kept_found, composed_found}
+use Rattle.host_folder.proofs.Since.{answered_since, misfit_found, kept_found, composed_found}
 use Rattle.host_folder.proofs.Misfits.{no_remove_file}
 use Rattle.host_folder.proofs.host.Host.remove_file.Goals as goal
 
@@ -34,9 +34,5 @@ returns-in-Nothing-clause-answer g c =
 
 pub returns-in_default-clause-answer : goal.returns-in_default-clause-answer
 returns-in_default-clause-answer g c =
-    let path = c.args.path.now in
-    let host = c.reach_inside.new.self in
-    misfit_since g.H.HostCalls.story g.H.HostCalls.top c.args.self.now host (RemoveFile path) (λ s. IsFound c.in_ok-reach_inside.field-0 s path)
-    (λ s kept there. no_remove_file c.in_ok-reach_inside.field-0 path s c.in_default.not-Nothing c.in_default.not-File there)
-    c.reach_inside.ensures.log
-    (kept_found g.H.HostCalls.story g.H.HostCalls.top host path (λ s. IsFound c.in_ok-reach_inside.field-0 s path) (λ s. IsFound c.in_ok-reach_inside.field-0 s path) (λ s there. there) c.in_ok-reach_inside.ensures.composed)
+    misfit_found g.H.HostCalls.story g.H.HostCalls.top c.args.self.now c.reach_inside.new.self c.args.path.now (RemoveFile c.args.path.now) (λ s. IsFound c.in_ok-reach_inside.field-0 s c.args.path.now)
+    (λ s there. no_remove_file c.in_ok-reach_inside.field-0 c.args.path.now s c.in_default.not-Nothing c.in_default.not-File there) c.reach_inside.ensures.log c.in_ok-reach_inside.ensures.composed

@@ -1,9 +1,8 @@
-use Rattle.std.proofs.Common.{◌≡◌}
 use Rattle.std.proofs.lemmas.Result.{err_from_is_err_and}
 use Rattle.outside.specs.Changes.{Move}
 use Rattle.host_calls.specs.Calls.{IsFound}
 use Rattle.host_folder.specs.Answers.{IsSameLog}
-use Rattle.host_folder.specs.Behind.{story_of, IsKept}
+use Rattle.host_folder.specs.Behind.{story_of}
 use Rattle.host_folder.proofs.Shown.{kept_looked}
 use Rattle.host_folder.proofs.Since.{answered_since, failed_since, misfit_since, texts_kept, changed_looked, kept_and, to_move}
 use Rattle.host_folder.proofs.Misfits.{no_move_to, no_move_from}
@@ -32,15 +31,11 @@ pub returns-in_default-clause-answer : goal.returns-in_default-clause-answer
 returns-in_default-clause-answer g c =
     let story = g.H.HostCalls.story in
     let top = g.H.HostCalls.top in
-    let from = c.args.from.now in
-    let to = c.args.to.now in
-    let first = c.make_room.new.self in
-    let host = c.find_target.new.self in
-    let found = c.in_ok-find_target.field-0 in
-    misfit_since story top c.args.self.now host (Move from to) (λ s. IsFound found s to)
-    (λ s kept there. no_move_to found from to s c.in_default.not-Nothing c.in_default.not-File there)
-    (changed_looked story top (story_of story c.args.self.now) first host IsSameLog c.find_target.ensures.looked c.make_room.ensures.log)
-    (kept_and story top host (λ s. IsFound found s to) (kept_looked story top first host c.find_target.ensures.looked c.make_room.ensures.kept) c.in_ok-find_target.ensures.found)
+    misfit_since story top c.args.self.now c.find_target.new.self (Move c.args.from.now c.args.to.now) (λ s. IsFound c.in_ok-find_target.field-0 s c.args.to.now)
+    (λ s kept there. no_move_to c.in_ok-find_target.field-0 c.args.from.now c.args.to.now s c.in_default.not-Nothing c.in_default.not-File there)
+    (changed_looked story top (story_of story c.args.self.now) c.make_room.new.self c.find_target.new.self IsSameLog c.find_target.ensures.looked c.make_room.ensures.log)
+    (kept_and story top c.find_target.new.self (λ s. IsFound c.in_ok-find_target.field-0 s c.args.to.now)
+    (kept_looked story top c.make_room.new.self c.find_target.new.self c.find_target.ensures.looked c.make_room.ensures.kept) c.in_ok-find_target.ensures.found)
 
 pub find-requires : goal.find-requires
 find-requires g c =
@@ -91,15 +86,11 @@ pub returns-in_default-2-clause-answer : goal.returns-in_default-2-clause-answer
 returns-in_default-2-clause-answer g c =
     let story = g.H.HostCalls.story in
     let top = g.H.HostCalls.top in
-    let from = c.args.from.now in
-    let to = c.args.to.now in
     let first = c.make_room.new.self in
     let target = c.find_target.new.self in
-    let host = c.find.new.self in
-    let found = c.in_ok-find.field-0 in
-    misfit_since story top c.args.self.now host (Move from to) (λ s. IsFound found s from)
-    (λ s kept there. no_move_from found from to s c.in_default-2.not-File there)
-    (changed_looked story top (story_of story c.args.self.now) target host IsSameLog c.find.ensures.looked
+    misfit_since story top c.args.self.now c.find.new.self (Move c.args.from.now c.args.to.now) (λ s. IsFound c.in_ok-find.field-0 s c.args.from.now)
+    (λ s kept there. no_move_from c.in_ok-find.field-0 c.args.from.now c.args.to.now s c.in_default-2.not-File there)
+    (changed_looked story top (story_of story c.args.self.now) target c.find.new.self IsSameLog c.find.ensures.looked
     (changed_looked story top (story_of story c.args.self.now) first target IsSameLog c.find_target.ensures.looked c.make_room.ensures.log))
-    (kept_and story top host (λ s. IsFound found s from)
-    (kept_looked story top target host c.find.ensures.looked (kept_looked story top first target c.find_target.ensures.looked c.make_room.ensures.kept)) c.in_ok-find.ensures.found)
+    (kept_and story top c.find.new.self (λ s. IsFound c.in_ok-find.field-0 s c.args.from.now)
+    (kept_looked story top target c.find.new.self c.find.ensures.looked (kept_looked story top first target c.find_target.ensures.looked c.make_room.ensures.kept)) c.in_ok-find.ensures.found)

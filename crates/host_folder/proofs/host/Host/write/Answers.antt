@@ -1,28 +1,19 @@
-use Rattle.std.proofs.Common.{◌≡◌}
 use Rattle.outside.specs.Changes.{Write}
 use Rattle.host_calls.specs.Calls.{IsFound}
 use Rattle.host_folder.specs.Behind.{story_of}
-use Rattle.host_folder.proofs.Since.{answered_since, misfit_since, kept_found}
+use Rattle.host_folder.proofs.Since.{answered_since, misfit_found}
 use Rattle.host_folder.proofs.Misfits.{short_of, no_write}
 use Rattle.host_folder.proofs.host.Host.write.Goals as goal
 
 pub returns-in_default-clause-answer : goal.returns-in_default-clause-answer
 returns-in_default-clause-answer g c =
-    let path = c.args.path.now in
-    let host = c.reach_bytes.new.self in
-    misfit_since g.H.HostCalls.story g.H.HostCalls.top c.args.self.now host (Write path c.args.at c.args.bytes.now) (λ s. IsFound c.in_ok-inode.field-0 s path)
-    (λ s kept there. no_write c.in_ok-inode.field-0 path c.args.at c.args.bytes.now s (λ i n is. absurd (c.in_default.not-File i n is)) there)
-    c.reach_bytes.ensures.log
-    (kept_found g.H.HostCalls.story g.H.HostCalls.top host path (λ s. IsFound c.in_ok-inode.field-0 s path) (λ s. IsFound c.in_ok-inode.field-0 s path) (λ s there. there) c.in_ok-inode.ensures.composed)
+    misfit_found g.H.HostCalls.story g.H.HostCalls.top c.args.self.now c.reach_bytes.new.self c.args.path.now (Write c.args.path.now c.args.at c.args.bytes.now) (λ s. IsFound c.in_ok-inode.field-0 s c.args.path.now)
+    (λ s there. no_write c.in_ok-inode.field-0 c.args.path.now c.args.at c.args.bytes.now s (λ i n is. absurd (c.in_default.not-File i n is)) there) c.reach_bytes.ensures.log c.in_ok-inode.ensures.composed
 
 pub returns-then-at-length-clause-answer : goal.returns-then-at-length-clause-answer
 returns-then-at-length-clause-answer g c =
-    let path = c.args.path.now in
-    let host = c.reach_bytes.new.self in
-    misfit_since g.H.HostCalls.story g.H.HostCalls.top c.args.self.now host (Write path c.args.at c.args.bytes.now) (λ s. IsFound c.in_ok-inode.field-0 s path)
-    (λ s kept there. no_write c.in_ok-inode.field-0 path c.args.at c.args.bytes.now s (short_of c.in_ok-inode.field-0 c.in-File.inode c.in-File.length c.args.at c.in-File.is c.if-at-length.true) there)
-    c.reach_bytes.ensures.log
-    (kept_found g.H.HostCalls.story g.H.HostCalls.top host path (λ s. IsFound c.in_ok-inode.field-0 s path) (λ s. IsFound c.in_ok-inode.field-0 s path) (λ s there. there) c.in_ok-inode.ensures.composed)
+    misfit_found g.H.HostCalls.story g.H.HostCalls.top c.args.self.now c.reach_bytes.new.self c.args.path.now (Write c.args.path.now c.args.at c.args.bytes.now) (λ s. IsFound c.in_ok-inode.field-0 s c.args.path.now)
+    (λ s there. no_write c.in_ok-inode.field-0 c.args.path.now c.args.at c.args.bytes.now s (short_of c.in_ok-inode.field-0 c.in-File.inode c.in-File.length c.args.at c.in-File.is c.if-at-length.true) there) c.reach_bytes.ensures.log c.in_ok-inode.ensures.composed
 
 pub returns-clause-answer : goal.returns-clause-answer
 returns-clause-answer g c =

@@ -1,34 +1,19 @@
-use Rattle.std.proofs.Common.{Option, Result, ap, ◌∙◌, IfOk, Vec, Global}
-use Rattle.vault_path.specs.declared.text.Text.{Text}
 use Rattle.std.specs.Option.{option_map}
-use Rattle.outside.specs.declared.folder.FolderErr.{FolderErr}
-use Rattle.outside.specs.Calls.{Told}
-use Rattle.outside.specs.Disk.{IsFolder, IsListing}
-use Rattle.outside.specs.Images.{Log, disk_in}
 use Rattle.host_folder.specs.Behind.{log_of, IsShown}
 use Rattle.host_folder.specs.Telling.{diary_of}
 use Rattle.host_folder.proofs.Shown.{told_too}
-use Rattle.host_folder.proofs.Passing.{passed, passed_no, told_log}
+use Rattle.host_folder.proofs.PassingReads.{list_passed, still_unsettled}
 use Rattle.host_folder.proofs.Unsettling.{kept_unsettled}
 use Rattle.host_folder.proofs.unsettled.UnsettledReads.list.Goals as goal
+
+pub returns : goal.returns
+returns g c =
+    list_passed c.counted_in_folder.result c.list-answer.result c.args.path.now (log_of g.H.HostCalls.story c.self.inside.host) (option_map diary_of (g.H.HostCalls.story c.args.self.now.host)) (option_map diary_of (g.H.HostCalls.story c.list-answer.new.self.host)) _ _ _ _ _
+    (still_unsettled g.H.HostCalls.story c.self.inside.host.tells _ c.args.self.now (g.H.HostCalls.story c.list-answer.new.self.host) c.self.view_is c.self.invariant.1 c.list-answer.ensures.looked.story)
+    c.counted_in_folder.ensures c.list-answer.ensures.names c.list-answer.ensures.unfit
 
 pub list-answer-requires : goal.list-answer-requires
 list-answer-requires g c = told_too c.self.inside.host.tells (g.H.HostCalls.story c.self.inside.host.host) (IsShown g.H.HostCalls.top c.self.inside.host) c.self.invariant.2
 
 pub invariant_of-self : goal.invariant_of-self
 invariant_of-self g c = kept_unsettled g.H.HostCalls.story g.H.HostCalls.top c.self.inside.host c.list-answer.new.self c.list-answer.ensures.looked c.self.invariant
-
-pub returns-clause-names : goal.returns-clause-names
-returns-clause-names g c =
-    passed c.counted_in_folder.result c.list-answer.result (log_of g.H.HostCalls.story c.self.inside.host) (option_map diary_of (g.H.HostCalls.story c.args.self.now.host))
-    (λ (x : Result (Vec Text Global) FolderErr) (l : Option Log). IfOk x (λ names. Told (disk_in l) (λ d. IsFolder d c.args.path.now × IsListing d c.args.path.now names.items)))
-    c.counted_in_folder.ensures.same (told_log c.self.inside.host.tells (g.H.HostCalls.story c.self.inside.host.host) (g.H.HostCalls.story c.args.self.now.host) c.self.invariant.1 (ap (λ h. g.H.HostCalls.story h.host) c.self.view_is)) c.list-answer.ensures.names
-
-pub returns-clause-unfit : goal.returns-clause-unfit
-returns-clause-unfit g c =
-    passed_no c.counted_in_folder.result c.list-answer.result (log_of g.H.HostCalls.story c.self.inside.host) (option_map diary_of (g.H.HostCalls.story c.args.self.now.host)) c.self.inside.faults c.args.self.now.faults c.counted_in_folder.new.faults (λ d. IsFolder d c.args.path.now)
-    c.counted_in_folder.ensures.same (told_log c.self.inside.host.tells (g.H.HostCalls.story c.self.inside.host.host) (g.H.HostCalls.story c.args.self.now.host) c.self.invariant.1 (ap (λ h. g.H.HostCalls.story h.host) c.self.view_is)) (ap (λ h. h.faults) c.self.view_is) c.list-answer.ensures.unfit c.counted_in_folder.ensures.unfit
-
-pub returns-clause-log : goal.returns-clause-log
-returns-clause-log g c =
-    ap (option_map diary_of) (c.list-answer.ensures.looked.story ∙ ap (λ h. g.H.HostCalls.story h.host) c.self.view_is)
