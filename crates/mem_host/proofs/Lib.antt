@@ -1,0 +1,16 @@
+pub mod Walks
+pub mod Entries
+pub mod Listing
+pub mod Files
+pub mod Trees
+pub mod Numbers
+pub mod Keeping
+pub mod Reversed
+pub mod Texts
+pub mod Cuts
+pub mod Pendings
+pub mod Renames
+pub mod Writing
+pub mod Reading
+pub mod Creating
+pub mod Taking
