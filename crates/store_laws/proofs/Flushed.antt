@@ -21,7 +21,7 @@ use Rattle.crash_laws.specs.Stands.{IsRunning, IsInState}
 use Rattle.crash_laws.proofs.Moves.{settles}
 use Rattle.crash_laws.proofs.States.{state_runs}
 use Rattle.store_laws.specs.Store.{StoreView, HasRows, IsPlacedOn, IsStoredIn, IsStoreOf, IsTakenBy, moment_of, shows_under}
-use Rattle.store_laws.specs.Turns.{AddsEntry, FlushedTurnsAdd, FlushesStand, IsFlushed}
+use Rattle.store_laws.specs.Turns.{AddsEntry, AddsEntryFrom, FlushedTurnsAdd, FlushesStand, IsFlushed}
 use Rattle.store_laws.proofs.Alike.{for_alike, looks_beside, looks_through}
 use Rattle.store_laws.proofs.Placed.{begins_low, begun_goes_on, goes_later, not_both, opened_goes_on, places_go_on, read_then}
 use Rattle.node_changes.proofs.Beside.{stands_beside}
@@ -126,17 +126,18 @@ taken_back old None b request drawn taken same told = tt
 taken_back old (Some a) None request drawn taken same told = absurd same
 taken_back old (Some a) (Some b) request drawn taken same told = told ∙ sym (for_alike (sealing_of old.keys) (now a) (now b) old.live drawn same request)
 
-from_idle : (old new : StoreView) (before amid after : FolderView) (asked : Asked) (source source' : EntropyView) → IsFlushed old (record old { waiting = [] }) before amid → AddsEntry (record old { waiting = [] }) new amid after asked source source'
-    → AddsEntry old new before after asked source source'
+from_idle : (old new : StoreView) (before amid after : FolderView) (asked : Asked) (source source' : EntropyView)
+    → IsFlushed old (record old { waiting = [] }) before amid
+    → AddsEntryFrom before.faults (record old { waiting = [] }) new amid after asked source source' → AddsEntry old new before after asked source source'
 from_idle old new before amid after asked source source' is adds found rows origin history caller store drew =
     let stands = flush_stands old before amid found rows origin history store is.running is.committed is.any_moment is.faults in
-    let added = adds found rows origin history caller stands drew in
+    let added = adds found rows origin history caller stands store.faults drew in
     let made = added.1 in
     let look = look_on old before amid found rows origin history store is.running is.committed is.any_moment in (
       added.0,
       record {
         same = made.same;
-        folder = (omega (arith, is.faults, made.folder.0), made.folder.1);
+        folder = made.folder;
         entropy = made.entropy;
         drawn = made.drawn;
         taken = taken_back old before.log amid.log asked.request added.0.drawn added.0.taken look made.taken;
@@ -147,5 +148,6 @@ from_idle old new before amid after asked source source' is adds found rows orig
 
 pub flushed_turns_add : FlushedTurnsAdd
 flushed_turns_add old between new before amid after asked source source' is =
-    subst (λ (s : StoreView). IsFlushed old s before amid → AddsEntry s new amid after asked source source' → AddsEntry old new before after asked source source') (sym is.new_is)
+    subst (λ (s : StoreView). IsFlushed old s before amid → AddsEntryFrom before.faults s new amid after asked source source'
+    → AddsEntry old new before after asked source source') (sym is.new_is)
     (from_idle old new before amid after asked source source') is

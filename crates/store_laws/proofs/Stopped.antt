@@ -44,7 +44,7 @@ module _ (old : StoreView) (before : FolderView) (source : EntropyView) (turn : 
     tally = tally_of origin history
 
     abbrev made : Made
-    made = made_in turn before before source source (stable_then turn.asked.request turn.asked.reply tally.stable (suc (length history)))
+    made = made_in turn before.faults before source source (stable_then turn.asked.request turn.asked.reply tally.stable (suc (length history)))
 
     abbrev entry : Entry
     entry = entry_of caller made
@@ -72,7 +72,7 @@ module _ (old : StoreView) (before : FolderView) (source : EntropyView) (turn : 
 
     caused : Before → tally.entropy_faults caller ≤ source.faults → IsCaused tally entry
     caused store drew =
-        let next_stable = stable old new before before source source turn found rows origin history caller store in
+        let next_stable = stable old new before.faults before before source source turn found rows origin history caller store in
         record {
           running = λ none. absurd (running_not store none);
           stopped = λ f there. reply ∙ ap (λ (n : ℕ). refused (refusals.Stopped n)) ((at store).2 ∙ ap bounded (one_some tally.stopped (at store).0 f (at store).1 there));
@@ -83,8 +83,8 @@ module _ (old : StoreView) (before : FolderView) (source : EntropyView) (turn : 
           entropy_since = drew;
           entropy = omega arith;
           stable_since = next_stable.since;
-          stable_within = omega (arith, next_stable.within, counted old new before before source source turn found rows origin history caller);
-          kept = λ stable_request accepted. next_stable.kept stable_request accepted ∙ ap suc (sym (counted old new before before source source turn found rows origin history caller));
+          stable_within = omega (arith, next_stable.within, counted old new before.faults before before source source turn found rows origin history caller);
+          kept = λ stable_request accepted. next_stable.kept stable_request accepted ∙ ap suc (sym (counted old new before.faults before before source source turn found rows origin history caller));
           moment_since = store.moment;
         }
 
@@ -155,11 +155,11 @@ module _ (old : StoreView) (before : FolderView) (source : EntropyView) (turn : 
       unspent = λ none may. refl;
     }
 
-    made_so : IsMadeOf turn.asked old before before source source made
+    made_so : IsMadeOf turn.asked old before.faults before before source source made
     made_so = record {
       same = refl;
-      folder = (omega arith, omega arith);
-      entropy = (omega arith, omega arith);
+      folder = (refl, refl);
+      entropy = (refl, refl);
       drawn = drawn_none source.drawn;
       taken = taken;
       moment = refl;
@@ -169,7 +169,7 @@ module _ (old : StoreView) (before : FolderView) (source : EntropyView) (turn : 
   stopped_adds found rows origin history caller store drew = (
     made found rows origin history caller,
     made_so found rows origin history caller,
-    adds_to old new before before source source turn found rows origin history caller store (caused found rows origin history caller store drew) (unchanged before.log before.log LogGoesOn refl goes_nowhere)
+    adds_to old new before.faults before before source source turn found rows origin history caller store (caused found rows origin history caller store drew) (unchanged before.log before.log LogGoesOn refl goes_nowhere)
         (stays_told found rows origin history caller before.log store refl refl store.stored taken)
         (store.stopped ∙ sym (ap (λ (o : Option ℕ). option_map bounded o) (still_stopped found rows origin history caller))) refl,
   )

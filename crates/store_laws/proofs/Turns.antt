@@ -17,7 +17,7 @@ use Rattle.tree_model.specs.declared.refusal.Refusal.TheVariants as refusals
 use Rattle.tree_model.specs.Rows.{Content, Rows}
 use Rattle.tree_model.specs.Asked.{PlainReply, refused}
 use Rattle.tree_model.specs.Step.{step}
-use Rattle.tree_model.specs.History.{Made, Entry, Origin, Tally, entry_of, tally_at, tally_of, answer_of, is_stable, is_refusal, rows_at, rows_after, rows_then, next, MayCommit, IsCaused, IsAnswered, AreAnswered}
+use Rattle.tree_model.specs.History.{Made, Entry, Origin, Tally, entry_of, tally_at, tally_of, answer_of, is_stable, is_refusal, rows_at, rows_after, rows_then, next, HasCause, MayCommit, IsCaused, IsAnswered, AreAnswered}
 use Rattle.tree_model.proofs.Histories.{after_more, after_count, after_stable, rows_after_more, caused_more, answered_more}
 use Rattle.clear_tree.specs.Walk.{Sealing}
 use Rattle.tree_loading.specs.Format.{sealing_of}
@@ -71,12 +71,25 @@ moments_rise None (Some b) P rises change = absurd change
 moments_rise (Some a) None P rises change = absurd change
 moments_rise (Some a) (Some b) P rises change = rises a b change
 
-module _ (old new : StoreView) (before after : FolderView) (source source' : EntropyView) (turn : Turn) (found : Option Log) (rows : Rows) (origin : Origin) (history : List Entry) (caller : ℕ) where
+-- a cause since a turn began is one since its call began, with a count of the folder's faults that is no higher
+earlier_cause : (turn : Turn) (begun : ℕ) (before after : FolderView) (source source' : EntropyView) (stable : ℕ) (reply : PlainReply)
+    → begun ≤ before.faults → HasCause (made_of turn before after source source') reply → HasCause (made_in turn begun after source source' stable) reply
+earlier_cause turn begun before after source source' stable (refused refusals.DeviceFault) early cause = elim cause [
+  | inl rose ↦ inl (omega (arith, rose, early))
+  | inr full ↦ inr full
+]
+earlier_cause turn begun before after source source' stable (refused refusals.RandomFault) early cause = cause
+earlier_cause turn begun before after source source' stable (refused refusals.OutOfMemory) early cause = cause
+earlier_cause turn begun before after source source' stable (refused (refusals.PlaceTaken path)) early cause = cause
+earlier_cause turn begun before after source source' stable (refused (refusals.Exhausted ticket)) early cause = cause
+earlier_cause turn begun before after source source' stable reply early cause = cause
+
+module _ (old new : StoreView) (begun : ℕ) (before after : FolderView) (source source' : EntropyView) (turn : Turn) (found : Option Log) (rows : Rows) (origin : Origin) (history : List Entry) (caller : ℕ) where
   abbrev tally : Tally
   tally = tally_of origin history
 
   abbrev made : Made
-  made = made_in turn before after source source' (stable_then turn.asked.request turn.asked.reply tally.stable (suc (length history)))
+  made = made_in turn begun after source source' (stable_then turn.asked.request turn.asked.reply tally.stable (suc (length history)))
 
   abbrev entry : Entry
   entry = entry_of caller made
@@ -154,16 +167,18 @@ module _ (old new : StoreView) (before after : FolderView) (source source' : Ent
     abbrev Flag : Type 0
     Flag = turn.commit_failed ≡ true → (turn.asked.reply ≡ refused refusals.DeviceFault) × MayCommit turn.asked.request
 
-    pub caused : Before → tally.entropy_faults caller ≤ source.faults → moment_of before.log ≤ moment_of after.log → Flag → IsCaused tally entry
-    caused store drew later flag =
+    pub caused : Before → tally.folder_faults ≤ begun → begun ≤ before.faults → tally.entropy_faults caller ≤ source.faults
+        → moment_of before.log ≤ moment_of after.log → Flag → IsCaused tally entry
+    caused store since early drew later flag =
         let next_stable = stable store in
         record {
-          running = λ none. (is.cause, is.unstopped);
+          running = λ none.
+              (earlier_cause turn begun before after source source' made.stable turn.asked.reply early is.cause, is.unstopped);
           stopped = λ f at. absurd (none_not_some tally.stopped f (not_stopped is.running store) at);
           flag = flag;
           drawn = is.may_draw;
-          folder_since = store.faults;
-          folder = is.folder;
+          folder_since = since;
+          folder = omega (arith, early, is.folder);
           entropy_since = drew;
           entropy = is.entropy;
           stable_since = next_stable.since;
@@ -176,11 +191,11 @@ module _ (old new : StoreView) (before after : FolderView) (source source' : Ent
     drawn_so = changed_by source.drawn source'.drawn (Draws (made_of turn before after source source')) (Draws made)
         (λ a b draws. record { more = draws.more; on = draws.on; identifier = draws.identifier; unspent = draws.unspent }) is.drawn
 
-    pub made_so : IsMadeOf turn.asked old before after source source' made
+    pub made_so : IsMadeOf turn.asked old begun before after source source' made
     made_so = record {
       same = refl;
-      folder = (omega arith, omega arith);
-      entropy = (omega arith, omega arith);
+      folder = (refl, refl);
+      entropy = (refl, refl);
       drawn = drawn_so;
       taken = is.taken;
       moment = refl;
@@ -485,36 +500,39 @@ module _ (old new : StoreView) (before after : FolderView) (source source' : Ent
   -- ---- an entry more
 
   abbrev Adds : Type 0
-  Adds = (made : Made) × IsMadeOf turn.asked old before after source source' made × IsStoreOf found new after rows origin (history ++ entry_of caller made ∷ [])
+  Adds = (made : Made) × IsMadeOf turn.asked old begun before after source source' made × IsStoreOf found new after rows origin (history ++ entry_of caller made ∷ [])
 
-  pub quiet_adds : IsQuietTurn old new before after source source' turn → Before → tally.entropy_faults caller ≤ source.faults → Adds
-  quiet_adds is store drew = (
+  pub quiet_adds : begun ≤ before.faults → IsQuietTurn old new before after source source' turn → Before
+      → tally.folder_faults ≤ begun → tally.entropy_faults caller ≤ source.faults → Adds
+  quiet_adds early is store since drew = (
     made,
     made_so is.is_turn,
-    adds_to store (caused is.is_turn store drew (omega (arith, ap moment_of is.log)) (unflagged is.is_turn is.whole))
+    adds_to store (caused is.is_turn store since early drew (omega (arith, ap moment_of is.log)) (unflagged is.is_turn is.whole))
         (unchanged before.log after.log LogGoesOn is.log goes_nowhere)
         (subst (λ (o : Option Log). Told o StoredNext) (sym is.log) (quiet_told is.is_turn before.log store is.whole refl (ap moment_of is.log) store.stored is.allowed is.waits is.within is.strays is.shown is.kept is.is_turn.taken))
         (goes_on is.is_turn is.goes_on is.whole store) is.is_turn.entries,
   )
 
-  pub changed_adds : IsChangedTurn old new before after source source' turn → Before → tally.entropy_faults caller ≤ source.faults → Adds
-  changed_adds is store drew = (
+  pub changed_adds : begun ≤ before.faults → IsChangedTurn old new before after source source' turn → Before
+      → tally.folder_faults ≤ begun → tally.entropy_faults caller ≤ source.faults → Adds
+  changed_adds early is store since drew = (
     made,
     made_so is.is_turn,
     adds_to store
-        (caused is.is_turn store drew
+        (caused is.is_turn store since early drew
         (moments_rise before.log after.log ChangedTo (λ a b change. goes_later a b change.any_moment.tidy.grown) is.changed)
         (unflagged is.is_turn is.whole))
         (changed_by before.log after.log ChangedTo LogGoesOn (λ a b change. change.any_moment.tidy.grown) is.changed)
         (changed_told is.is_turn before.log after.log store is.none is.whole is.accepted refl refl store.stored is.allowed is.is_turn.taken is.changed) (goes_on is.is_turn is.goes_on is.whole store) is.is_turn.entries,
   )
 
-  pub broken_adds : IsBrokenTurn old new before after source source' turn → Before → tally.entropy_faults caller ≤ source.faults → Adds
-  broken_adds is store drew = (
+  pub broken_adds : begun ≤ before.faults → IsBrokenTurn old new before after source source' turn → Before
+      → tally.folder_faults ≤ begun → tally.entropy_faults caller ≤ source.faults → Adds
+  broken_adds early is store since drew = (
     made,
     made_so is.is_turn,
     adds_to store
-        (caused is.is_turn store drew
+        (caused is.is_turn store since early drew
         (moments_rise before.log after.log MayChangeTo (λ a b change. goes_later a b change.any_moment.tidy.grown) is.changed)
         (λ failed. (is.stops.reply, is.stops.may_commit)))
         (changed_by before.log after.log MayChangeTo LogGoesOn (λ a b change. change.any_moment.tidy.grown) is.changed)
@@ -546,12 +564,12 @@ module _ (old new : StoreView) (before after : FolderView) (source source' : Ent
     grown_so : Changes before.log after.log LogGoesOn
     grown_so = changed_by before.log after.log (AnyMoment old.waiting) LogGoesOn (λ a b any. any.tidy.grown) is.any_moment
 
-    pub unflushed_adds : Before → tally.entropy_faults caller ≤ source.faults → Adds
-    unflushed_adds store drew = (
+    pub unflushed_adds : begun ≤ before.faults → Before → tally.folder_faults ≤ begun → tally.entropy_faults caller ≤ source.faults → Adds
+    unflushed_adds early store since drew = (
       made,
       made_so is.is_turn,
       adds_to store
-          (caused is.is_turn store drew (moments_rise before.log after.log LogGoesOn goes_later grown_so) (λ failed. (is.stops.reply, is.stops.may_commit)))
+          (caused is.is_turn store since early drew (moments_rise before.log after.log LogGoesOn goes_later grown_so) (λ failed. (is.stops.reply, is.stops.may_commit)))
           grown_so
           (unflushed_told before.log after.log store refl refl store.stored is.allowed is.is_turn.taken is.any_moment)
           (is.stops.named ∙ ap Some (store.count ∙ ap bounded (sym counted)) ∙ sym (ap (λ (o : Option ℕ). option_map bounded o) (flagged is.is_turn is.stops.failed))) is.is_turn.entries,
@@ -560,13 +578,18 @@ module _ (old new : StoreView) (before after : FolderView) (source source' : Ent
 -- ---- the laws
 
 pub unflushed_turns_add : UnflushedTurnsAdd
-unflushed_turns_add old new before after source source' turn is found rows origin history caller store drew = unflushed_adds old new before after source source' turn found rows origin history caller is store drew
+unflushed_turns_add old new before after source source' turn is found rows origin history caller store drew =
+    unflushed_adds old new before.faults before after source source' turn found rows origin history caller is (omega arith)
+    store store.faults drew
 
 pub quiet_turns_add : QuietTurnsAdd
-quiet_turns_add old new before after source source' turn is found rows origin history caller store drew = quiet_adds old new before after source source' turn found rows origin history caller is store drew
+quiet_turns_add old new begun before after source source' turn early is found rows origin history caller store since drew =
+    quiet_adds old new begun before after source source' turn found rows origin history caller early is store since drew
 
 pub changed_turns_add : ChangedTurnsAdd
-changed_turns_add old new before after source source' turn is found rows origin history caller store drew = changed_adds old new before after source source' turn found rows origin history caller is store drew
+changed_turns_add old new begun before after source source' turn early is found rows origin history caller store since drew =
+    changed_adds old new begun before after source source' turn found rows origin history caller early is store since drew
 
 pub broken_turns_add : BrokenTurnsAdd
-broken_turns_add old new before after source source' turn is found rows origin history caller store drew = broken_adds old new before after source source' turn found rows origin history caller is store drew
+broken_turns_add old new begun before after source source' turn early is found rows origin history caller store since drew =
+    broken_adds old new begun before after source source' turn found rows origin history caller early is store since drew

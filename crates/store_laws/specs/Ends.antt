@@ -64,7 +64,7 @@ FailedOpeningsRecover = (keys : KeyPair) (old new : Log) → StaysOpening old ne
 -- ---- at its end
 
 -- What a stop recovers to: at any moment to a prefix of the history that holds all that was synced, and up to the moment at which it begins to the
--- rows that it begins with, with what isn't the vault's own as it was found; and at each moment what isn't on the disk is loose.
+-- rows that it begins with, with what isn't the vault's own as it was found; and at each moment what is unsynced is loose.
 pub record Recovers (found : Option Log) (keys : KeyPair) (folder : FolderView) (rows : Rows) (origin : Origin) (history : List Entry) : Type 0 where
   pub stops : Told folder.log (λ log. (opened : ℕ) → IsSaidFrom found origin opened → StopsRecover (shows_under found keys) opened rows history log)
   pub begun : Told folder.log (λ log. (opened : ℕ) → IsSaidFrom found origin opened → BeginningRecovers (shows_under found keys) opened origin.moment rows log)

@@ -36,23 +36,36 @@ draws_for before after made = Changes before after (Draws made)
 abbrev pub IsTakenFor : StoreView → FolderView → PlainRequest → Option (List ℕ) → Option HostPath → Type 0
 IsTakenFor store folder request drawn taken = Told (disk_in folder.log) (λ d. taken ≡ taken_for (sealing_of store.keys) d store.live request drawn)
 
--- What a store made of a request that was asked and answered so: its counts of faults lie within those of the folder and of the caller's
--- random source, what is drawn was given by that, and which place is taken is said by the folder before.
-pub record IsMadeOf (asked : Asked) (store : StoreView) (before after : FolderView) (source source' : EntropyView) (made : Made) : Type 0 where
+-- What a store made of a request that was asked and answered so, in a call that began with this count of the folder's faults: its counts
+-- are those of the folder and of the caller's random source as that call began and as it ended, what is drawn was given by that source, and
+-- which place is taken is said by the folder before.
+pub record IsMadeOf (asked : Asked) (store : StoreView) (begun : ℕ) (before after : FolderView)
+    (source source' : EntropyView) (made : Made) : Type 0 where
   pub same : made.asked ≡ asked
-  pub folder : (before.faults ≤ made.folder.before) × (made.folder.after ≤ after.faults)
-  pub entropy : (source.faults ≤ made.entropy.before) × (made.entropy.after ≤ source'.faults)
+  pub folder : (made.folder.before ≡ begun) × (made.folder.after ≡ after.faults)
+  pub entropy : (made.entropy.before ≡ source.faults) × (made.entropy.after ≡ source'.faults)
   pub drawn : draws_for source.drawn source'.drawn made
   pub taken : IsTakenFor store before asked.request made.drawn made.taken
   pub moment : made.moment ≡ moment_of after.log
 
 -- One entry more: whatever history the store stood for, whoever asks, it stands for that history with one entry, in which this was asked
--- and answered. The caller's random source goes on from where it was in the caller's last entry.
+-- and answered, and whose counts of faults are those before and after. The caller's random source goes on from where it was in the caller's
+-- last entry.
 abbrev pub AddsEntry : StoreView → StoreView → FolderView → FolderView → Asked → EntropyView → EntropyView → Type 0
 AddsEntry old new before after asked source source' =
     (found : Option Log) (rows : Rows) (origin : Origin) (history : List Entry) (caller : ℕ) → IsStoreOf found old before rows origin history →
     (tally_of origin history).entropy_faults caller ≤ source.faults →
-    (made : Made) × IsMadeOf asked old before after source source' made
+    (made : Made) × IsMadeOf asked old before.faults before after source source' made
+    × IsStoreOf found new after rows origin (history ++ entry_of caller made ∷ [])
+
+-- The same of what is left of a call once what waited is committed: the call began with this count of the folder's faults, which is no
+-- lower than that with which the last entry ended, and its entry begins with it.
+abbrev pub AddsEntryFrom : ℕ → StoreView → StoreView → FolderView → FolderView → Asked → EntropyView → EntropyView → Type 0
+AddsEntryFrom begun old new before after asked source source' =
+    (found : Option Log) (rows : Rows) (origin : Origin) (history : List Entry) (caller : ℕ)
+    → IsStoreOf found old before rows origin history →
+    (tally_of origin history).folder_faults ≤ begun → (tally_of origin history).entropy_faults caller ≤ source.faults →
+    (made : Made) × IsMadeOf asked old begun before after source source' made
     × IsStoreOf found new after rows origin (history ++ entry_of caller made ∷ [])
 
 -- ---- turns, whatever the history so far is
@@ -64,12 +77,12 @@ pub record Turn : Type 0 where
   pub taken : Option HostPath
   pub commit_failed : Bool
 
--- the same as it is made, if so many entries are stable
-abbrev pub made_in : Turn → FolderView → FolderView → EntropyView → EntropyView → ℕ → Made
-made_in turn before after source source' stable = record {
+-- the same as it is made in a call that began with this count of the folder's faults, if so many entries are stable
+abbrev pub made_in : Turn → ℕ → FolderView → EntropyView → EntropyView → ℕ → Made
+made_in turn begun after source source' stable = record {
   asked = turn.asked;
   drawn = turn.drawn;
-  folder = record { before = before.faults; after = after.faults };
+  folder = record { before = begun; after = after.faults };
   entropy = record { before = source.faults; after = source'.faults };
   commit_failed = turn.commit_failed;
   taken = turn.taken;
@@ -77,9 +90,9 @@ made_in turn before after source source' stable = record {
   moment = moment_of after.log;
 }
 
--- before it is known how many are stable
+-- before it is known how many are stable, and from the folder's count as the turn begins
 abbrev pub made_of : Turn → FolderView → FolderView → EntropyView → EntropyView → Made
-made_of turn before after source source' = made_in turn before after source source' 0
+made_of turn before after source source' = made_in turn before.faults after source source' 0
 
 -- What each turn of a store that runs has: counts that don't fall, a cause, a draw only if there may be one, and the place that is taken.
 -- The store has the same keys, and one entry more.
@@ -187,17 +200,21 @@ pub record IsStoppedTurn (old new : StoreView) (before after : FolderView) (sour
 
 -- ---- the laws
 
+-- Of each of the first three the call may have begun earlier, with no more faults of the folder: what waited was committed since.
 abbrev pub QuietTurnsAdd : Type 0
-QuietTurnsAdd = (old new : StoreView) (before after : FolderView) (source source' : EntropyView) (turn : Turn)
-    → IsQuietTurn old new before after source source' turn → AddsEntry old new before after turn.asked source source'
+QuietTurnsAdd = (old new : StoreView) (begun : ℕ) (before after : FolderView) (source source' : EntropyView) (turn : Turn)
+    → begun ≤ before.faults → IsQuietTurn old new before after source source' turn
+    → AddsEntryFrom begun old new before after turn.asked source source'
 
 abbrev pub ChangedTurnsAdd : Type 0
-ChangedTurnsAdd = (old new : StoreView) (before after : FolderView) (source source' : EntropyView) (turn : Turn)
-    → IsChangedTurn old new before after source source' turn → AddsEntry old new before after turn.asked source source'
+ChangedTurnsAdd = (old new : StoreView) (begun : ℕ) (before after : FolderView) (source source' : EntropyView) (turn : Turn)
+    → begun ≤ before.faults → IsChangedTurn old new before after source source' turn
+    → AddsEntryFrom begun old new before after turn.asked source source'
 
 abbrev pub BrokenTurnsAdd : Type 0
-BrokenTurnsAdd = (old new : StoreView) (before after : FolderView) (source source' : EntropyView) (turn : Turn)
-    → IsBrokenTurn old new before after source source' turn → AddsEntry old new before after turn.asked source source'
+BrokenTurnsAdd = (old new : StoreView) (begun : ℕ) (before after : FolderView) (source source' : EntropyView) (turn : Turn)
+    → begun ≤ before.faults → IsBrokenTurn old new before after source source' turn
+    → AddsEntryFrom begun old new before after turn.asked source source'
 
 abbrev pub StoppedTurnsAdd : Type 0
 StoppedTurnsAdd = (old new : StoreView) (before after : FolderView) (source source' : EntropyView) (turn : Turn)
@@ -213,7 +230,8 @@ FlushesStand = (old new : StoreView) (before after : FolderView) → IsFlushed o
     → (found : Option Log) (rows : Rows) (origin : Origin) (history : List Entry) → IsStoreOf found old before rows origin history
     → IsStoreOf found new after rows origin history
 
--- an entry that is added then is added to what the store stood for before
+-- An entry that is added then is added to what the store stood for before: its call began with the folder's count as it was then.
 abbrev pub FlushedTurnsAdd : Type 0
 FlushedTurnsAdd = (old between new : StoreView) (before amid after : FolderView) (asked : Asked) (source source' : EntropyView)
-    → IsFlushed old between before amid → AddsEntry between new amid after asked source source' → AddsEntry old new before after asked source source'
+    → IsFlushed old between before amid → AddsEntryFrom before.faults between new amid after asked source source'
+    → AddsEntry old new before after asked source source'

@@ -10,8 +10,8 @@ use Rattle.tree_model.specs.Step.{IsReading}
 use Rattle.vault_store.specs.Open.{IsResting, VaultView, view_of}
 use Rattle.vault_store.specs.Sizes.{SizesAreHeld}
 use Rattle.vault_store.proofs.HostReads.{rest_contents}
-use Rattle.vault_store.proofs.Lookups.{kept_here, looked_up, plain_read, reading_keeps, sized_read}
-use Rattle.vault_store.proofs.LookedUp.{walk_read, list_read}
+use Rattle.vault_store.proofs.Lookups.{kept_here, plain_read, reading_keeps, sized_read}
+use Rattle.vault_store.proofs.LookedUp.{walk_read, list_read, looked_outcome}
 use Rattle.vault_store.proofs.Rests.{rest_waits, rests_still}
 use Rattle.vault_store.proofs.Waiting.{over, reading_loose, still_outcome}
 use Rattle.vault_store.proofs.answering.Vault.look_up.Goals as goal
@@ -57,75 +57,52 @@ pub returns-in-Look-clause-outcome : goal.returns-in-Look-clause-outcome
 returns-in-Look-clause-outcome g c =
     let rest = subst (λ (v : VaultView g.row.D.Denot). IsResting g.D.Reads v) (sym c.self.view_is) c.requires.rest in
     rw (← c.self.view_is) (λ second source entries.
-    let back = c.self.inside.back in
-    let folder = folder_in g.D.Reads back.folder in
-    let before = over back.waiting folder in
-    let store = view_of c.self.inside.tree back.waiting entries None in
-    let can = rest_waits (sealing_of c.self.inside.tree.keys) c.self.inside.tree.live c.self.inside.tree.claims back.waiting folder.log rest in
-    still_outcome store store folder folder source source (plain_request c.args.request.now) second can c.look.result c.args.buffer.now c.args.buffer.now (reading_loose (plain_request c.args.request.now) (plain_reply c.look.result) c.requires.reads c.requires.unsynced)
-    (looked_up c.self.inside.tree.keys c.live-tree.result.now c.self.inside.tree.live c.self.inside.tree.claims entries before source (plain_request c.args.request.now) (look c.in-Look.node) second c.look.result c.args.buffer.now c.args.buffer.now c.live-tree.ensures (ap plain_request c.in-Look.is)
-    (record { never = λ may. may; path = λ s d live. refl })
-    (plain_read c.self.inside.tree.keys c.live-tree.result.now c.self.inside.tree.claims before before (look c.in-Look.node) c.look.result c.args.buffer.now (reading_keeps (look c.in-Look.node) (plain_reply c.look.result) tt) refl
-    c.look.ensures.answer c.look.ensures.form c.look.ensures.own c.look.ensures.count)))
+    let tree = c.self.inside.tree in
+    let before = over c.self.inside.back.waiting (folder_in g.D.Reads c.self.inside.back.folder) in
+    looked_outcome tree (look c.in-Look.node) rest c.live-tree.ensures (ap plain_request c.in-Look.is) c.requires.reads c.requires.unsynced (record { never = λ may. may; path = λ s d live. refl })
+    (plain_read tree.keys c.live-tree.result.now tree.claims before before (look c.in-Look.node) c.look.result c.args.buffer.now (reading_keeps (look c.in-Look.node) (plain_reply c.look.result) tt) refl
+    c.look.ensures.answer c.look.ensures.form c.look.ensures.own c.look.ensures.count))
 
 pub returns-in-StatOf-clause-outcome : goal.returns-in-StatOf-clause-outcome
 returns-in-StatOf-clause-outcome g c =
     let rest = subst (λ (v : VaultView g.row.D.Denot). IsResting g.D.Reads v) (sym c.self.view_is) c.requires.rest in
     rw (← c.self.view_is) (λ second source entries.
-    let back = c.self.inside.back in
-    let folder = folder_in g.D.Reads back.folder in
-    let before = over back.waiting folder in
-    let store = view_of c.self.inside.tree back.waiting entries None in
-    let can = rest_waits (sealing_of c.self.inside.tree.keys) c.self.inside.tree.live c.self.inside.tree.claims back.waiting folder.log rest in
+    let tree = c.self.inside.tree in
+    let before = over c.self.inside.back.waiting (folder_in g.D.Reads c.self.inside.back.folder) in
     let sizes = subst (λ (k : KeyPair). SizesAreHeld (sealing_of k)) c.keys.ensures c.have_sizes.ensures in
-    still_outcome store store folder folder source source (plain_request c.args.request.now) second can c.stat_of.result c.args.buffer.now c.stat_of.new.buffer (reading_loose (plain_request c.args.request.now) (plain_reply c.stat_of.result) c.requires.reads c.requires.unsynced)
-    (looked_up c.self.inside.tree.keys c.live-tree.result.now c.self.inside.tree.live c.self.inside.tree.claims entries before source (plain_request c.args.request.now) (stat_of c.in-StatOf.node) second c.stat_of.result c.args.buffer.now c.stat_of.new.buffer c.live-tree.ensures (ap plain_request c.in-StatOf.is)
-    (record { never = λ may. may; path = λ s d live. refl })
-    (sized_read c.self.inside.tree.keys c.live-tree.result.now c.self.inside.tree.claims before before (stat_of c.in-StatOf.node) c.stat_of.result c.args.buffer.now c.stat_of.new.buffer tt (λ d contents stands. (sizes d c.live-tree.result.now c.self.inside.tree.claims contents stands).lengths)
-    c.stat_of.ensures.answer c.stat_of.ensures.form c.stat_of.ensures.rest c.stat_of.ensures.own c.stat_of.ensures.count)))
+    looked_outcome tree (stat_of c.in-StatOf.node) rest c.live-tree.ensures (ap plain_request c.in-StatOf.is) c.requires.reads c.requires.unsynced (record { never = λ may. may; path = λ s d live. refl })
+    (sized_read tree.keys c.live-tree.result.now tree.claims before before (stat_of c.in-StatOf.node) c.stat_of.result c.args.buffer.now c.stat_of.new.buffer tt (λ d contents stands. (sizes d c.live-tree.result.now tree.claims contents stands).lengths)
+    c.stat_of.ensures.answer c.stat_of.ensures.form c.stat_of.ensures.rest c.stat_of.ensures.own c.stat_of.ensures.count))
 
 pub returns-in-OpenNode-clause-outcome : goal.returns-in-OpenNode-clause-outcome
 returns-in-OpenNode-clause-outcome g c =
     let rest = subst (λ (v : VaultView g.row.D.Denot). IsResting g.D.Reads v) (sym c.self.view_is) c.requires.rest in
     rw (← c.self.view_is) (λ second source entries.
-    let back = c.self.inside.back in
-    let folder = folder_in g.D.Reads back.folder in
-    let before = over back.waiting folder in
-    let store = view_of c.self.inside.tree back.waiting entries None in
-    let can = rest_waits (sealing_of c.self.inside.tree.keys) c.self.inside.tree.live c.self.inside.tree.claims back.waiting folder.log rest in
-    still_outcome store store folder folder source source (plain_request c.args.request.now) second can c.open_node.result c.args.buffer.now c.args.buffer.now (reading_loose (plain_request c.args.request.now) (plain_reply c.open_node.result) c.requires.reads c.requires.unsynced)
-    (looked_up c.self.inside.tree.keys c.live-tree.result.now c.self.inside.tree.live c.self.inside.tree.claims entries before source (plain_request c.args.request.now) (open_node c.in-OpenNode.node c.in-OpenNode.mode) second c.open_node.result c.args.buffer.now c.args.buffer.now c.live-tree.ensures (ap plain_request c.in-OpenNode.is)
-    (record { never = λ may. may; path = λ s d live. refl })
-    (plain_read c.self.inside.tree.keys c.live-tree.result.now c.self.inside.tree.claims before before (open_node c.in-OpenNode.node c.in-OpenNode.mode) c.open_node.result c.args.buffer.now
-    (reading_keeps (open_node c.in-OpenNode.node c.in-OpenNode.mode) (plain_reply c.open_node.result) (subst (λ (r : Request). IsReading (plain_request r)) c.in-OpenNode.is c.requires.reads)) refl c.open_node.ensures.answer c.open_node.ensures.form c.open_node.ensures.own c.open_node.ensures.count)))
+    let tree = c.self.inside.tree in
+    let before = over c.self.inside.back.waiting (folder_in g.D.Reads c.self.inside.back.folder) in
+    looked_outcome tree (open_node c.in-OpenNode.node c.in-OpenNode.mode) rest c.live-tree.ensures (ap plain_request c.in-OpenNode.is) c.requires.reads c.requires.unsynced (record { never = λ may. may; path = λ s d live. refl })
+    (plain_read tree.keys c.live-tree.result.now tree.claims before before (open_node c.in-OpenNode.node c.in-OpenNode.mode) c.open_node.result c.args.buffer.now
+    (reading_keeps (open_node c.in-OpenNode.node c.in-OpenNode.mode) (plain_reply c.open_node.result) (subst (λ (r : Request). IsReading (plain_request r)) c.in-OpenNode.is c.requires.reads)) refl
+    c.open_node.ensures.answer c.open_node.ensures.form c.open_node.ensures.own c.open_node.ensures.count))
 
 pub returns-in-Walk-clause-outcome : goal.returns-in-Walk-clause-outcome
 returns-in-Walk-clause-outcome g c =
     let rest = subst (λ (v : VaultView g.row.D.Denot). IsResting g.D.Reads v) (sym c.self.view_is) c.requires.rest in
     rw (← c.self.view_is) (λ second source entries.
-    let back = c.self.inside.back in
-    let folder = folder_in g.D.Reads back.folder in
-    let before = over back.waiting folder in
-    let store = view_of c.self.inside.tree back.waiting entries None in
-    let can = rest_waits (sealing_of c.self.inside.tree.keys) c.self.inside.tree.live c.self.inside.tree.claims back.waiting folder.log rest in
-    still_outcome store store folder folder source source (plain_request c.args.request.now) second can c.or_lacks_memory.result c.args.buffer.now c.args.buffer.now (reading_loose (plain_request c.args.request.now) (plain_reply c.or_lacks_memory.result) c.requires.reads c.requires.unsynced)
-    (looked_up c.self.inside.tree.keys c.live-tree.result.now c.self.inside.tree.live c.self.inside.tree.claims entries before source (plain_request c.args.request.now) (walk c.in-Walk.node (names_in c.in-Walk.names.count c.in-Walk.names.bytes.now)) second c.or_lacks_memory.result c.args.buffer.now c.args.buffer.now c.live-tree.ensures (ap plain_request c.in-Walk.is)
-    (record { never = λ may. may; path = λ s d live. refl })
-    (walk_read c.self.inside.tree.keys c.live-tree.result.now c.self.inside.tree.claims before c.in-Walk.node (names_in c.in-Walk.names.count c.in-Walk.names.bytes.now) c.walk.result c.or_lacks_memory.result c.args.buffer.now c.or_lacks_memory.ensures
-    c.walk.ensures.answer c.walk.ensures.form c.walk.ensures.own c.walk.ensures.count c.walk.ensures.there)))
+    let tree = c.self.inside.tree in
+    let before = over c.self.inside.back.waiting (folder_in g.D.Reads c.self.inside.back.folder) in
+    looked_outcome tree (walk c.in-Walk.node (names_in c.in-Walk.names.count c.in-Walk.names.bytes.now)) rest c.live-tree.ensures (ap plain_request c.in-Walk.is) c.requires.reads c.requires.unsynced (record { never = λ may. may; path = λ s d live. refl })
+    (walk_read tree.keys c.live-tree.result.now tree.claims before c.in-Walk.node (names_in c.in-Walk.names.count c.in-Walk.names.bytes.now) c.walk.result c.or_lacks_memory.result c.args.buffer.now c.or_lacks_memory.ensures
+    c.walk.ensures.answer c.walk.ensures.form c.walk.ensures.own c.walk.ensures.count c.walk.ensures.there))
 
 pub returns-in-List-clause-outcome : goal.returns-in-List-clause-outcome
 returns-in-List-clause-outcome g c =
     let rest = subst (λ (v : VaultView g.row.D.Denot). IsResting g.D.Reads v) (sym c.self.view_is) c.requires.rest in
     rw (← c.self.view_is) (λ second source entries.
-    let back = c.self.inside.back in
-    let folder = folder_in g.D.Reads back.folder in
-    let before = over back.waiting folder in
-    let store = view_of c.self.inside.tree back.waiting entries None in
-    let can = rest_waits (sealing_of c.self.inside.tree.keys) c.self.inside.tree.live c.self.inside.tree.claims back.waiting folder.log rest in
+    let tree = c.self.inside.tree in
+    let before = over c.self.inside.back.waiting (folder_in g.D.Reads c.self.inside.back.folder) in
     let sizes = subst (λ (k : KeyPair). SizesAreHeld (sealing_of k)) c.keys.ensures c.have_sizes.ensures in
-    still_outcome store store folder folder source source (plain_request c.args.request.now) second can c.or_lacks_memory-in-List.result c.args.buffer.now c.list.new.buffer (reading_loose (plain_request c.args.request.now) (plain_reply c.or_lacks_memory-in-List.result) c.requires.reads c.requires.unsynced)
-    (looked_up c.self.inside.tree.keys c.live-tree.result.now c.self.inside.tree.live c.self.inside.tree.claims entries before source (plain_request c.args.request.now) (list c.in-List.node (option_copied c.bytes_of.result) c.in-List.count) second c.or_lacks_memory-in-List.result c.args.buffer.now c.list.new.buffer c.live-tree.ensures (ap plain_request c.in-List.is ∙ ap (λ (after : Option (List ℕ)). list c.in-List.node after c.in-List.count) (sym c.bytes_of.ensures))
-    (record { never = λ may. may; path = λ s d live. refl })
-    (list_read c.self.inside.tree.keys c.live-tree.result.now c.self.inside.tree.claims before c.in-List.node c.in-List.count (option_copied c.bytes_of.result) c.list.result c.or_lacks_memory-in-List.result c.args.buffer.now c.list.new.buffer c.or_lacks_memory-in-List.ensures
-    (λ d contents stands. (sizes d c.live-tree.result.now c.self.inside.tree.claims contents stands).lengths) c.list.ensures.answer c.list.ensures.form c.list.ensures.rest c.list.ensures.own c.list.ensures.count c.list.ensures.unchanged c.list.ensures.there)))
+    looked_outcome tree (list c.in-List.node (option_copied c.bytes_of.result) c.in-List.count) rest c.live-tree.ensures
+    (ap plain_request c.in-List.is ∙ ap (λ (after : Option (List ℕ)). list c.in-List.node after c.in-List.count) (sym c.bytes_of.ensures)) c.requires.reads c.requires.unsynced (record { never = λ may. may; path = λ s d live. refl })
+    (list_read tree.keys c.live-tree.result.now tree.claims before c.in-List.node c.in-List.count (option_copied c.bytes_of.result) c.list.result c.or_lacks_memory-in-List.result c.args.buffer.now c.list.new.buffer c.or_lacks_memory-in-List.ensures
+    (λ d contents stands. (sizes d c.live-tree.result.now tree.claims contents stands).lengths) c.list.ensures.answer c.list.ensures.form c.list.ensures.rest c.list.ensures.own c.list.ensures.count c.list.ensures.unchanged c.list.ensures.there))
