@@ -1,7 +1,8 @@
 pub mod Drawn
 pub mod Smallness
 pub mod Slices
+pub mod Unread
 pub mod Places
-pub mod Lines
 pub mod Ordered
+pub mod Lines
 pub mod Keys

@@ -50,26 +50,27 @@ record HasParent (tree : KeptTree) (number : ℕ) : Type 0 where
   parent : KeptNode
   there : node_of tree number ≡ Some parent
 
-module _ (contents : ℕ → Content) (now : ℕ) (tree : KeptTree) (first : KeptNode) (first_is : node_of tree root ≡ Some first) where
-  row_there : (number : ℕ) (node : KeptNode) → node_of tree number ≡ Some node → In (row_of contents now number node) (rows_from contents now 0 tree.nodes)
-  row_there number node h =
-      let at : 0 + number ≡ number = omega arith in
-      subst (λ (k : ℕ). In (row_of contents now k node) (rows_from contents now 0 tree.nodes)) at (row_in contents now 0 number tree.nodes node h)
+pub row_there : (contents : ℕ → Content) (now : ℕ) (tree : KeptTree) (number : ℕ) (node : KeptNode) → node_of tree number ≡ Some node
+    → In (row_of contents now number node) (tree_rows contents now tree).nodes
+row_there contents now tree number node h =
+    let at : 0 + number ≡ number = omega arith in
+    subst (λ (k : ℕ). In (row_of contents now k node) (rows_from contents now 0 tree.nodes)) at (row_in contents now 0 number tree.nodes node h)
 
+module _ (contents : ℕ → Content) (now : ℕ) (tree : KeptTree) (first : KeptNode) (first_is : node_of tree root ≡ Some first) where
   has_parent : (above : Path) (number : ℕ) → IsPlaceOf tree number above → HasParent tree number
   has_parent [] number at = record { parent = first; there = ap (node_of tree) at ∙ first_is }
   has_parent (m ∷ above) number at = record { parent = at.0; there = at.1 }
 
   -- a path leads to a node's row, if it leads to the node
   pub place_row : (path : Path) (number : ℕ) (node : KeptNode) → node_of tree number ≡ Some node → IsPlaceOf tree number path → IsRowAt (tree_rows contents now tree) path (row_of contents now number node)
-  place_row [] number node there at = (row_there number node there, at)
+  place_row [] number node there at = (row_there contents now tree number node there, at)
   place_row (name ∷ above) number node there at =
       let same : at.0 ≡ node = one_node at.0 node (sym at.1 ∙ there) in
       let up = has_parent above at.0.parent at.4 in (
         row_of contents now at.0.parent up.parent,
         place_row above at.0.parent up.parent up.there at.4,
         record {
-          there = row_there number node there;
+          there = row_there contents now tree number node there;
           below = at.2;
           parent = ap (λ (n : KeptNode). n.parent) (sym same);
           named = ap (λ (n : KeptNode). n.name) (sym same) ∙ at.3;
@@ -90,6 +91,13 @@ one_path rows numbered (n ∷ p) (m ∷ q) row a b =
     row_at : (rows : Rows) (p : Path) (row : Row) → IsRowAt rows p row → In row rows.nodes
     row_at rows [] row h = h.0
     row_at rows (n ∷ p) row h = h.2.there
+
+-- and one row is at a path
+pub one_row : (rows : Rows) → AreNumbered rows → (p : Path) (a b : Row) → IsRowAt rows p a → IsRowAt rows p b → a ≡ b
+one_row rows numbered [] a b x y = numbered.one a b x.0 y.0 (x.1 ∙ sym y.1)
+one_row rows numbered (n ∷ p) a b x y =
+    let up : x.0 ≡ y.0 = one_row rows numbered p x.0 y.0 x.1 y.1 in
+    numbered.names a b x.2.there y.2.there x.2.below y.2.below (x.2.parent ∙ ap (λ (r : Row). r.number) up ∙ sym y.2.parent) (x.2.named ∙ sym y.2.named)
 
 -- ---- paths as text
 

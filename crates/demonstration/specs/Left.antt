@@ -1,10 +1,10 @@
 -- The nodes of a tree as the lines that sum a demonstration up.
-use Rattle.std.specs.Prelude.{◌≡◌, ℕ, List, [], ◌∷◌, ◌++◌, length, map, true, false, Some, Contains}
+use Rattle.std.specs.Prelude.{◌≡◌, ◌≢◌, ◌⊎◌, ℕ, List, [], ◌∷◌, ◌++◌, length, map, true, false, Some, None, Contains}
 use Rattle.std.specs.Ordering.{nat_cmp}
 use Rattle.std.specs.Cmp.Lexicographic.{slice_cmp}
 use Rattle.std.specs.List.Sorted.{IsStrictlySortedBy}
 use Rattle.sha2.specs.Sha256.{sha256}
-use Rattle.tree_model.specs.Rows.{Content, Row, Rows, all_there, is_dir, joined}
+use Rattle.tree_model.specs.Rows.{Content, bad_size, Row, Rows, all_there, is_dir, joined}
 use Rattle.clear_tree.specs.Walk.{Path}
 use Rattle.tree_deed_laws.specs.Shapes.{IsRowAt}
 use Rattle.demonstration.specs.Summary.{PlainRow, directory, file}
@@ -50,3 +50,33 @@ pub record AreLeft (rows : Rows) (lines : List PlainRow) : Type 0 where
   pub each : (line : PlainRow) → Contains lines line → IsOfNode rows line
   pub all : (name : List ℕ) (above : Path) (row : Row) → IsRowAt rows (name ∷ above) row → HasLine lines (name ∷ above) row
   pub ordered : IsStrictlySortedBy (slice_cmp nat_cmp) (map text_of lines)
+
+-- ---- why there are no lines
+
+-- a content can't be read whole: no content has its size, or one of its bytes is in a chunk that doesn't open
+abbrev pub IsDamaged : Content → Type 0
+IsDamaged content = (content ≡ bad_size) ⊎ (all_there (joined content) ≡ None)
+
+-- the content of some node can't be read whole
+pub record HasDamagedFile (rows : Rows) : Type 0 where
+  pub path : Path
+  pub row : Row
+  pub at : IsRowAt rows path row
+  pub damaged : IsDamaged row.content
+
+-- two nodes below the root have one path as text
+pub record HasTwins (rows : Rows) : Type 0 where
+  pub name : List ℕ
+  pub above : Path
+  pub row : Row
+  pub at : IsRowAt rows (name ∷ above) row
+  pub other_name : List ℕ
+  pub other_above : Path
+  pub other_row : Row
+  pub other_at : IsRowAt rows (other_name ∷ other_above) other_row
+  pub apart : name ∷ above ≢ other_name ∷ other_above
+  pub alike : path_text (name ∷ above) ≡ path_text (other_name ∷ other_above)
+
+-- The rows are damaged: the content of some node can't be read whole, or two nodes have one path as text.
+abbrev pub AreDamaged : Rows → Type 0
+AreDamaged rows = HasDamagedFile rows ⊎ HasTwins rows

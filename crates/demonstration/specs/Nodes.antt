@@ -9,7 +9,7 @@ use Rattle.content_reader.specs.Reading.{IsFileOf}
 use Rattle.clear_tree.specs.Walk.{Path}
 use Rattle.clear_tree.specs.Kept.{What, KeptFile, KeptLink, KeptDir, KeptBad, KeptNode, KeptTree, node_of, path_of, size_of}
 use Rattle.demonstration.specs.declared.rows.DemoRow.{DemoRow}
-use Rattle.demonstration.specs.Left.{IsHashed, path_text}
+use Rattle.demonstration.specs.Left.{IsDamaged, IsHashed, path_text}
 
 -- a path leads to the node of a number
 abbrev pub IsPlaceOf : KeptTree → ℕ → Path → Type 0
@@ -49,3 +49,22 @@ pub record IsRowOf (keys : KeyPair) (disk : Option Disk) (tree : KeptTree) (numb
 -- the rows are those of the nodes after the root, by their numbers
 abbrev pub AreRowsOf : KeyPair → Option Disk → KeptTree → List DemoRow → Type 0
 AreRowsOf keys disk tree rows = (i : ℕ) (row : DemoRow) → slice_get rows i ≡ Some row → IsRowOf keys disk tree (suc i) row
+
+-- ---- why there is no row
+
+-- the content of the node of a number can't be read whole, if it is a file or a link
+abbrev pub IsUnreadHost : KeyPair → Option Disk → KeptTree → ℕ → Type 0
+IsUnreadHost keys disk tree number = (path : List (List ℕ)) (size : ℕ) → path_of tree number ≡ Some path → size_of tree number ≡ Some size
+    → Told disk (λ d. (sealed : List ℕ) → IsFileOf d path size sealed → IsDamaged (content_of keys sealed))
+
+-- it is one, and can't be read whole
+abbrev pub IsUnreadWhat : KeyPair → Option Disk → KeptTree → ℕ → What → Type 0
+IsUnreadWhat keys disk tree number (KeptFile size) = IsUnreadHost keys disk tree number
+IsUnreadWhat keys disk tree number (KeptLink size) = IsUnreadHost keys disk tree number
+IsUnreadWhat keys disk tree number (KeptDir identifier folder) = ⊥
+IsUnreadWhat keys disk tree number (KeptBad text) = ⊥
+
+-- some node is one
+pub record HasUnread (keys : KeyPair) (disk : Option Disk) (tree : KeptTree) : Type 0 where
+  pub number : ℕ
+  pub host : HasHost disk tree number (λ sealed. IsDamaged (content_of keys sealed))

@@ -1,12 +1,12 @@
 //! The bytes of a content file.
 
-ghost use Rattle.std.specs.Prelude.{◌≡◌, ℕ, List, length, Some, IfOk};
+ghost use Rattle.std.specs.Prelude.{◌≡◌, ℕ, List, length, Some, IfOk, IsErrOf};
 ghost use Rattle.outside.specs.Calls.{Told};
 ghost use Rattle.outside.specs.Images.{disk_in};
 ghost use Rattle.tree_model.specs.Rows.{all_there, joined};
 ghost use Rattle.file_chunks.specs.File.{content_of};
 ghost use Rattle.content_reader.specs.Reading.{IsFileOf};
-ghost use Rattle.demonstration.specs.Reading.{HasRead};
+ghost use Rattle.demonstration.specs.Reading.{HasRead, IsUnread};
 ghost use Rattle.demonstration.specs.declared.contents.TheConstants.{PIECE};
 
 use crate::error::LeftErr;
@@ -28,8 +28,10 @@ pub(crate) fn read_whole<R: Reads>(
 ) -> Result<Vec<u8>, LeftErr>
     ensures bytes { IfOk result (λ bytes. Told (disk_in (R.log folder.old)) (λ d. (sealed : List ℕ) → IsFileOf d file.now.path file.now.size sealed →
         all_there (joined (content_of keys.now sealed)) ≡ Some bytes.items)) }
+    ensures damaged { IsErrOf result LeftErr.Damaged → IsUnread (disk_in (R.log folder.old)) keys.now file.now }
     ensures log { R.log folder.new ≡ R.log folder.old }
 {
+    keys.have_32_bytes();
     let mut bytes = Vec::new(alloc);
     let mut piece = zeros(alloc, PIECE)?;
     // The clear bytes are fewer than the sealed ones, so one of these reads is the last.
@@ -62,6 +64,7 @@ fn read_piece<R: Reads>(
     requires { length piece.old.items ≡ PIECE }
     ensures room { length piece.new.items ≡ PIECE }
     ensures read { IfOk result (HasRead (disk_in (R.log folder.old)) keys.now file.now at bytes.old.items bytes.new.items) }
+    ensures damaged { IsErrOf result LeftErr.Damaged → IsUnread (disk_in (R.log folder.old)) keys.now file.now }
     ensures log { R.log folder.new ≡ R.log folder.old }
 {
     let slice = Slice {

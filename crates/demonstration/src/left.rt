@@ -1,4 +1,4 @@
-ghost use Rattle.std.specs.Prelude.{◌≡◌, IfOk, IsTrue, map};
+ghost use Rattle.std.specs.Prelude.{◌≡◌, ◌↔◌, IfOk, IsErrOf, IsTrue, map};
 ghost use Rattle.std.specs.Ordering.{nat_cmp};
 ghost use Rattle.std.specs.Cmp.Lexicographic.{slice_cmp};
 ghost use Rattle.std.specs.declared.cmp.Ordering.TheVariants.{Less};
@@ -10,7 +10,7 @@ ghost use Rattle.clear_tree.specs.Kept.{IsKept};
 ghost use Rattle.tree_loading.specs.Format.{sealing_of};
 ghost use Rattle.tree_deed_laws.specs.Shapes.{HasTree};
 ghost use Rattle.demonstration.specs.Summary.{plain_row};
-ghost use Rattle.demonstration.specs.Left.{AreLeft, text_of};
+ghost use Rattle.demonstration.specs.Left.{AreDamaged, AreLeft, text_of};
 
 use crate::error::LeftErr;
 use crate::nodes::rows_of;
@@ -35,6 +35,8 @@ pub fn rows_left<R: Reads>(
 ) -> Result<Vec<DemoRow>, LeftErr>
     ensures left { IfOk result (λ rows. Told (disk_in (R.log folder.old)) (λ d. IsKept (sealing_of keys.now) d tree.now
         → (shown : Rows) → HasTree (sealing_of keys.now) d shown → AreLeft shown (map plain_row rows.items))) }
+    ensures damaged { IsErrOf result LeftErr.Damaged → Told (disk_in (R.log folder.old)) (λ d. IsKept (sealing_of keys.now) d tree.now
+        → (shown : Rows) → HasTree (sealing_of keys.now) d shown → AreDamaged shown) }
     ensures log { R.log folder.new ≡ R.log folder.old }
 {
     let mut rows = rows_of(alloc, folder, keys, tree)?;
@@ -47,7 +49,7 @@ pub fn rows_left<R: Reads>(
 
 // Whether each row's path is before that of the next one.
 fn are_ordered(rows: &[DemoRow]) -> bool
-    ensures { IsTrue result → IsStrictlySortedBy (slice_cmp nat_cmp) (map text_of (map plain_row rows.now)) }
+    ensures { IsTrue result ↔ IsStrictlySortedBy (slice_cmp nat_cmp) (map text_of (map plain_row rows.now)) }
 {
     for index in 1..rows.len() {
         if !stands_before(&rows[index - 1], &rows[index]) {
@@ -58,7 +60,7 @@ fn are_ordered(rows: &[DemoRow]) -> bool
 }
 
 fn stands_before(a: &DemoRow, b: &DemoRow) -> bool
-    ensures { IsTrue result → slice_cmp nat_cmp a.now.path.items b.now.path.items ≡ Less }
+    ensures { IsTrue result ↔ (slice_cmp nat_cmp a.now.path.items b.now.path.items ≡ Less) }
 {
     a.path.cmp(&b.path) == Ordering::Less
 }

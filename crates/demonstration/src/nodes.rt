@@ -1,12 +1,14 @@
 //! The row of each node, by its number.
 
-ghost use Rattle.std.specs.Prelude.{◌≡◌, ◌≢◌, suc, ◌∷◌, ◌++◌, length, false, Some, IfOk};
+ghost use Rattle.std.specs.Prelude.{◌≡◌, ◌≢◌, ◌<◌, suc, ◌∷◌, ◌++◌, length, false, Some, IfOk, IsErrOf};
 ghost use Rattle.sha2.specs.Sha256.{sha256};
 ghost use Rattle.outside.specs.Images.{disk_in};
 ghost use Rattle.tree_model.specs.Rows.{all_there, joined};
 ghost use Rattle.file_chunks.specs.File.{content_of};
 ghost use Rattle.clear_tree.specs.Built.{kept_what};
-ghost use Rattle.demonstration.specs.Nodes.{AreRowsOf, HasHost, IsRowOf, IsTextBelow, IsWhat};
+ghost use Rattle.clear_tree.specs.Kept.{IsTree};
+ghost use Rattle.demonstration.specs.Left.{IsDamaged};
+ghost use Rattle.demonstration.specs.Nodes.{AreRowsOf, HasHost, HasUnread, IsRowOf, IsTextBelow, IsUnreadHost, IsUnreadWhat, IsWhat};
 
 use crate::contents::read_whole;
 use crate::error::LeftErr;
@@ -23,7 +25,8 @@ const ROOT: u64 = 0;
 
 // The path of a node of this name as text, by the row of its parent.
 fn text_below(alloc: Global, rows: &[DemoRow], parent: u64, name: &[u8]) -> Result<Vec<u8>, LeftErr>
-    ensures { IfOk result (λ text. IsTextBelow rows.now parent name.now text.items) }
+    ensures text { IfOk result (λ text. IsTextBelow rows.now parent name.now text.items) }
+    ensures damaged { IsErrOf result LeftErr.Damaged → length rows.now < parent }
 {
     if parent == ROOT {
         return Ok(name.to_vec(alloc)?);
@@ -70,6 +73,7 @@ fn bytes_of<R: Reads>(
 ) -> Result<Vec<u8>, LeftErr>
     ensures bytes { IfOk result (λ bytes. HasHost (disk_in (R.log folder.old)) tree.now number
         (λ sealed. all_there (joined (content_of keys.now sealed)) ≡ Some bytes.items)) }
+    ensures damaged { IsErrOf result LeftErr.Damaged → IsUnreadHost keys.now (disk_in (R.log folder.old)) tree.now number }
     ensures log { R.log folder.new ≡ R.log folder.old }
 {
     let Some(path) = tree.path(number) else {
@@ -94,6 +98,8 @@ fn row_of<R: Reads>(
 ) -> Result<DemoRow, LeftErr>
     ensures path { IfOk result (λ row. row.path.items ≡ path.items) }
     ensures what { IfOk result (λ row. IsWhat keys.now (disk_in (R.log folder.old)) tree.now number (kept_what what.now) row) }
+    ensures damaged { IsErrOf result LeftErr.Damaged
+        → IsUnreadWhat keys.now (disk_in (R.log folder.old)) tree.now number (kept_what what.now) }
     ensures log { R.log folder.new ≡ R.log folder.old }
 {
     match what {
@@ -124,6 +130,8 @@ fn row_at<R: Reads>(
     requires { number ≢ 0 }
     ensures row { IfOk result (λ row. AreRowsOf keys.now (disk_in (R.log folder.old)) tree.now rows.now
         → IsRowOf keys.now (disk_in (R.log folder.old)) tree.now number row) }
+    ensures damaged { IsErrOf result LeftErr.Damaged → IsTree tree.now → suc (length rows.now) ≡ number → number < length tree.now.nodes
+        → HasHost (disk_in (R.log folder.old)) tree.now number (λ sealed. IsDamaged (content_of keys.now sealed)) }
     ensures log { R.log folder.new ≡ R.log folder.old }
 {
     let Some(node) = tree.node(number) else {
@@ -144,6 +152,7 @@ pub(crate) fn rows_of<R: Reads>(
 ) -> Result<Vec<DemoRow>, LeftErr>
     ensures rows { IfOk result (λ rows. AreRowsOf keys.now (disk_in (R.log folder.old)) tree.now rows.items) }
     ensures count { IfOk result (λ rows. suc (length rows.items) ≡ length tree.now.nodes) }
+    ensures damaged { IsErrOf result LeftErr.Damaged → HasUnread keys.now (disk_in (R.log folder.old)) tree.now }
     ensures log { R.log folder.new ≡ R.log folder.old }
 {
     let mut reader = ContentReader::new(alloc)?;

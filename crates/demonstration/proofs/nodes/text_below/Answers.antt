@@ -5,8 +5,8 @@ use Rattle.std.proofs.lemmas.Option.{gets}
 use Rattle.demonstration.specs.Nodes.{below}
 use Rattle.demonstration.proofs.nodes.text_below.Goals as goal
 
-pub returns-in_ok-joined-in-Some : goal.returns-in_ok-joined-in-Some
-returns-in_ok-joined-in-Some c =
+pub returns-in_ok-joined-in-Some-clause-text : goal.returns-in_ok-joined-in-Some-clause-text
+returns-in_ok-joined-in-Some-clause-text c =
     let behind = c.if-parent-eq-ROOT.false in
     let is : slice_get c.args.rows.now (c.args.parent - 1) ≡ Some c.in-Some.above.now = grind (arith, common_steps, gets, c.in-Some.ensures.lookup) in
     below (c.args.parent - 1) c.in-Some.above.now (omega (arith, behind)) is
