@@ -41,40 +41,19 @@ late_by rows request second answer is accepted = go (early_refusal rows request)
 -- ---- commits
 
 -- a change of a tree at rest, and deeds that lead on to it
-pub record Led : Type 0 where
-  pub s : Sealing
-  pub request : PlainRequest
-  pub second : ℕ
-  pub answer : Answer
-  pub deeds : List PlainDeed
-  pub live : HeldTree
-  pub live' : HeldTree
-  pub claims : List (List ℕ × ℕ)
-  pub claims' : List (List ℕ × ℕ)
-  pub log : Option Log
+pub record Led (s : Sealing) (request : PlainRequest) (second : ℕ) (answer : Answer) (deeds : List PlainDeed) (live live' : HeldTree) (claims claims' : List (List ℕ × ℕ)) (log : Option Log) : Type 0 where
   pub leads : LeadsOn s request second answer live live' claims claims' deeds
   pub rest : Told log (IsAtRest s live claims)
 
 -- from a vault's tree to another
 abbrev pub led_of : (old new : VaultTree) (request : PlainRequest) (second : ℕ) (answer : Answer) (deeds : List PlainDeed) (log : Option Log)
-    → LeadsOn (sealing_of old.keys) request second answer old.live new.live old.claims new.claims deeds → Told log (IsAtRest (sealing_of old.keys) old.live old.claims) → Led
-led_of old new request second answer deeds log leads rest = record {
-  s = sealing_of old.keys;
-  request = request;
-  second = second;
-  answer = answer;
-  deeds = deeds;
-  live = old.live;
-  live' = new.live;
-  claims = old.claims;
-  claims' = new.claims;
-  log = log;
-  leads = leads;
-  rest = rest;
-}
+    → LeadsOn (sealing_of old.keys) request second answer old.live new.live old.claims new.claims deeds → Told log (IsAtRest (sealing_of old.keys) old.live old.claims)
+    → Led (sealing_of old.keys) request second answer deeds old.live new.live old.claims new.claims log
+led_of old new request second answer deeds log leads rest = record { leads = leads; rest = rest }
 
-module _ (led : Led) where
-  open led use {s, request, second, answer, deeds, live, live', claims, claims', log, leads, rest}
+module _ {s : Sealing} {request : PlainRequest} {second : ℕ} {answer : Answer} {deeds : List PlainDeed} {live live' : HeldTree} {claims claims' : List (List ℕ × ℕ)} {log : Option Log}
+    (led : Led s request second answer deeds live live' claims claims' log) where
+  open led use {leads, rest}
 
   abbrev Makes : Log → Type 0
   Makes l = MakesStep s request second deeds (now l) live live' claims claims'

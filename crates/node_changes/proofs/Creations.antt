@@ -5,8 +5,7 @@ use Rattle.std.proofs.lemmas.Slice.Eq.{bytes_eq-Decides}
 use Rattle.std.specs.FinMap.{get}
 use Rattle.std.specs.Option.{option_and_then}
 use Rattle.outside.specs.Disk.{Disk}
-use Rattle.deeds.specs.Deeds.{PlainDeed, DoesAll, in_order}
-use Rattle.deeds.proofs.Doing.{same_run}
+use Rattle.deeds.specs.Deeds.{PlainDeed, DoesAll}
 use Rattle.vault_keys.specs.Keys.{KeyPair}
 use Rattle.tree_model.specs.Rows.{Content, chunks, Row, Rows, root, qid_of, row_of, child_of}
 use Rattle.tree_model.specs.Asked.{create, qid}
@@ -38,6 +37,7 @@ use Rattle.name_places.specs.Claims.{claimed_in, AreClaimsOf, claims_in}
 use Rattle.name_places.specs.Laws.{ClaimsAreWhole, KeptClaims}
 use Rattle.live_tree_laws.specs.Strays.{KeepsStrays}
 use Rattle.node_changes.proofs.Refusing.{find_in, find_true}
+use Rattle.node_changes.proofs.Stepping.{LeadsTo, leads_to, makes_step}
 use Rattle.node_changes.specs.Changed.{StandsOn, MakesStep, ShowsRows}
 use Rattle.node_changes.specs.Within.{AreWithin}
 
@@ -71,16 +71,34 @@ new_content contents next = ap (λ (b : Bool). cond b (chunks true []) (contents
 other_content : (contents : ℕ → Content) (next : ℕ) → AgreeBut next contents (with_new_content contents next)
 other_content contents next other apart = ap (λ (b : Bool). cond b (chunks true []) (contents other)) (ne_eqb other next apart)
 
--- a name and a node that can be added to the directory of a number
+-- a name that a node can get in the directory of a number, of identifier i
+pub record CanBeNamed (s : Sealing) (d : Disk) (live : HeldTree) (parent : ℕ) (i n : List ℕ) (long : Bool) (drawn : Option (List ℕ)) : Type 0 where
+  pub free : IsFree live parent n
+  pub named : is_name n (s.open_name i (s.seal i n)) ≡ true
+  pub part : long ≡ false → s.is_part (s.seal i n) ≡ true
+  pub untaken : taken s d (claims_in s live) i n drawn ≡ None
+
+pub is_new : (keys : KeyPair) → KeptClaims keys → ClaimsAreWhole → (d : Disk) (tree : Tree) (live : HeldTree) → Holds (sealing_of keys) tree live → (p : Path) (parent : ℕ) → IsAt live p parent
+    → (i n : List ℕ) (long : Bool) (drawn : Option (List ℕ)) → CanBeNamed (sealing_of keys) d live parent i n long drawn → get tree.nodes p ≡ Some (Dir i) → laws.IsNew (sealing_of keys) d tree p i n long drawn
+is_new keys kept whole d tree live holds p parent at i n long drawn can dir_at = record {
+  parent = dir_at;
+  free = (free_names_are_free (sealing_of keys) tree live p parent n holds at).0 can.free;
+  place = record {
+    named = can.named;
+    part = can.part;
+    claims = claims_in (sealing_of keys) live;
+    claimed = are_claimed keys kept whole d tree live holds;
+    untaken = can.untaken;
+  };
+}
+
+-- the directory of the number, in which a node can come by it
 pub record CanCome (s : Sealing) (d : Disk) (live : HeldTree) (parent : ℕ) (i n : List ℕ) (long : Bool) (drawn : Option (List ℕ)) : Type 0 where
   pub held : HeldNode
   pub there : node_of live parent ≡ Some held
   pub folder : List ℕ
   pub dir : held.kept.what ≡ KeptDir i folder
-  pub free : IsFree live parent n
-  pub named : is_name n (s.open_name i (s.seal i n)) ≡ true
-  pub part : long ≡ false → s.is_part (s.seal i n) ≡ true
-  pub untaken : taken s d (claims_in s live) i n drawn ≡ None
+  pub name : CanBeNamed s d live parent i n long drawn
 
 pub dir_node : (s : Sealing) (x : Node) (i f : List ℕ) → what_of s x ≡ KeptDir i f → x ≡ Dir i
 dir_node s (File b) i f e = absurd cc
@@ -89,31 +107,19 @@ dir_node s (Dir j) i f e = cc
 dir_node s (Bad t) i f e = absurd cc
 
 -- a node comes to a directory, by deeds that make it on the disk
-pub record Coming : Type 0 where
-  pub keys : KeyPair
+pub record Coming (keys : KeyPair) (d : Disk) (live live' : HeldTree) (parent now : ℕ) (i n : List ℕ) (long : Bool) (drawn : Option (List ℕ)) (x : Node) (deeds : List PlainDeed) : Type 0 where
   pub kept : KeptClaims keys
   pub whole : ClaimsAreWhole
-  pub d : Disk
-  pub live : HeldTree
-  pub live' : HeldTree
-  pub claims : List (List ℕ × ℕ)
-  pub claims' : List (List ℕ × ℕ)
-  pub parent : ℕ
-  pub now : ℕ
-  pub i : List ℕ
-  pub n : List ℕ
-  pub long : Bool
-  pub drawn : Option (List ℕ)
   pub can : CanCome (sealing_of keys) d live parent i n long drawn
-  pub x : Node
   pub empty : content_of (what_of (sealing_of keys) x) (chunks true []) ≡ content_in (sealing_of keys) x
-  pub deeds : List PlainDeed
+  pub within : AreWithin deeds
   pub creates : (tree : Tree) (p : Path) → IsTreeOf (sealing_of keys) d tree → laws.IsNew (sealing_of keys) d tree p i n long drawn → laws.Leads (sealing_of keys) d deeds (with_node tree (n ∷ p) x long)
   pub spares : (tree : Tree) (p : Path) (after : Disk) → IsTreeOf (sealing_of keys) d tree → laws.IsNew (sealing_of keys) d tree p i n long drawn → DoesAll deeds d after → KeepsStrays (sealing_of keys) d after
   pub made : live' ≡ added live (new_node parent n (what_of (sealing_of keys) x) (place_of (sealing_of keys) i n long).entry long now) now
 
-module _ (coming : Coming) where
-  open coming use {keys, kept, whole, d, live, live', claims, claims', parent, now, i, n, long, drawn, can, x, empty, deeds, creates, spares, made}
+module _ {keys : KeyPair} {d : Disk} {live live' : HeldTree} {parent now : ℕ} {i n : List ℕ} {long : Bool} {drawn : Option (List ℕ)} {x : Node} {deeds : List PlainDeed}
+    (coming : Coming keys d live live' parent now i n long drawn x deeds) (claims claims' : List (List ℕ × ℕ)) where
+  open coming use {kept, whole, can, empty, within, creates, spares, made}
 
   abbrev k : Sealing
   k = sealing_of keys
@@ -135,39 +141,23 @@ module _ (coming : Coming) where
         it.at ∙ ap Some (dir_node k it.node i can.folder (sym it.is.what ∙ ap (λ (z : HeldNode). z.kept.what) same ∙ can.dir))
 
     new : laws.IsNew k d tree at.0 i n long drawn
-    new = record {
-      parent = dir_at;
-      free = (free_names_are_free k tree live at.0 parent n stands.holds at.1).0 can.free;
-      place = record {
-        named = can.named;
-        part = can.part;
-        claims = claims_in k live;
-        claimed = are_claimed keys kept whole d tree live stands.holds;
-        untaken = can.untaken;
-      };
-    }
+    new = is_new keys kept whole d tree live stands.holds at.0 parent at.1 i n long drawn can.name dir_at
 
     leads : laws.Leads k d deeds (with_node tree (n ∷ at.0) x long)
     leads = creates tree at.0 stands.is new
-
-    does : DoesAll (in_order deeds) d leads.after
-    does = subst (λ (ds : List PlainDeed). DoesAll ds d leads.after) (sym leads.ordered) leads.does
-
-    spared : KeepsStrays k d leads.after
-    spared = spares tree at.0 leads.after stands.is new leads.does
 
     stands_after : AreClaimsOf k (added live node' now) claims' → StandsOn k leads.after live' claims' (with_new_content contents live.next)
     stands_after claimed = subst (λ (l : HeldTree). StandsOn k leads.after l claims' (with_new_content contents live.next)) (sym made) (record {
       tree = with_node tree (n ∷ at.0) x long;
       is = leads.clear;
-      holds = making_holds k d tree live at.0 parent i n x long now stands.is stands.holds at.1 dir_at can.free;
+      holds = making_holds k d tree live at.0 parent i n x long now stands.is stands.holds at.1 dir_at can.name.free;
       claimed = claimed;
-      are = making_keeps_contents k tree live at.0 parent i n x long now contents (with_new_content contents live.next) stands.holds at.1 dir_at can.free stands.are
+      are = making_keeps_contents k tree live at.0 parent i n x long now contents (with_new_content contents live.next) stands.holds at.1 dir_at can.name.free stands.are
           (other_content contents live.next) (ap (content_of (what_of k x)) (new_content contents live.next) ∙ empty);
     })
 
   -- ---- with the step
-  module _ (within : AreWithin deeds) (name : List ℕ) (is_directory : Bool) (mode : ℕ) (rows : RowsAreAdded live live' parent n is_directory now)
+  module _ (name : List ℕ) (is_directory : Bool) (mode : ℕ) (rows : RowsAreAdded live live' parent n is_directory now)
       (claimed : (contents : ℕ → Content) → StandsOn (sealing_of keys) d live claims contents → AreClaimsOf (sealing_of keys) (added live node' now) claims')
       (step_is : (contents : ℕ → Content) → step (live_rows contents live) (create parent name is_directory mode) now
       ≡ stepped (with_new (live_rows contents live) (new_row (live_rows contents live) (live_row contents (parent, can.held)) n is_directory now) now)
@@ -180,17 +170,13 @@ module _ (coming : Coming) where
           (other_content contents live.next) (new_content contents live.next) ∙ ap wrapped (sym (ap (λ (w : Stepped). w.rows) (step_is contents)));
     }
 
+    led : (contents : ℕ → Content) → StandsOn (sealing_of keys) d live claims contents → LeadsTo k (step (live_rows contents live) (create parent name is_directory mode) now).rows deeds d live' claims'
+    led contents stands =
+        let lead = leads contents stands in
+        leads_to lead (spares stands.tree (at contents stands).0 lead.after stands.is (new contents stands) lead.does) (shows contents stands)
+
     pub makes : (contents : ℕ → Content) → StandsOn (sealing_of keys) d live claims contents → MakesStep (sealing_of keys) (create parent name is_directory mode) now deeds d live live' claims claims'
-    makes contents stands = record {
-      after = (leads contents stands).after;
-      does = does contents stands;
-      repeatable = (leads contents stands).repeatable;
-      within = within;
-      strays = spared contents stands;
-      stepped = λ others more.
-          let same : (leads others more).after ≡ (leads contents stands).after = same_run (in_order deeds) d (leads others more).after (leads contents stands).after (does others more) (does contents stands) in
-          subst (λ (y : Disk). ShowsRows k (step (live_rows others live) (create parent name is_directory mode) now).rows y live' claims') same (shows others more);
-    }
+    makes = makes_step within led
 
 -- ---- the step of a create
 

@@ -1,25 +1,25 @@
 -- What was drawn for a new node, why it was refused, and what its commit made of it.
-use Rattle.std.proofs.Common.{◌≡◌, ℕ, Bool, List, [], ◌++◌, Option, Some, None, IfSome, IsTrue, Ok, length, refl, sym, ap, ◌∙◌, subst, inl, inr, ◌⊎◌, true, false, true≢false, append_assoc}
+use Rattle.std.proofs.Common.{◌≡◌, ℕ, Bool, List, [], ◌++◌, Option, Some, None, IfSome, IsTrue, length, refl, sym, ap, ◌∙◌, subst, inl, inr, ◌⊎◌, true, false, true≢false, append_assoc}
 use Rattle.std.proofs.lemmas.List.{append-nil}
 use Rattle.std.specs.Prelude.{⊤}
 use Rattle.vault_path.specs.Parts.{is_path}
 use Rattle.outside.specs.Disk.{Disk, Path as HostPath}
 use Rattle.outside.specs.Calls.{Changes, Told}
 use Rattle.outside.specs.Images.{Log, now, disk_in}
-use Rattle.outside.proofs.Told.{told_then, told_always, unchanged, changed_by}
+use Rattle.outside.proofs.Told.{told_then, told_both, told_always, unchanged, changed_by, both_changed, changed_from}
 use Rattle.deeds.specs.Deeds.{PlainDeed, DoesAll, in_order}
+use Rattle.deeds.proofs.Doing.{told_disk}
 use Rattle.chunk_journal.specs.Journal.{AnyMoment, HasCommitted}
 use Rattle.vault_keys.specs.Keys.{KeyPair}
 use Rattle.tree_model.specs.declared.refusal.Refusal.{Refusal}
 use Rattle.tree_model.specs.declared.refusal.Refusal.TheVariants as refusals
-use Rattle.tree_model.specs.Names.{clear_name}
 use Rattle.tree_model.specs.Asked.{PlainRequest, create}
 use Rattle.tree_model.specs.Step.{Answer}
 use Rattle.clear_tree.specs.Walk.{Sealing}
 use Rattle.clear_tree.specs.Places.{host_folder}
 use Rattle.tree_loading.specs.Format.{sealing_of}
 use Rattle.tree_deed_laws.specs.Deeds.{Place, create_file_deeds, create_dir_deeds}
-use Rattle.live_tree.specs.Held.{HeldTree, live_rows, IsTree}
+use Rattle.live_tree.specs.Held.{HeldTree, live_rows}
 use Rattle.tree_model.specs.History.{is_refusal}
 use Rattle.name_places.specs.declared.directory.NewDirectory.{NewDirectory}
 use Rattle.name_places.specs.New.{identifier_of}
@@ -28,13 +28,12 @@ use Rattle.name_places.specs.Asked.{IsTaken}
 use Rattle.name_places.specs.Asked.{identifier_in as drawn_in}
 use Rattle.node_changes.specs.declared.site.Site.{Site}
 use Rattle.node_changes.specs.Causes.{RefusalCause}
-use Rattle.node_changes.specs.Changed.{IsAtRest, MakesStep, MayRefuse}
+use Rattle.node_changes.specs.Changed.{IsAtRest, IsStepAnswer, MakesStep, MayRefuse}
 use Rattle.node_changes.specs.Placed.{taken_for, DrawsHeader, DrawsIdentifier, IsIdentifierOf, GoesOn}
 use Rattle.node_changes.proofs.Committing.{late_by}
-use Rattle.node_changes.specs.Creation.{HasCreated, IsDraw, IsFoundTaken, MakesDrawn, MayHaveCreated}
-use Rattle.node_changes.specs.Creating.{DrawsDirectory, DrawsHead, DrawsIf, IsPlaceRefusal, IsRefusal, IsSite, IsSiteRefusal, IsUntaken, MakesOn}
-use Rattle.node_changes.proofs.Makings.{told_taken, is_late, is_accepted, never_removed}
-use Rattle.node_changes.specs.declared.tree.VaultTree.{VaultTree}
+use Rattle.node_changes.specs.Creation.{HasCreated, IsDraw, IsFoundTaken, MayHaveCreated}
+use Rattle.node_changes.specs.Creating.{DrawsDirectory, DrawsHead, DrawsIf, HasRefused, IsPlaceRefusal, IsReady, IsRefusal, IsSiteRefusal, IsUntaken}
+use Rattle.node_changes.proofs.Makings.{Asked, told_taken, is_late, is_accepted, never_removed}
 
 -- ---- what was drawn
 
@@ -202,56 +201,33 @@ place_cases site drawn live claims disk failed refusals.RandomFault h = absurd h
 place_cases site drawn live claims disk failed refusals.OutOfMemory h = absurd h
 
 -- a create that is asked for, at a site
-pub record Asked : Type 0 where
-  pub keys : KeyPair
-  pub parts : EntriesAreParts keys
-  pub live : HeldTree
-  pub claims : List (List ℕ × ℕ)
-  pub parent : ℕ
-  pub site : Site
-  pub at : IsSite (sealing_of keys) live parent site
-  pub is : IsTree live
-  pub name : List ℕ
-  pub clear : clear_name name ≡ Ok site.name
-  pub is_directory : Bool
-  pub mode : ℕ
-  pub second : ℕ
-
--- of a vault's tree
-abbrev pub asked_of : (tree : VaultTree) → EntriesAreParts tree.keys → (parent : ℕ) (site : Site) → IsSite (sealing_of tree.keys) tree.live parent site → IsTree tree.live
-    → (name : List ℕ) → clear_name name ≡ Ok site.name → Bool → ℕ → ℕ → Asked
-asked_of tree parts parent site at is name clear is_directory mode second = record {
-  keys = tree.keys;
-  parts = parts;
-  live = tree.live;
-  claims = tree.claims;
-  parent = parent;
-  site = site;
-  at = at;
-  is = is;
-  name = name;
-  clear = clear;
-  is_directory = is_directory;
-  mode = mode;
-  second = second;
-}
-
-module _ (asked : Asked) where
-  open asked use {keys, parts, live, claims, parent, site, at, is, name, clear, is_directory, mode, second}
-
+module _ {keys : KeyPair} {live : HeldTree} {parent : ℕ} {site : Site} {name : List ℕ} (asked : Asked keys live parent site name) (claims : List (List ℕ × ℕ)) (is_directory : Bool) (mode second : ℕ) where
   abbrev k : Sealing
   k = sealing_of keys
 
-  pub late_refused : (drawn : Option (List ℕ)) (d : Disk) → IsRefusal (sealing_of keys) (create parent name is_directory mode) second drawn refusals.DeviceFault live claims d
-  late_refused drawn d contents stands = λ others more. is_late keys live parent site at name clear is_directory mode second others
+  late_refused : (drawn : Option (List ℕ)) (d : Disk) → IsRefusal (sealing_of keys) (create parent name is_directory mode) second drawn refusals.DeviceFault live claims d
+  late_refused drawn d contents stands = λ others more. is_late asked is_directory mode second others
 
-  pub random_refused : (drawn : Option (List ℕ)) (d : Disk) → IsRefusal (sealing_of keys) (create parent name is_directory mode) second drawn refusals.RandomFault live claims d
-  random_refused drawn d contents stands = λ others more. is_late keys live parent site at name clear is_directory mode second others
+  module _ (disk : Option Disk) (drew drew' : Option (List ℕ)) where
+    -- the random source failed
+    pub random_refused : IsDraw is_directory None drew drew' → HasRefused keys (create parent name is_directory mode) is_directory second live claims drew drew' disk refusals.RandomFault
+    random_refused draw = record {
+      drawn = None;
+      draw = draw;
+      refused = told_always disk (IsRefusal k (create parent name is_directory mode) second None refusals.RandomFault live claims) (λ d contents stands. λ others more. is_late asked is_directory mode second others);
+      found = never_taken is_directory drew drew' refusals.RandomFault (λ path is. absurd cc);
+    }
 
-  pub memory_refused : (drawn : Option (List ℕ)) (d : Disk) → IsRefusal (sealing_of keys) (create parent name is_directory mode) second drawn refusals.OutOfMemory live claims d
-  memory_refused drawn d contents stands = λ others more. never_removed keys live parent site at name clear is_directory mode second is others
+    -- memory ran out
+    pub memory_refused : (drawn : Option (List ℕ)) → IsDraw is_directory drawn drew drew' → HasRefused keys (create parent name is_directory mode) is_directory second live claims drew drew' disk refusals.OutOfMemory
+    memory_refused drawn draw = record {
+      drawn = drawn;
+      draw = draw;
+      refused = told_always disk (IsRefusal k (create parent name is_directory mode) second drawn refusals.OutOfMemory live claims) (λ d contents stands. λ others more. never_removed asked is_directory mode second others);
+      found = never_taken is_directory drew drew' refusals.OutOfMemory (λ path is. absurd cc);
+    }
 
-  module _ (disk : Option Disk) (drawn : Option NewDirectory) (own : IfSome drawn (λ (directory : NewDirectory). directory.folder ≡ (sealing_of keys).folder_of directory.identifier)) where
+  module _ (parts : EntriesAreParts keys) (disk : Option Disk) (drawn : Option NewDirectory) (own : IfSome drawn (λ (directory : NewDirectory). directory.folder ≡ (sealing_of keys).folder_of directory.identifier)) where
     pub place_refused : (failed : Type 0) (refusal : Refusal) → IsPlaceRefusal site drawn live claims disk failed refusal
         → Told disk (IsRefusal (sealing_of keys) (create parent name is_directory mode) second (drawn_in drawn) refusal live claims)
     place_refused failed refusal it = go (place_cases site drawn live claims disk failed refusal it)
@@ -263,91 +239,69 @@ module _ (asked : Asked) where
         go (inr h) = subst (λ (r : Refusal). Told disk (IsRefusal k (create parent name is_directory mode) second (drawn_in drawn) r live claims)) (sym h.1)
             (told_then disk (IsTaken site.folder site.place drawn live claims (Some h.0)) (IsRefusal k (create parent name is_directory mode) second (drawn_in drawn) (refusals.PlaceTaken h.0) live claims) h.2
             (λ d taken contents stands. (
-              told_taken keys live parent site at name clear parts drawn own d claims (Some h.0) taken contents stands,
-              λ others more. is_accepted keys live parent site at name clear is_directory mode second is others,
+              told_taken asked parts drawn own d claims (Some h.0) taken contents stands,
+              λ others more. is_accepted asked is_directory mode second others,
             )))
 
     -- and if no place is taken
     pub untaken : Told disk (IsTaken site.folder site.place drawn live claims None) → Told disk (IsUntaken (sealing_of keys) (create parent name is_directory mode) (drawn_in drawn) live claims)
     untaken told =
         told_then disk (IsTaken site.folder site.place drawn live claims None) (IsUntaken k (create parent name is_directory mode) (drawn_in drawn) live claims) told
-        (λ d taken contents stands. told_taken keys live parent site at name clear parts drawn own d claims None taken contents stands)
+        (λ d taken contents stands. told_taken asked parts drawn own d claims None taken contents stands)
 
 -- ---- the commit
 
--- a create, from one tree in memory to another
-pub record Creating : Type 0 where
-  pub keys : KeyPair
-  pub request : PlainRequest
-  pub second : ℕ
-  pub live : HeldTree
-  pub live' : HeldTree
-  pub claims : List (List ℕ × ℕ)
-  pub claims' : List (List ℕ × ℕ)
-  pub drawn : Option (List ℕ)
-
--- from a vault's tree to another
-abbrev pub creating_of : VaultTree → VaultTree → PlainRequest → ℕ → Option (List ℕ) → Creating
-creating_of old new request second drawn = record {
-  keys = old.keys;
-  request = request;
-  second = second;
-  live = old.live;
-  live' = new.live;
-  claims = old.claims;
-  claims' = new.claims;
-  drawn = drawn;
-}
-
-module _ (creating : Creating) where
-  open creating use {keys, request, second, live, live', claims, claims', drawn}
-
+-- deeds that are ready, for a tree at rest
+module _ {keys : KeyPair} {request : PlainRequest} {is_directory : Bool} {second : ℕ} {answer : Answer} {live live' : HeldTree} {claims claims' : List (List ℕ × ℕ)} {drew drew' : Option (List ℕ)} {deeds : List PlainDeed} (log : Option Log)
+    (ready : IsReady keys request is_directory second answer live live' claims claims' drew drew' (disk_in log) deeds) (rest : Told log (IsAtRest (sealing_of keys) live claims)) where
   abbrev o : Sealing
   o = sealing_of keys
 
-  module _ (answer : Answer) (deeds : List PlainDeed) (makes : MakesOn (sealing_of keys) request second answer drawn live live' claims claims' deeds) where
-    pub told_makes : (old : Option Log) → Told old (IsAtRest (sealing_of keys) live claims) → Told (disk_in old) (IsUntaken (sealing_of keys) request drawn live claims)
-        → Told old (λ (l : Log). MakesStep (sealing_of keys) request second deeds (now l) live live' claims claims')
-    told_makes None rest free = tt
-    told_makes (Some x) rest free = (makes (now x) rest.contents rest.stands (free rest.contents rest.stands)).0
+  abbrev AreFree : Log → Type 0
+  AreFree l = taken_for o (now l) live request ready.drawn ≡ None
 
-    pub can_be_done : (old : Option Log) → Told old (IsAtRest (sealing_of keys) live claims) → Told (disk_in old) (IsUntaken (sealing_of keys) request drawn live claims)
-        → Told old (λ (l : Log). (after : Disk) × DoesAll (in_order deeds) (now l) after)
-    can_be_done old rest free =
-        told_then old (λ (l : Log). MakesStep o request second deeds (now l) live live' claims claims') (λ (l : Log). (after : Disk) × DoesAll (in_order deeds) (now l) after) (told_makes old rest free) (λ l m. (m.after, m.does))
+  abbrev Makes : Log → Type 0
+  Makes l = AreFree l × MakesStep o request second deeds (now l) live live' claims claims' × IsStepAnswer o request second answer (now l) live claims
 
-    pub has_created : (drew drew' : Option (List ℕ)) → MakesDrawn keys deeds drawn drew drew' → (old new : Option Log) → Told old (IsAtRest (sealing_of keys) live claims)
-        → Told (disk_in old) (IsUntaken (sealing_of keys) request drawn live claims) → Changes old new (AnyMoment deeds) → Changes old new (HasCommitted deeds)
-        → Changes old new (HasCreated keys request second answer drawn live live' claims claims' drew drew')
-    has_created drew drew' made_of None None rest free any committed = tt
-    has_created drew drew' made_of None (Some y) rest free any committed = absurd any
-    has_created drew drew' made_of (Some x) None rest free any committed = absurd any
-    has_created drew drew' made_of (Some x) (Some y) rest free any committed =
-        let it = makes (now x) rest.contents rest.stands (free rest.contents rest.stands) in
-        record {
-          changed = record { deeds = deeds; makes = it.0; answer_is = it.1; any_moment = any; committed = committed };
-          untaken = free rest.contents rest.stands;
-          made_of = made_of;
-        }
+  told_free : Told log (λ l. IsUntaken o request ready.drawn live claims (now l))
+  told_free = told_disk log (IsUntaken o request ready.drawn live claims) ready.untaken
 
-    pub may_have_created : is_refusal answer.reply ≡ false → (drew drew' : Option (List ℕ)) → MakesDrawn keys deeds drawn drew drew' → (old new : Option Log) → Told old (IsAtRest (sealing_of keys) live claims) → Told (disk_in old) (IsUntaken (sealing_of keys) request drawn live claims) → Changes old new (AnyMoment deeds)
-        → Changes old new (MayHaveCreated keys request second drawn live live' claims claims' drew drew')
-    may_have_created accepted drew drew' made_of None None rest free any = tt
-    may_have_created accepted drew drew' made_of None (Some y) rest free any = absurd any
-    may_have_created accepted drew drew' made_of (Some x) None rest free any = absurd any
-    may_have_created accepted drew drew' made_of (Some x) (Some y) rest free any =
-        let it = makes (now x) rest.contents rest.stands (free rest.contents rest.stands) in
-        record {
+  told_makes : Told log Makes
+  told_makes = told_both log (IsAtRest o live claims) (λ l. IsUntaken o request ready.drawn live claims (now l)) Makes rest told_free
+      (λ l r free.
+      let none = free r.contents r.stands in
+      let it = ready.makes (now l) r.contents r.stands none in
+      (none, it.0, it.1))
+
+  pub can_be_done : Told log (λ (l : Log). (after : Disk) × DoesAll (in_order deeds) (now l) after)
+  can_be_done = told_then log Makes (λ (l : Log). (after : Disk) × DoesAll (in_order deeds) (now l) after) told_makes (λ l it. (it.1.after, it.1.does))
+
+  module _ (new : Option Log) (any : Changes log new (AnyMoment deeds)) where
+    pub has_created : Changes log new (HasCommitted deeds) → Changes log new (HasCreated keys request second answer ready.drawn live live' claims claims' drew drew')
+    has_created committed =
+        changed_from log new Makes (λ x y. AnyMoment deeds x y × HasCommitted deeds x y) (HasCreated keys request second answer ready.drawn live live' claims claims' drew drew')
+        (λ x y it both. record {
+          changed = record { deeds = deeds; makes = it.1; answer_is = it.2; any_moment = both.0; committed = both.1 };
+          untaken = it.0;
+          made_of = ready.made_of;
+        })
+        told_makes (both_changed log new (AnyMoment deeds) (HasCommitted deeds) any committed)
+
+    pub may_have_created : is_refusal answer.reply ≡ false → Changes log new (MayHaveCreated keys request second ready.drawn live live' claims claims' drew drew')
+    may_have_created accepted =
+        changed_from log new Makes (AnyMoment deeds) (MayHaveCreated keys request second ready.drawn live live' claims claims' drew drew')
+        (λ x y it moment. record {
           changed = record {
             deeds = deeds;
-            makes = it.0;
-            late = λ others more. late_by (live_rows others live) request second answer (it.1 others more) accepted;
-            any_moment = any;
+            makes = it.1;
+            late = λ contents stands. late_by (live_rows contents live) request second answer (it.2 contents stands) accepted;
+            any_moment = moment;
           };
-          made_of = made_of;
-        }
+          made_of = ready.made_of;
+        }) told_makes any
 
-  pub told_refused : (refusal : Refusal) (old : Option Log) → Told old (IsAtRest (sealing_of keys) live claims) → Told (disk_in old) (IsRefusal (sealing_of keys) request second drawn refusal live claims)
-      → Told (disk_in old) (λ (d : Disk). MayRefuse (sealing_of keys) request second (taken_for (sealing_of keys) d live request drawn) refusal d live claims)
-  told_refused refusal None rest is = tt
-  told_refused refusal (Some x) rest is = is rest.contents rest.stands
+pub told_refused : (keys : KeyPair) (request : PlainRequest) (second : ℕ) (live : HeldTree) (claims : List (List ℕ × ℕ)) (drawn : Option (List ℕ)) (refusal : Refusal) (old : Option Log) → Told old (IsAtRest (sealing_of keys) live claims)
+    → Told (disk_in old) (IsRefusal (sealing_of keys) request second drawn refusal live claims)
+    → Told (disk_in old) (λ (d : Disk). MayRefuse (sealing_of keys) request second (taken_for (sealing_of keys) d live request drawn) refusal d live claims)
+told_refused keys request second live claims drawn refusal None rest is = tt
+told_refused keys request second live claims drawn refusal (Some x) rest is = is rest.contents rest.stands

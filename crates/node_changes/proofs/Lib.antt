@@ -1,6 +1,7 @@
 pub mod Nodes
 pub mod Refusing
 pub mod Within
+pub mod Stepping
 pub mod Removals
 pub mod Committing
 pub mod Creations

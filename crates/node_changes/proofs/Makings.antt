@@ -17,7 +17,7 @@ use Rattle.tree_model.specs.declared.refusal.Refusal.TheVariants as refusals
 use Rattle.tree_model.specs.declared.stat.Qid.{Qid}
 use Rattle.tree_model.specs.Names.{NameFault, clear_name}
 use Rattle.tree_model.specs.Rows.{Content, bad_size, chunks, Row, Rows, is_dir, row_of, qid_of}
-use Rattle.tree_model.specs.Asked.{PlainRequest, create, qid, refused}
+use Rattle.tree_model.specs.Asked.{create, qid, refused}
 use Rattle.tree_model.specs.Step.{Answer, Stepped, stepped, early, early_refusal, says, refuses, step, create_refusal, raw_name_refusal, new_row, with_new}
 use Rattle.tree_model.specs.History.{is_refusal}
 use Rattle.clear_tree.specs.Walk.{Path, Sealing, Node, File, Dir}
@@ -49,6 +49,7 @@ use Rattle.node_changes.specs.Changed.{StandsOn}
 use Rattle.node_changes.specs.Placed.{identifier_in, identifier_at, name_of, taken_in}
 use Rattle.node_changes.specs.Creating.{IsSite, MakesOn, new_qid}
 use Rattle.node_changes.specs.Within.{AreWithin}
+use Rattle.node_changes.specs.declared.tree.VaultTree.{VaultTree}
 use Rattle.node_changes.proofs.Nodes.{is_below, place_is, above_there}
 use Rattle.node_changes.proofs.Sites.{named_raw}
 use Rattle.node_changes.proofs.Within.{creation_within, directory_within}
@@ -86,7 +87,20 @@ qid_is : (b : Bool) (rows : Rows) (row : Row) (n : List ℕ) (second : ℕ) → 
 qid_is true rows row n second = refl
 qid_is false rows row n second = refl
 
-module _ (keys : KeyPair) (live : HeldTree) (parent : ℕ) (site : Site) (at : IsSite (sealing_of keys) live parent site) where
+-- a create is asked for, of a name at its site
+pub record Asked (keys : KeyPair) (live : HeldTree) (parent : ℕ) (site : Site) (name : List ℕ) : Type 0 where
+  pub at : IsSite (sealing_of keys) live parent site
+  pub is : IsTree live
+  pub clear : clear_name name ≡ Ok site.name
+
+-- of a vault's tree
+abbrev pub asked_of : (tree : VaultTree) (parent : ℕ) (site : Site) → IsSite (sealing_of tree.keys) tree.live parent site → IsTree tree.live → (name : List ℕ) → clear_name name ≡ Ok site.name
+    → Asked tree.keys tree.live parent site name
+asked_of tree parent site at is name clear = record { at = at; is = is; clear = clear }
+
+module _ {keys : KeyPair} {live : HeldTree} {parent : ℕ} {site : Site} {name : List ℕ} (asked : Asked keys live parent site name) where
+  open asked use {at, is, clear}
+
   abbrev k : Sealing
   k = sealing_of keys
 
@@ -110,89 +124,77 @@ module _ (keys : KeyPair) (live : HeldTree) (parent : ℕ) (site : Site) (at : I
       let both : ◌≡◌ {A = What} (KeptDir at.identifier site.folder) (KeptDir at.identifier (k.folder_of at.identifier)) = what ∙ ap (what_of k) node in
       cc
 
-  module _ (name : List ℕ) (clear : clear_name name ≡ Ok site.name) where
-    taken_is : (d : Disk) (drawn : Option (List ℕ)) → taken_in (sealing_of keys) d live parent name drawn ≡ taken (sealing_of keys) d (claims_in (sealing_of keys) live) at.identifier site.name drawn
-    taken_is d drawn =
-        ap (option_and_then (λ (i : List ℕ). option_and_then (λ (n : List ℕ). taken k d (claims_in k live) i n drawn) (name_of (clear_name name)))) identifier_there
-        ∙ ap (λ (r : Result (List ℕ) NameFault). option_and_then (λ (n : List ℕ). taken k d (claims_in k live) at.identifier n drawn) (name_of r)) clear
+  taken_is : (d : Disk) (drawn : Option (List ℕ)) → taken_in (sealing_of keys) d live parent name drawn ≡ taken (sealing_of keys) d (claims_in (sealing_of keys) live) at.identifier site.name drawn
+  taken_is d drawn =
+      ap (option_and_then (λ (i : List ℕ). option_and_then (λ (n : List ℕ). taken k d (claims_in k live) i n drawn) (name_of (clear_name name)))) identifier_there
+      ∙ ap (λ (r : Result (List ℕ) NameFault). option_and_then (λ (n : List ℕ). taken k d (claims_in k live) at.identifier n drawn) (name_of r)) clear
 
-    -- which of its places is taken on a disk that the tree in memory stands for
-    pub told_taken : EntriesAreParts keys → (drawn : Option NewDirectory) → IfSome drawn (λ (directory : NewDirectory). directory.folder ≡ k.folder_of directory.identifier)
-        → (d : Disk) (claims : List (List ℕ × ℕ)) (path : Option HostPath) → IsTaken site.folder site.place drawn live claims path d → (contents : ℕ → Content) → StandsOn (sealing_of keys) d live claims contents
-        → taken_in (sealing_of keys) d live parent name (drawn_in drawn) ≡ path
-    told_taken parts drawn own d claims path is contents stands =
-        taken_is d (drawn_in drawn)
-        ∙ sym (is keys at.identifier site.name (record {
-          above = folder_is d claims contents stands;
-          text = at.place.text;
-          own = own;
-          is_tree = stands.holds.is_tree;
-          entries = host_entries keys parts d stands.tree live stands.is stands.holds;
-          indexed = stands.claimed;
-        }))
+  -- which of its places is taken on a disk that the tree in memory stands for
+  pub told_taken : EntriesAreParts keys → (drawn : Option NewDirectory) → IfSome drawn (λ (directory : NewDirectory). directory.folder ≡ k.folder_of directory.identifier)
+      → (d : Disk) (claims : List (List ℕ × ℕ)) (path : Option HostPath) → IsTaken site.folder site.place drawn live claims path d → (contents : ℕ → Content) → StandsOn (sealing_of keys) d live claims contents
+      → taken_in (sealing_of keys) d live parent name (drawn_in drawn) ≡ path
+  told_taken parts drawn own d claims path told contents stands =
+      taken_is d (drawn_in drawn)
+      ∙ sym (told keys at.identifier site.name (record {
+        above = folder_is d claims contents stands;
+        text = at.place.text;
+        own = own;
+        is_tree = stands.holds.is_tree;
+        entries = host_entries keys parts d stands.tree live stands.is stands.holds;
+        indexed = stands.claimed;
+      }))
 
-    early_is : create_refusal (kind_of at.held.kept.what) name ≡ None
-    early_is = cond-true (is_dir (kind_of at.held.kept.what)) (raw_name_refusal name) (Some refusals.NotADirectory) dir_kind ∙ named_raw name site.name clear
+  early_is : create_refusal (kind_of at.held.kept.what) name ≡ None
+  early_is = cond-true (is_dir (kind_of at.held.kept.what)) (raw_name_refusal name) (Some refusals.NotADirectory) dir_kind ∙ named_raw name site.name clear
 
-    -- ---- what the step makes of it
+  -- ---- what the step makes of it
 
-    module _ (is_directory : Bool) (mode second : ℕ) where
-      abbrev asked : PlainRequest
-      asked = create parent name is_directory mode
+  module _ (is_directory : Bool) (mode second : ℕ) (contents : ℕ → Content) where
+    pub is_late : IsNone (early_refusal (live_rows contents live) (create parent name is_directory mode))
+    is_late =
+        let none : early_refusal (live_rows contents live) (create parent name is_directory mode) ≡ None =
+        ap (λ (o : Option Row). option_map_or (λ row. early (live_rows contents live) row (create parent name is_directory mode)) o (Some refusals.Removed)) (found contents) ∙ early_is in
+        subst (λ (o : Option Refusal). IsNone o) (sym none) refl
 
-      pub is_late : (contents : ℕ → Content) → IsNone (early_refusal (live_rows contents live) (create parent name is_directory mode))
-      is_late contents =
-          let none : early_refusal (live_rows contents live) (create parent name is_directory mode) ≡ None =
-          ap (λ (o : Option Row). option_map_or (λ row. early (live_rows contents live) row (create parent name is_directory mode)) o (Some refusals.Removed)) (found contents) ∙ early_is in
-          subst (λ (o : Option Refusal). IsNone o) (sym none) refl
+    made_is : step (live_rows contents live) (create parent name is_directory mode) second
+        ≡ stepped (with_new (live_rows contents live) (new_row (live_rows contents live) (live_row contents (parent, at.held)) site.name is_directory second) second)
+        (says (qid (qid_of (new_row (live_rows contents live) (live_row contents (parent, at.held)) site.name is_directory second))))
+    made_is =
+        made_step (live_rows contents live) (live_row contents (parent, at.held)) parent name site.name is_directory mode second (found contents) early_is clear
+        (free_child live is contents parent site.name at.free) (at.room contents)
 
-      module _ (is : IsTree live) where
-        made_is : (contents : ℕ → Content) → step (live_rows contents live) (create parent name is_directory mode) second
-            ≡ stepped (with_new (live_rows contents live) (new_row (live_rows contents live) (live_row contents (parent, at.held)) site.name is_directory second) second)
-            (says (qid (qid_of (new_row (live_rows contents live) (live_row contents (parent, at.held)) site.name is_directory second))))
-        made_is contents =
-            made_step (live_rows contents live) (live_row contents (parent, at.held)) parent name site.name is_directory mode second (found contents) early_is clear
-            (free_child live is contents parent site.name at.free) (at.room contents)
+    pub answer_is : (step (live_rows contents live) (create parent name is_directory mode) second).answer ≡ says (qid (new_qid live is_directory))
+    answer_is =
+        ap (λ (w : Stepped). w.answer) made_is
+        ∙ ap (λ (q : Qid). says (qid q)) (qid_is is_directory (live_rows contents live) (live_row contents (parent, at.held)) site.name second)
 
-        pub answer_is : (contents : ℕ → Content) → (step (live_rows contents live) (create parent name is_directory mode) second).answer ≡ says (qid (new_qid live is_directory))
-        answer_is contents =
-            ap (λ (w : Stepped). w.answer) (made_is contents)
-            ∙ ap (λ (q : Qid). says (qid q)) (qid_is is_directory (live_rows contents live) (live_row contents (parent, at.held)) site.name second)
+    pub never_removed : (step (live_rows contents live) (create parent name is_directory mode) second).answer ≢ refuses refusals.Removed
+    never_removed e =
+        let both : qid (new_qid live is_directory) ≡ refused refusals.Removed = ap (λ (a : Answer). a.reply) (sym answer_is ∙ e) in
+        cc
 
-        pub never_removed : (contents : ℕ → Content) → (step (live_rows contents live) (create parent name is_directory mode) second).answer ≢ refuses refusals.Removed
-        never_removed contents e =
-            let both : qid (new_qid live is_directory) ≡ refused refusals.Removed = ap (λ (a : Answer). a.reply) (sym (answer_is contents) ∙ e) in
-            cc
-
-        pub is_accepted : (contents : ℕ → Content) → is_refusal (step (live_rows contents live) (create parent name is_directory mode) second).answer.reply ≡ false
-        is_accepted contents = ap (λ (a : Answer). is_refusal a.reply) (answer_is contents)
+    pub is_accepted : is_refusal (step (live_rows contents live) (create parent name is_directory mode) second).answer.reply ≡ false
+    is_accepted = ap (λ (a : Answer). is_refusal a.reply) answer_is
 
 -- ---- its deeds
 
 abbrev pub place_by : List ℕ → List ℕ → Bool → Place
 place_by folder entry long = record { folder = folder; entry = entry; long = long }
 
--- a node is made at a site, for a name and by deeds
-pub record Making : Type 0 where
-  pub keys : KeyPair
+-- a node is made at the site, by deeds
+pub record Making (keys : KeyPair) (live live' : HeldTree) (claims claims' : List (List ℕ × ℕ)) (parent now : ℕ) (site : Site) (name : List ℕ) (mode : ℕ) (deeds : List PlainDeed) : Type 0 where
   pub texts : AreTexts (sealing_of keys)
   pub kept : KeptClaims keys
-  pub live : HeldTree
-  pub live' : HeldTree
-  pub claims : List (List ℕ × ℕ)
-  pub claims' : List (List ℕ × ℕ)
-  pub parent : ℕ
-  pub now : ℕ
-  pub site : Site
-  pub at : IsSite (sealing_of keys) live parent site
-  pub is : IsTree live
-  pub name : List ℕ
-  pub clear : clear_name name ≡ Ok site.name
-  pub mode : ℕ
-  pub deeds : List PlainDeed
+  pub asked : Asked keys live parent site name
 
-module _ (making : Making) where
-  open making use {keys, texts, kept, live, live', claims, claims', parent, now, site, at, is, name, clear, mode, deeds}
+-- from a vault's tree to another
+abbrev pub making_of : (old new : VaultTree) {parent : ℕ} {site : Site} {name : List ℕ} → Asked old.keys old.live parent site name → AreTexts (sealing_of old.keys) → KeptClaims old.keys → (now mode : ℕ) (deeds : List PlainDeed)
+    → Making old.keys old.live new.live old.claims new.claims parent now site name mode deeds
+making_of old new asked texts kept now mode deeds = record { texts = texts; kept = kept; asked = asked }
+
+module _ {keys : KeyPair} {live live' : HeldTree} {claims claims' : List (List ℕ × ℕ)} {parent now : ℕ} {site : Site} {name : List ℕ} {mode : ℕ} {deeds : List PlainDeed}
+    (making : Making keys live live' claims claims' parent now site name mode deeds) where
+  open making use {texts, kept, asked, asked.{at, is}}
 
   abbrev o : Sealing
   o = sealing_of keys
@@ -213,41 +215,25 @@ module _ (making : Making) where
       there = at.there;
       folder = site.folder;
       dir = at.dir;
-      free = at.free;
-      named = at.place.named;
-      part = at.place.short;
-      untaken = sym (taken_is keys live parent site at name clear d drawn) ∙ untaken;
+      name = record { free = at.free; named = at.place.named; part = at.place.short; untaken = sym (taken_is asked d drawn) ∙ untaken };
     }
 
     makes_on : MakesOn (sealing_of keys) (create parent name is_directory mode) now (says (qid (new_qid live is_directory))) drawn live live' claims claims' deeds
     makes_on d contents stands untaken =
-        let coming : Coming = record {
-          keys = keys;
+        let coming : Coming keys d live live' parent now at.identifier site.name site.place.long drawn x deeds = record {
           kept = kept;
           whole = claims_are_whole;
-          d = d;
-          live = live;
-          live' = live';
-          claims = claims;
-          claims' = claims';
-          parent = parent;
-          now = now;
-          i = at.identifier;
-          n = site.name;
-          long = site.place.long;
-          drawn = drawn;
           can = can d untaken;
-          x = x;
           empty = empty;
-          deeds = deeds;
-          creates = λ tree p of new. leads d tree p (folder_is keys live parent site at d claims contents stands) of new;
-          spares = λ tree p after of new does. spares d tree p after (folder_is keys live parent site at d claims contents stands) of new does;
+          within = within;
+          creates = λ tree p of new. leads d tree p (folder_is asked d claims contents stands) of new;
+          spares = λ tree p after of new does. spares d tree p after (folder_is asked d claims contents stands) of new does;
           made = made ∙ ap with_entry at.place.entry;
         } in (
-          makes coming within name is_directory mode rows
+          makes coming claims claims' name is_directory mode rows
               (λ others more. subst (λ (entry : List ℕ). AreClaimsOf o (with_entry entry) claims') at.place.entry (claimed more.claimed))
-              (made_is keys live parent site at name clear is_directory mode now is) contents stands,
-          λ others more. answer_is keys live parent site at name clear is_directory mode now is others,
+              (made_is asked is_directory mode now) contents stands,
+          λ others more. answer_is asked is_directory mode now others,
         )
 
   -- a file with this header

@@ -4,9 +4,10 @@ use Rattle.std.specs.Option.{unwrap_or}
 use Rattle.outside.specs.Disk.{Disk}
 use Rattle.outside.specs.Calls.{Told, Changes}
 use Rattle.outside.specs.Images.{Log, now, disk_in}
-use Rattle.outside.proofs.Told.{told_then, told_always, both_changed, changed_from}
+use Rattle.outside.proofs.Told.{told_then, told_both, told_always, both_changed, changed_from}
 use Rattle.deeds.specs.Deeds.{PlainDeed, DoesAll, in_order}
 use Rattle.deeds.specs.Repeatable.{IsRepeatable}
+use Rattle.deeds.proofs.Doing.{told_disk}
 use Rattle.chunk_journal.specs.Journal.{AnyMoment, HasCommitted}
 use Rattle.vault_keys.specs.Keys.{KeyPair}
 use Rattle.tree_model.specs.declared.refusal.Refusal.{Refusal}
@@ -40,7 +41,8 @@ use Rattle.node_changes.specs.Renaming.{IsRenamingIn, IsRenaming, HasRenamed}
 use Rattle.node_changes.specs.NewName.{IsNewName, IsNameRefusal, IsPlaceRefusal, IsStuck, IsRenameRefusal, AreNaming, IsNamedTree, RowsAreNamed, CanBeGiven, RenamesOn, dated_if, place_with}
 use Rattle.node_changes.proofs.Naming.{never_removed, given, not_kept_back}
 use Rattle.node_changes.proofs.Placing.{folder_is, found_is, taken_is, free, can_rename, never_stuck}
-use Rattle.node_changes.proofs.Renames.{Renaming, CanRename, leads, does, makes}
+use Rattle.node_changes.proofs.Renames.{Renaming, CanRename, leads, makes}
+use Rattle.node_changes.proofs.Stepping.{does_in_order}
 use Rattle.node_changes.specs.declared.tree.VaultTree.{VaultTree}
 
 -- ---- deeds that can be done again
@@ -96,34 +98,18 @@ dating_stands s d live claims contents number (Some modified) stands = record {
   are = dating_keeps_contents s stands.tree live number modified contents stands.holds stands.are;
 }
 
--- a new name for a node of the tree in memory
-pub record Naming : Type 0 where
-  pub keys : KeyPair
+-- a new name for a node of the tree in memory, with an mtime or none, at a second
+pub record Naming (keys : KeyPair) (live : HeldTree) (claims : List (List ℕ × ℕ)) (number : ℕ) (new : NewName) (modified : Option ℕ) (second : ℕ) : Type 0 where
   pub parts : EntriesAreParts keys
-  pub live : HeldTree
-  pub claims : List (List ℕ × ℕ)
-  pub number : ℕ
-  pub new : NewName
   pub is : IsNewName (sealing_of keys) live number new
-  pub modified : Option ℕ
-  pub second : ℕ
 
 -- of a vault's tree
-abbrev pub naming_of : (tree : VaultTree) → EntriesAreParts tree.keys → (number : ℕ) (new : NewName) → IsNewName (sealing_of tree.keys) tree.live number new → Option ℕ → ℕ → Naming
-naming_of tree parts number new is modified second = record {
-  keys = tree.keys;
-  parts = parts;
-  live = tree.live;
-  claims = tree.claims;
-  number = number;
-  new = new;
-  is = is;
-  modified = modified;
-  second = second;
-}
+abbrev pub naming_of : (tree : VaultTree) → EntriesAreParts tree.keys → (number : ℕ) (new : NewName) → IsNewName (sealing_of tree.keys) tree.live number new → (modified : Option ℕ) (second : ℕ)
+    → Naming tree.keys tree.live tree.claims number new modified second
+naming_of tree parts number new is modified second = record { parts = parts; is = is }
 
-module _ (its : Naming) where
-  open its use {keys, parts, live, claims, number, new, is, modified, second}
+module _ {keys : KeyPair} {live : HeldTree} {claims : List (List ℕ × ℕ)} {number : ℕ} {new : NewName} {modified : Option ℕ} {second : ℕ} (its : Naming keys live claims number new modified second) where
+  open its use {parts, is}
 
   abbrev k : Sealing
   k = sealing_of keys
@@ -167,45 +153,21 @@ module _ (its : Naming) where
   -- ---- it is given
 
   -- the tree in memory has it, and the deeds give it to the node on the disk
-  pub record NamedTree : Type 0 where
+  pub record NamedTree (live' : HeldTree) (deeds : List PlainDeed) (d : Disk) : Type 0 where
     pub texts : AreTexts (sealing_of keys)
     pub kept : KeptClaims keys
     pub whole : ClaimsAreWhole
-    pub live' : HeldTree
-    pub deeds : List PlainDeed
     pub naming : AreNaming live number new deeds
     pub named : IsNamedTree live live' number new modified second
     pub rows : RowsAreNamed live live' number new.name modified second
-    pub d : Disk
     pub untaken : IsTaken new.folder new.place None live claims None d
 
-  module _ (new_tree : NamedTree) where
-    open new_tree use {texts, kept, whole, live', deeds, naming, named, rows, d, untaken}
+  module _ {live' : HeldTree} {deeds : List PlainDeed} {d : Disk} (new_tree : NamedTree live' deeds d) where
+    open new_tree use {texts, kept, whole, naming, named, rows, untaken}
 
     module _ (contents : ℕ → Content) (stands : StandsOn (sealing_of keys) d live claims contents) where
       abbrev can : CanRename k d live number is.held is.above.above is.identifier new.name new.place.long
       can = can_rename keys parts live claims d contents stands number new is untaken
-
-      abbrev on_disk : Renaming
-      on_disk = record {
-        keys = keys;
-        texts = texts;
-        kept = kept;
-        whole = whole;
-        d = d;
-        live = live;
-        claims = claims;
-        number = number;
-        now = second;
-        deeds = deeds;
-        held = is.held;
-        above = is.above.above;
-        there = is.node.there;
-        i = is.identifier;
-        m = new.name;
-        long = new.place.long;
-        can = can;
-      }
 
       deeds_are : deeds ≡ rename_deeds (place_in new.folder is.held) (place_of k is.identifier new.name new.place.long) (k.seal is.identifier new.name) is.held.kept.what
       deeds_are =
@@ -214,6 +176,9 @@ module _ (its : Naming) where
           naming.are
           ∙ ap (λ (h : HeldNode). rename_deeds (place_in new.folder h) (place_with new) new.place.text h.kept.what) (one_held live number naming.held is.held naming.there is.node.there)
           ∙ ap₂ (λ (p : Place) (text : List ℕ). rename_deeds (place_in new.folder is.held) p text is.held.kept.what) place is.place.text
+
+      abbrev on_disk : Renaming keys d live number deeds is.held is.above.above is.identifier new.name new.place.long
+      on_disk = record { texts = texts; kept = kept; whole = whole; there = is.node.there; can = can; deeds_are = deeds_are }
 
       live_is : live' ≡ dated_if (renamed live number is.held.kept.parent new.name (place_of k is.identifier new.name new.place.long).entry new.place.long second) number modified
       live_is = named is.held is.node.there ∙ ap (λ (e : List ℕ). dated_if (renamed live number is.held.kept.parent new.name e new.place.long second) number modified) is.place.entry
@@ -232,10 +197,10 @@ module _ (its : Naming) where
 
       pub can_be_given : CanBeGiven (sealing_of keys) number new.name modified second live live' claims claims deeds d
       can_be_given = record {
-        after = (leads on_disk deeds_are contents stands).after;
-        does = does on_disk deeds_are contents stands;
+        after = (leads on_disk claims second contents stands).after;
+        does = does_in_order (leads on_disk claims second contents stands);
         gives = λ c renaming. record {
-          makes = makes on_disk deeds_are live' (change number c) goes_on (shown c renaming) contents stands;
+          makes = makes on_disk claims second live' (change number c) goes_on (shown c renaming) contents stands;
           answer_is = λ others more. answer_is d c others more (renaming d others more);
           untaken = taken_is keys parts live claims d contents stands number new is c modified (renaming d contents stands) ∙ free keys parts live claims d contents stands number new is untaken;
         };
@@ -244,52 +209,27 @@ module _ (its : Naming) where
 -- ---- what is told of the journal's folder
 
 -- a rename of a tree at rest, and deeds that give the name
-pub record Led : Type 0 where
-  pub s : Sealing
-  pub number : ℕ
-  pub name : List ℕ
-  pub modified : Option ℕ
-  pub second : ℕ
-  pub live : HeldTree
-  pub live' : HeldTree
-  pub claims : List (List ℕ × ℕ)
-  pub claims' : List (List ℕ × ℕ)
-  pub deeds : List PlainDeed
-  pub log : Option Log
+pub record Led (s : Sealing) (number : ℕ) (name : List ℕ) (modified : Option ℕ) (second : ℕ) (live live' : HeldTree) (claims claims' : List (List ℕ × ℕ)) (deeds : List PlainDeed) (log : Option Log) : Type 0 where
   pub rest : Told log (IsAtRest s live claims)
   pub made : Told (disk_in log) (RenamesOn s number name modified second live live' claims claims' deeds)
 
 -- from a vault's tree to another
 abbrev pub led_of : (old new : VaultTree) (number : ℕ) (name : List ℕ) (modified : Option ℕ) (second : ℕ) (deeds : List PlainDeed) (log : Option Log) → Told log (IsAtRest (sealing_of old.keys) old.live old.claims)
-    → Told (disk_in log) (RenamesOn (sealing_of old.keys) number name modified second old.live new.live old.claims new.claims deeds) → Led
-led_of old new number name modified second deeds log rest made = record {
-  s = sealing_of old.keys;
-  number = number;
-  name = name;
-  modified = modified;
-  second = second;
-  live = old.live;
-  live' = new.live;
-  claims = old.claims;
-  claims' = new.claims;
-  deeds = deeds;
-  log = log;
-  rest = rest;
-  made = made;
-}
+    → Told (disk_in log) (RenamesOn (sealing_of old.keys) number name modified second old.live new.live old.claims new.claims deeds)
+    → Led (sealing_of old.keys) number name modified second old.live new.live old.claims new.claims deeds log
+led_of old new number name modified second deeds log rest made = record { rest = rest; made = made }
 
-module _ (led : Led) where
-  open led use {s, number, name, modified, second, live, live', claims, claims', deeds, log, rest, made}
+module _ {s : Sealing} {number : ℕ} {name : List ℕ} {modified : Option ℕ} {second : ℕ} {live live' : HeldTree} {claims claims' : List (List ℕ × ℕ)} {deeds : List PlainDeed} {log : Option Log}
+    (led : Led s number name modified second live live' claims claims' deeds log) where
+  open led use {rest, made}
 
   abbrev Given : Log → Type 0
   Given l = CanBeGiven s number name modified second live live' claims claims' deeds (now l)
 
   told_given : Told log Given
-  told_given = go log rest made
-    where
-      go : (o : Option Log) → Told o (IsAtRest s live claims) → Told (disk_in o) (RenamesOn s number name modified second live live' claims claims' deeds) → Told o Given
-      go None r m = tt
-      go (Some l) r m = m r.contents r.stands
+  told_given =
+      told_both log (IsAtRest s live claims) (λ l. RenamesOn s number name modified second live live' claims claims' deeds (now l)) Given rest
+      (told_disk log (RenamesOn s number name modified second live live' claims claims' deeds) made) (λ l r can. can r.contents r.stands)
 
   pub told_can : Told log (λ l. (after : Disk) × DoesAll (in_order deeds) (now l) after)
   told_can = told_then log Given (λ l. (after : Disk) × DoesAll (in_order deeds) (now l) after) told_given (λ l can. (can.after, can.does))

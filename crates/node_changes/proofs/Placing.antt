@@ -150,10 +150,7 @@ module _ (keys : KeyPair) (parts : EntriesAreParts keys) (live : HeldTree) (clai
         clean = is.clean;
         good = is.node.good;
         once = is.once;
-        free = is.free;
-        named = is.place.named;
-        part = is.place.short;
-        untaken = free;
+        name = record { free = is.free; named = is.place.named; part = is.place.short; untaken = free };
       }
 
       -- no node is stuck

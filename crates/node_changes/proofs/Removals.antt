@@ -2,9 +2,8 @@
 use Rattle.std.proofs.Common.{◌≡◌, ℕ, Bool, true, false, List, ◌∷◌, Option, Some, None, MatchOption, IsTrue, refl, sym, ap, ap₂, ◌∙◌, subst, inl, inr, ◌⊎◌}
 use Rattle.std.specs.Option.{option_and_then, option_map_or}
 use Rattle.outside.specs.Disk.{Disk}
-use Rattle.deeds.specs.Deeds.{PlainDeed, DoesAll, in_order}
+use Rattle.deeds.specs.Deeds.{PlainDeed, DoesAll}
 use Rattle.deeds.specs.Repeatable.{IsRepeatable}
-use Rattle.deeds.proofs.Doing.{same_run}
 use Rattle.vault_keys.specs.Keys.{KeyPair}
 use Rattle.tree_model.specs.declared.refusal.Refusal.{Refusal}
 use Rattle.tree_model.specs.declared.refusal.Refusal.TheVariants as refusals
@@ -44,6 +43,7 @@ use Rattle.node_changes.proofs.Committing.{early_step}
 use Rattle.node_changes.proofs.Nodes.{IsBelow, is_below, place_is}
 use Rattle.node_changes.proofs.Within.{removal_within}
 use Rattle.node_changes.proofs.Refusing.{IsRemovable, removable, is_there, node_there}
+use Rattle.node_changes.proofs.Stepping.{LeadsTo, leads_to, makes_step}
 
 -- a folder that a number's node names is that of its node on the disk
 record IsClaimant (s : Sealing) (d : Disk) (tree : Tree) (of : IsTreeOf s d tree) (live : HeldTree) (number : ℕ) (folder : List ℕ) : Type 0 where
@@ -86,28 +86,21 @@ module _ (keys : KeyPair) (kept : KeptClaims keys) (d : Disk) (tree : Tree) (of 
   }
 
 -- a node leaves its directory, by deeds that remove it from the disk
-pub record Leaving : Type 0 where
-  pub keys : KeyPair
+pub record Leaving (keys : KeyPair) (live live' : HeldTree) (claims claims' : List (List ℕ × ℕ)) (number now : ℕ) (deeds : List PlainDeed) (held : HeldNode) (folder : List ℕ) : Type 0 where
   pub texts : AreTexts (sealing_of keys)
   pub kept : KeptClaims keys
-  pub d : Disk
-  pub live : HeldTree
-  pub live' : HeldTree
-  pub claims : List (List ℕ × ℕ)
-  pub claims' : List (List ℕ × ℕ)
-  pub number : ℕ
-  pub now : ℕ
-  pub deeds : List PlainDeed
   pub none : IsRemovalRefusal live number None
-  pub held : HeldNode
   pub there : node_of live number ≡ Some held
   pub can : IsRemovable live number held
-  pub folder : List ℕ
   pub above : IsFolderAbove live held folder
   pub deeds_are : deeds ≡ remove_deeds (place_in folder held) held.kept.what
+  pub gone : live' ≡ removed live number held.kept.parent now
+  pub rows : RowsAreRemoved live live' number now
+  pub unclaimed : IsUnclaimed held claims claims'
 
-module _ (leaving : Leaving) where
-  open leaving use {keys, texts, kept, d, live, live', claims, claims', number, now, deeds, none, held, there, can, folder, above, deeds_are}
+module _ {keys : KeyPair} {live live' : HeldTree} {claims claims' : List (List ℕ × ℕ)} {number now : ℕ} {deeds : List PlainDeed} {held : HeldNode} {folder : List ℕ}
+    (leaving : Leaving keys live live' claims claims' number now deeds held folder) (d : Disk) where
+  open leaving use {texts, kept, none, there, can, above, deeds_are, gone, rows, unclaimed}
 
   abbrev k : Sealing
   k = sealing_of keys
@@ -116,7 +109,7 @@ module _ (leaving : Leaving) where
     abbrev tree : Tree
     tree = stands.tree
 
-    pub it : IsBelow k tree live number held
+    it : IsBelow k tree live number held
     it = is_below k d tree live stands.is stands.holds number held there can.below
 
     abbrev tree' : Tree
@@ -149,70 +142,57 @@ module _ (leaving : Leaving) where
     same_deeds : remove_deeds (place_of k it.i it.name (tree.long (it.name ∷ it.path))) (what_of k it.node) ≡ deeds
     same_deeds = ap₂ remove_deeds (place_is k d tree live stands.is stands.holds number held there can.below folder above it) (sym it.is.what) ∙ sym deeds_are
 
-    pub leads : laws.Leads k d deeds tree'
+    leads : laws.Leads k d deeds tree'
     leads = subst (λ (ds : List PlainDeed). laws.Leads k d ds tree') same_deeds (by_node it.node refl)
 
-    pub does : DoesAll (in_order deeds) d leads.after
-    does = subst (λ (ds : List PlainDeed). DoesAll ds d leads.after) (sym leads.ordered) leads.does
-
-    pub spared : KeepsStrays k d leads.after
+    spared : KeepsStrays k d leads.after
     spared = spares it.node refl leads.after (subst (λ (ds : List PlainDeed). DoesAll ds d leads.after) (sym same_deeds) leads.does)
 
     -- ---- in memory
-    module _ (gone : live' ≡ removed live number held.kept.parent now) (rows : RowsAreRemoved live live' number now) (unclaimed : IsUnclaimed held claims claims') where
-      claimed_is : claimed_at k live number ≡ claimed_in k held.kept.what
-      claimed_is = ap (option_and_then (λ (node : HeldNode). claimed_in k node.kept.what)) there
 
-      claims_by : (what : What) → held.kept.what ≡ what → MatchOption (folder_in what) (claims' ≡ claims) (λ folder. Shrinks claims claims' folder)
-          → AreClaimsOf k (removed live number held.kept.parent now) claims'
-      claims_by (KeptFile size) e same = subst (AreClaimsOf k (removed live number held.kept.parent now)) (sym same) (removing_keeps k live claims number held.kept.parent now stands.claimed (claimed_is ∙ ap (claimed_in k) e))
-      claims_by (KeptLink size) e same = subst (AreClaimsOf k (removed live number held.kept.parent now)) (sym same) (removing_keeps k live claims number held.kept.parent now stands.claimed (claimed_is ∙ ap (claimed_in k) e))
-      claims_by (KeptDir identifier own) e shrinks =
-          shrinks k live number held.kept.parent now stands.claimed
-          (is_only keys kept d tree stands.is live stands.holds number own (can.bare identifier own e).1 (record { below = can.below; claimed = claimed_is ∙ ap (claimed_in k) e }))
-      claims_by (KeptBad text) e same = absurd (can.good text e)
+    claimed_is : claimed_at k live number ≡ claimed_in k held.kept.what
+    claimed_is = ap (option_and_then (λ (node : HeldNode). claimed_in k node.kept.what)) there
 
-      stands_after : StandsOn k leads.after live' claims' contents
-      stands_after = subst (λ (l : HeldTree). StandsOn k leads.after l claims' contents) (sym gone) (record {
-        tree = tree';
-        is = leads.clear;
-        holds = removing_holds k tree live it.path held.kept.parent number it.name now stands.holds it.at_dir it.named can.childless;
-        claimed = claims_by held.kept.what refl unclaimed;
-        are = removing_keeps_contents k tree live it.path held.kept.parent number it.name now contents stands.holds it.at_dir it.named can.childless stands.are;
-      })
+    claims_by : (what : What) → held.kept.what ≡ what → MatchOption (folder_in what) (claims' ≡ claims) (λ folder. Shrinks claims claims' folder)
+        → AreClaimsOf k (removed live number held.kept.parent now) claims'
+    claims_by (KeptFile size) e same = subst (AreClaimsOf k (removed live number held.kept.parent now)) (sym same) (removing_keeps k live claims number held.kept.parent now stands.claimed (claimed_is ∙ ap (claimed_in k) e))
+    claims_by (KeptLink size) e same = subst (AreClaimsOf k (removed live number held.kept.parent now)) (sym same) (removing_keeps k live claims number held.kept.parent now stands.claimed (claimed_is ∙ ap (claimed_in k) e))
+    claims_by (KeptDir identifier own) e shrinks =
+        shrinks k live number held.kept.parent now stands.claimed
+        (is_only keys kept d tree stands.is live stands.holds number own (can.bare identifier own e).1 (record { below = can.below; claimed = claimed_is ∙ ap (claimed_in k) e }))
+    claims_by (KeptBad text) e same = absurd (can.good text e)
 
-      row : Row
-      row = live_row contents (number, held)
+    stands_after : StandsOn k leads.after live' claims' contents
+    stands_after = subst (λ (l : HeldTree). StandsOn k leads.after l claims' contents) (sym gone) (record {
+      tree = tree';
+      is = leads.clear;
+      holds = removing_holds k tree live it.path held.kept.parent number it.name now stands.holds it.at_dir it.named can.childless;
+      claimed = claims_by held.kept.what refl unclaimed;
+      are = removing_keeps_contents k tree live it.path held.kept.parent number it.name now contents stands.holds it.at_dir it.named can.childless stands.are;
+    })
 
-      found : row_of (live_rows contents live) number ≡ Some (live_row contents (number, held))
-      found = nodes_have_rows live contents number held there
+    found : row_of (live_rows contents live) number ≡ Some (live_row contents (number, held))
+    found = nodes_have_rows live contents number held there
 
-      pub step_is : step (live_rows contents live) (remove number) now ≡ work (live_rows contents live) (live_row contents (number, held)) (remove number) now
-      step_is = step_worked (live_rows contents live) (remove number) now (live_row contents (number, held)) found
-          (sym (ap (λ (o : Option Row). option_map_or (λ row. early (live_rows contents live) row (remove number)) o (Some refusals.Removed)) found) ∙ none contents)
+    step_is : step (live_rows contents live) (remove number) now ≡ work (live_rows contents live) (live_row contents (number, held)) (remove number) now
+    step_is = step_worked (live_rows contents live) (remove number) now (live_row contents (number, held)) found
+        (sym (ap (λ (o : Option Row). option_map_or (λ row. early (live_rows contents live) row (remove number)) o (Some refusals.Removed)) found) ∙ none contents)
 
-      shows : ShowsRows k (step (live_rows contents live) (remove number) now).rows leads.after live' claims'
-      shows = record {
-        contents = contents;
-        stands = stands_after;
-        shows = rows contents (live_row contents (number, held)) found ∙ ap wrapped (sym (ap (λ (w : Stepped). w.rows) step_is));
-      }
-
-  module _ (gone : live' ≡ removed live number held.kept.parent now) (rows : RowsAreRemoved live live' number now) (unclaimed : IsUnclaimed held claims claims') where
-    pub makes : (contents : ℕ → Content) → StandsOn (sealing_of keys) d live claims contents → MakesStep (sealing_of keys) (remove number) now deeds d live live' claims claims'
-    makes contents stands = record {
-      after = (leads contents stands).after;
-      does = does contents stands;
-      repeatable = (leads contents stands).repeatable;
-      within = subst AreWithin (sym deeds_are) (removal_within (place_in folder held) held.kept.what);
-      strays = spared contents stands;
-      stepped = λ others more.
-          let same : (leads others more).after ≡ (leads contents stands).after = same_run (in_order deeds) d (leads others more).after (leads contents stands).after (does others more) (does contents stands) in
-          subst (λ (x : Disk). ShowsRows k (step (live_rows others live) (remove number) now).rows x live' claims') same (shows others more gone rows unclaimed);
+    shows : ShowsRows k (step (live_rows contents live) (remove number) now).rows leads.after live' claims'
+    shows = record {
+      contents = contents;
+      stands = stands_after;
+      shows = rows contents (live_row contents (number, held)) found ∙ ap wrapped (sym (ap (λ (w : Stepped). w.rows) step_is));
     }
 
-    pub answer_is : IsStepAnswer (sealing_of keys) (remove number) now (says done) d live claims
-    answer_is contents stands = ap (λ (w : Stepped). w.answer) (step_is contents stands gone rows unclaimed)
+    led : LeadsTo k (step (live_rows contents live) (remove number) now).rows deeds d live' claims'
+    led = leads_to leads spared shows
+
+  pub makes : (contents : ℕ → Content) → StandsOn (sealing_of keys) d live claims contents → MakesStep (sealing_of keys) (remove number) now deeds d live live' claims claims'
+  makes = makes_step (subst AreWithin (sym deeds_are) (removal_within (place_in folder held) held.kept.what)) led
+
+  pub answer_is : IsStepAnswer (sealing_of keys) (remove number) now (says done) d live claims
+  answer_is contents stands = ap (λ (w : Stepped). w.answer) (step_is contents stands)
 
 -- ---- as a whole
 
@@ -220,32 +200,18 @@ pub removed_leads : (keys : KeyPair) → AreTexts (sealing_of keys) → KeptClai
     → AreRemoval live number deeds → ((held : HeldNode) → node_of live number ≡ Some held → live' ≡ removed live number held.kept.parent now) → RowsAreRemoved live live' number now
     → ((held : HeldNode) → node_of live number ≡ Some held → IsUnclaimed held claims claims') → LeadsOn (sealing_of keys) (remove number) now (says done) live live' claims claims' deeds
 removed_leads keys texts kept live live' claims claims' number now deeds is none removal gone rows unclaimed d contents stands =
-    let held = removal.held in
-    let there = removal.there in
-    let can = removable live is number held there none in
-    let leaving : Leaving = record {
-      keys = keys;
+    let leaving : Leaving keys live live' claims claims' number now deeds removal.held removal.folder = record {
       texts = texts;
       kept = kept;
-      d = d;
-      live = live;
-      live' = live';
-      claims = claims;
-      claims' = claims';
-      number = number;
-      now = now;
-      deeds = deeds;
       none = none;
-      held = held;
-      there = there;
-      can = can;
-      folder = removal.folder;
+      there = removal.there;
+      can = removable live is number removal.held removal.there none;
       above = removal.above;
       deeds_are = removal.are;
-    } in (
-      makes leaving (gone held there) rows (unclaimed held there) contents stands,
-      answer_is leaving (gone held there) rows (unclaimed held there),
-    )
+      gone = gone removal.held removal.there;
+      rows = rows;
+      unclaimed = unclaimed removal.held removal.there;
+    } in (makes leaving d contents stands, answer_is leaving d)
 
 -- ---- deeds that can be done again
 

@@ -1,28 +1,24 @@
 -- The deeds of a rename that the step doesn't refuse lead to the tree with the new name, on the disk and in memory.
-use Rattle.std.proofs.Common.{◌≡◌, ◌≢◌, ℕ, Bool, true, false, List, ◌∷◌, Option, Some, None, refl, sym, ap, ◌∙◌, subst}
+use Rattle.std.proofs.Common.{◌≡◌, ◌≢◌, ℕ, Bool, false, List, ◌∷◌, Option, Some, None, refl, sym, ap, ◌∙◌, subst}
 use Rattle.std.specs.FinMap.{get}
 use Rattle.outside.specs.Disk.{Disk}
-use Rattle.deeds.specs.Deeds.{PlainDeed, DoesAll, in_order}
-use Rattle.deeds.proofs.Doing.{same_run}
+use Rattle.deeds.specs.Deeds.{PlainDeed, DoesAll}
 use Rattle.vault_keys.specs.Keys.{KeyPair}
 use Rattle.tree_model.specs.Rows.{Content, root}
 use Rattle.tree_model.specs.Asked.{PlainRequest}
 use Rattle.tree_model.specs.Step.{step}
-use Rattle.clear_tree.specs.Walk.{Sealing, Node, File, Link, Dir, Bad, is_name}
+use Rattle.clear_tree.specs.Walk.{Sealing, Node, File, Link, Dir, Bad}
 use Rattle.clear_tree.specs.Kept.{KeptDir, KeptBad, what_of, folder_in}
 use Rattle.tree_loading.specs.Format.{sealing_of}
 use Rattle.tree_deed_laws.specs.Trees.{AreTexts, Tree, with_name}
-use Rattle.tree_deed_laws.specs.Taken.{taken}
 use Rattle.tree_deed_laws.specs.Changes as laws
 use Rattle.tree_deed_laws.specs.Deeds.{Place, place_of, rename_deeds}
 use Rattle.tree_deed_laws.proofs.Renames.{renames_file, renames_link, renames_directory}
-use Rattle.live_tree.specs.Held.{HeldNode, HeldTree, node_of, live_rows, IsFree}
+use Rattle.live_tree.specs.Held.{HeldNode, HeldTree, node_of, live_rows}
 use Rattle.live_tree.specs.Changes.{renamed, wrapped}
 use Rattle.live_tree_laws.proofs.Paths.{one_held}
-use Rattle.live_tree_laws.proofs.Keeping.{free_names_are_free}
 use Rattle.live_tree_laws.proofs.Renaming.{renaming_holds}
 use Rattle.live_tree_laws.proofs.Contents.{renaming_keeps_contents}
-use Rattle.name_places.specs.Claims.{claims_in}
 use Rattle.name_places.specs.Laws.{ClaimsAreWhole, KeptClaims}
 use Rattle.name_places.proofs.Lowest.{renaming_keeps}
 use Rattle.live_tree_laws.specs.Strays.{KeepsStrays}
@@ -31,8 +27,9 @@ use Rattle.node_changes.specs.Changed.{StandsOn, MakesStep, ShowsRows}
 use Rattle.node_changes.specs.Removal.{IsFolderAbove, place_in}
 use Rattle.node_changes.specs.Within.{AreWithin}
 use Rattle.node_changes.proofs.Nodes.{IsBelow, is_below, place_is}
+use Rattle.node_changes.proofs.Stepping.{LeadsTo, leads_to, makes_step}
 use Rattle.node_changes.proofs.Within.{renaming_within}
-use Rattle.node_changes.proofs.Creations.{are_claimed, dir_node}
+use Rattle.node_changes.proofs.Creations.{CanBeNamed, dir_node, is_new}
 
 -- the node of a number can get the name m in its directory, of identifier i
 pub record CanRename (s : Sealing) (d : Disk) (live : HeldTree) (number : ℕ) (held above : HeldNode) (i m : List ℕ) (long : Bool) : Type 0 where
@@ -43,33 +40,20 @@ pub record CanRename (s : Sealing) (d : Disk) (live : HeldTree) (number : ℕ) (
   pub clean : held.kept.shadowed ≡ false
   pub good : (t : List ℕ) → held.kept.what ≢ KeptBad t
   pub once : (j f : List ℕ) → held.kept.what ≡ KeptDir j f → live.twice ≡ false
-  pub free : IsFree live held.kept.parent m
-  pub named : is_name m (s.open_name i (s.seal i m)) ≡ true
-  pub part : long ≡ false → s.is_part (s.seal i m) ≡ true
-  pub untaken : taken s d (claims_in s live) i m None ≡ None
+  pub name : CanBeNamed s d live held.kept.parent i m long None
 
 -- a node gets another name in its directory, by deeds that give it on the disk
-pub record Renaming : Type 0 where
-  pub keys : KeyPair
+pub record Renaming (keys : KeyPair) (d : Disk) (live : HeldTree) (number : ℕ) (deeds : List PlainDeed) (held above : HeldNode) (i m : List ℕ) (long : Bool) : Type 0 where
   pub texts : AreTexts (sealing_of keys)
   pub kept : KeptClaims keys
   pub whole : ClaimsAreWhole
-  pub d : Disk
-  pub live : HeldTree
-  pub claims : List (List ℕ × ℕ)
-  pub number : ℕ
-  pub now : ℕ
-  pub deeds : List PlainDeed
-  pub held : HeldNode
-  pub above : HeldNode
   pub there : node_of live number ≡ Some held
-  pub i : List ℕ
-  pub m : List ℕ
-  pub long : Bool
   pub can : CanRename (sealing_of keys) d live number held above i m long
+  pub deeds_are : deeds ≡ rename_deeds (place_in can.folder held) (place_of (sealing_of keys) i m long) ((sealing_of keys).seal i m) held.kept.what
 
-module _ (renaming : Renaming) where
-  open renaming use {keys, texts, kept, whole, d, live, claims, number, now, deeds, held, above, there, i, m, long, can}
+module _ {keys : KeyPair} {d : Disk} {live : HeldTree} {number : ℕ} {deeds : List PlainDeed} {held above : HeldNode} {i m : List ℕ} {long : Bool}
+    (renaming : Renaming keys d live number deeds held above i m long) (claims : List (List ℕ × ℕ)) (now : ℕ) where
+  open renaming use {texts, kept, whole, there, can, deeds_are}
 
   abbrev k : Sealing
   k = sealing_of keys
@@ -77,7 +61,7 @@ module _ (renaming : Renaming) where
   above_is : IsFolderAbove live held can.folder
   above_is = record { above = above; up = can.up; is = ap folder_in can.dir }
 
-  module _ (deeds_are : deeds ≡ rename_deeds (place_in can.folder held) (place_of (sealing_of keys) i m long) ((sealing_of keys).seal i m) held.kept.what) (contents : ℕ → Content) (stands : StandsOn (sealing_of keys) d live claims contents) where
+  module _ (contents : ℕ → Content) (stands : StandsOn (sealing_of keys) d live claims contents) where
     abbrev tree : Tree
     tree = stands.tree
 
@@ -103,17 +87,7 @@ module _ (renaming : Renaming) where
     clean x e = record { parent = dir_at; there = it.stands ∙ ap Some e; clean = sym it.is.shadowed ∙ can.clean }
 
     new : laws.IsNew k d tree it.path i m long None
-    new = record {
-      parent = dir_at;
-      free = (free_names_are_free k tree live it.path held.kept.parent m stands.holds it.at_dir).0 can.free;
-      place = record {
-        named = can.named;
-        part = can.part;
-        claims = claims_in k live;
-        claimed = are_claimed keys kept whole d tree live stands.holds;
-        untaken = can.untaken;
-      };
-    }
+    new = is_new keys kept whole d tree live stands.holds it.path held.kept.parent it.at_dir i m long None can.name dir_at
 
     once : (t : List ℕ) → it.node ≡ Dir t → tree.marks.twice ≡ false
     once t e = sym stands.holds.twice ∙ can.once t (k.folder_of t) (it.is.what ∙ ap (what_of k) e)
@@ -141,42 +115,28 @@ module _ (renaming : Renaming) where
     pub leads : laws.Leads k d deeds tree'
     leads = subst (λ (ds : List PlainDeed). laws.Leads k d ds tree') same_deeds (by_node it.node refl)
 
-    pub does : DoesAll (in_order deeds) d leads.after
-    does = subst (λ (ds : List PlainDeed). DoesAll ds d leads.after) (sym leads.ordered) leads.does
-
-    pub spared : KeepsStrays k d leads.after
+    spared : KeepsStrays k d leads.after
     spared = spares it.node refl leads.after (subst (λ (ds : List PlainDeed). DoesAll ds d leads.after) (sym same_deeds) leads.does)
 
-    pub stands_after : StandsOn k leads.after (renamed live number held.kept.parent m (place_of k i m long).entry long now) claims contents
+    stands_after : StandsOn k leads.after (renamed live number held.kept.parent m (place_of k i m long).entry long now) claims contents
     stands_after = record {
       tree = tree';
       is = leads.clear;
-      holds = renaming_holds k tree live it.path held.kept.parent number i it.name m long now stands.holds it.at_dir dir_at it.named can.free;
+      holds = renaming_holds k tree live it.path held.kept.parent number i it.name m long now stands.holds it.at_dir dir_at it.named can.name.free;
       claimed = renaming_keeps k live claims number held.kept.parent m (place_of k i m long).entry long now stands.claimed;
-      are = renaming_keeps_contents k tree live it.path held.kept.parent number i it.name m long now contents stands.holds it.at_dir dir_at it.named can.free stands.are;
+      are = renaming_keeps_contents k tree live it.path held.kept.parent number i it.name m long now contents stands.holds it.at_dir dir_at it.named can.name.free stands.are;
     }
 
   -- the tree in memory after it, with the mtime that was asked for, and the rows of the step
-  module _ (deeds_are : deeds ≡ rename_deeds (place_in can.folder held) (place_of (sealing_of keys) i m long) ((sealing_of keys).seal i m) held.kept.what) (live' : HeldTree) (request : PlainRequest)
+  module _ (live' : HeldTree) (request : PlainRequest)
       (goes_on : (after : Disk) (contents : ℕ → Content) → StandsOn (sealing_of keys) after (renamed live number held.kept.parent m (place_of (sealing_of keys) i m long).entry long now) claims contents
       → StandsOn (sealing_of keys) after live' claims contents)
       (rows : (contents : ℕ → Content) → StandsOn (sealing_of keys) d live claims contents → wrapped (live_rows contents live') ≡ wrapped (step (live_rows contents live) request now).rows) where
-    shows : (contents : ℕ → Content) (stands : StandsOn (sealing_of keys) d live claims contents) → ShowsRows k (step (live_rows contents live) request now).rows (leads deeds_are contents stands).after live' claims
-    shows contents stands = record {
-      contents = contents;
-      stands = goes_on (leads deeds_are contents stands).after contents (stands_after deeds_are contents stands);
-      shows = rows contents stands;
-    }
+    shows : (contents : ℕ → Content) (stands : StandsOn (sealing_of keys) d live claims contents) → ShowsRows k (step (live_rows contents live) request now).rows (leads contents stands).after live' claims
+    shows contents stands = record { contents = contents; stands = goes_on (leads contents stands).after contents (stands_after contents stands); shows = rows contents stands }
+
+    led : (contents : ℕ → Content) → StandsOn (sealing_of keys) d live claims contents → LeadsTo k (step (live_rows contents live) request now).rows deeds d live' claims
+    led contents stands = leads_to (leads contents stands) (spared contents stands) (shows contents stands)
 
     pub makes : (contents : ℕ → Content) → StandsOn (sealing_of keys) d live claims contents → MakesStep (sealing_of keys) request now deeds d live live' claims claims
-    makes contents stands = record {
-      after = (leads deeds_are contents stands).after;
-      does = does deeds_are contents stands;
-      repeatable = (leads deeds_are contents stands).repeatable;
-      within = subst AreWithin (sym deeds_are) (renaming_within (place_in can.folder held) (place_of k i m long) (k.seal i m) held.kept.what);
-      strays = spared deeds_are contents stands;
-      stepped = λ others more.
-          let same : (leads deeds_are others more).after ≡ (leads deeds_are contents stands).after =
-          same_run (in_order deeds) d (leads deeds_are others more).after (leads deeds_are contents stands).after (does deeds_are others more) (does deeds_are contents stands) in
-          subst (λ (y : Disk). ShowsRows k (step (live_rows others live) request now).rows y live' claims) same (shows others more);
-    }
+    makes = makes_step (subst AreWithin (sym deeds_are) (renaming_within (place_in can.folder held) (place_of k i m long) (k.seal i m) held.kept.what)) led

@@ -172,8 +172,11 @@ directory_is (KeptLink size) i f e h = absurd cc
 directory_is (KeptDir identifier folder) i f e h = cc
 directory_is (KeptBad text) i f e h = absurd cc
 
-pub kind_is : (what : What) (identifier folder : List ℕ) → what ≡ KeptDir identifier folder → is_dir (kind_of what) ≡ true
-kind_is what identifier folder e = ap (λ (w : What). is_dir (kind_of w)) e
+pub kind_is : (what : What) (identifier : List ℕ) → identifier_in what ≡ Some identifier → is_dir (kind_of what) ≡ true
+kind_is (KeptFile size) i e = absurd cc
+kind_is (KeptLink size) i e = absurd cc
+kind_is (KeptDir identifier folder) i e = refl
+kind_is (KeptBad text) i e = absurd cc
 
 -- ---- a name that opens to itself, and room
 

@@ -11,27 +11,20 @@ use Rattle.tree_model.specs.Asked.{create, qid}
 use Rattle.tree_model.specs.Step.{says}
 use Rattle.node_changes.specs.Creation.{IsCreation}
 use Rattle.node_changes.specs.Creating.{HasRefused, IsReady, new_qid}
-use Rattle.node_changes.proofs.Draws.{creating_of, can_be_done, has_created, may_have_created, told_refused}
+use Rattle.node_changes.proofs.Draws.{can_be_done, has_created, may_have_created, told_refused}
 use Rattle.node_changes.proofs.tree.VaultTree.create.Goals as goal
 
 pub commit-requires-clause-can : goal.commit-requires-clause-can
 commit-requires-clause-can g c =
-    let old = c.args.self.now in
-    let new = c.make.new.self in
     let ready = subst (λ (ds : List Deed). IsReady c.args.self.now.keys (create c.args.parent c.args.name.now c.args.is_dir 0) c.args.is_dir c.args.now (says (qid (new_qid c.args.self.now.live c.args.is_dir))) c.args.self.now.live c.make.new.self.live
     c.args.self.now.claims c.make.new.self.claims (g.E.Entropy.drawn c.args.entropy.now) (g.E.Entropy.drawn c.make.new.entropy) (disk_in (g.D.Reads.log c.args.journal.now)) (plains ds)) (sym c.deref.ensures.value)
     (subst (λ (n : List ℕ). IsReady c.args.self.now.keys (create c.args.parent n c.args.is_dir 0) c.args.is_dir c.args.now (says (qid (new_qid c.args.self.now.live c.args.is_dir))) c.args.self.now.live c.make.new.self.live
     c.args.self.now.claims c.make.new.self.claims (g.E.Entropy.drawn c.args.entropy.now) (g.E.Entropy.drawn c.make.new.entropy) (disk_in (g.D.Reads.log c.args.journal.now)) (plains c.in-Ok.deeds.items)) c.as_bytes.ensures.value (c.in-Ok.ensures.ready 0)) in
     subst (λ (l : Option Log). Told l (λ (log : Log). (after : Disk) × DoesAll (in_order (plains c.deref.result.now)) (now log) after)) (sym c.make.ensures.log)
-    (can_be_done (creating_of old new (create c.args.parent c.args.name.now c.args.is_dir 0) c.args.now ready.drawn) (says (qid (new_qid c.args.self.now.live c.args.is_dir))) (plains c.deref.result.now) ready.makes
-    (g.D.Reads.log c.args.journal.now) c.requires.rest ready.untaken)
+    (can_be_done (g.D.Reads.log c.args.journal.now) ready c.requires.rest)
 
 pub returns-in-Ok-commit-clause-came : goal.returns-in-Ok-commit-clause-came
 returns-in-Ok-commit-clause-came g c = λ mode.
-    let old = c.args.self.now in
-    let new = c.make.new.self in
-    let drew = g.E.Entropy.drawn c.args.entropy.now in
-    let drew' = g.E.Entropy.drawn c.make.new.entropy in
     let ready = subst (λ (ds : List Deed). IsReady c.args.self.now.keys (create c.args.parent c.args.name.now c.args.is_dir mode) c.args.is_dir c.args.now (says (qid (new_qid c.args.self.now.live c.args.is_dir))) c.args.self.now.live c.make.new.self.live
     c.args.self.now.claims c.make.new.self.claims (g.E.Entropy.drawn c.args.entropy.now) (g.E.Entropy.drawn c.make.new.entropy) (disk_in (g.D.Reads.log c.args.journal.now)) (plains ds)) (sym c.deref.ensures.value)
     (subst (λ (n : List ℕ). IsReady c.args.self.now.keys (create c.args.parent n c.args.is_dir mode) c.args.is_dir c.args.now (says (qid (new_qid c.args.self.now.live c.args.is_dir))) c.args.self.now.live c.make.new.self.live
@@ -42,8 +35,7 @@ returns-in-Ok-commit-clause-came g c = λ mode.
     (g.E.Entropy.drawn c.args.entropy.now) (g.E.Entropy.drawn c.make.new.entropy) (g.D.Reads.log c.args.journal.now) (g.D.Reads.log c.commit.new.self)) (sym c.new_qid-qid.ensures) (record {
       drawn = ready.drawn;
       draw = ready.draw;
-      changed = has_created (creating_of old new (create c.args.parent c.args.name.now c.args.is_dir mode) c.args.now ready.drawn) (says (qid (new_qid c.args.self.now.live c.args.is_dir))) (plains c.deref.result.now) ready.makes
-          drew drew' ready.made_of (g.D.Reads.log c.args.journal.now) (g.D.Reads.log c.commit.new.self) c.requires.rest ready.untaken any committed;
+      changed = has_created (g.D.Reads.log c.args.journal.now) ready c.requires.rest (g.D.Reads.log c.commit.new.self) any committed;
       broken = tt;
       refused = tt;
       found = tt;
@@ -51,8 +43,6 @@ returns-in-Ok-commit-clause-came g c = λ mode.
 
 pub returns-in-Ok-clause-came : goal.returns-in-Ok-clause-came
 returns-in-Ok-clause-came g c = λ mode.
-    let old = c.args.self.now in
-    let new = c.make.new.self in
     let ready = subst (λ (ds : List Deed). IsReady c.args.self.now.keys (create c.args.parent c.args.name.now c.args.is_dir mode) c.args.is_dir c.args.now (says (qid (new_qid c.args.self.now.live c.args.is_dir))) c.args.self.now.live c.make.new.self.live
     c.args.self.now.claims c.make.new.self.claims (g.E.Entropy.drawn c.args.entropy.now) (g.E.Entropy.drawn c.make.new.entropy) (disk_in (g.D.Reads.log c.args.journal.now)) (plains ds)) (sym c.deref.ensures.value)
     (subst (λ (n : List ℕ). IsReady c.args.self.now.keys (create c.args.parent n c.args.is_dir mode) c.args.is_dir c.args.now (says (qid (new_qid c.args.self.now.live c.args.is_dir))) c.args.self.now.live c.make.new.self.live
@@ -62,16 +52,13 @@ returns-in-Ok-clause-came g c = λ mode.
       drawn = ready.drawn;
       draw = ready.draw;
       changed = tt;
-      broken = may_have_created (creating_of old new (create c.args.parent c.args.name.now c.args.is_dir mode) c.args.now ready.drawn) (says (qid (new_qid c.args.self.now.live c.args.is_dir))) (plains c.deref.result.now) ready.makes
-          refl (g.E.Entropy.drawn c.args.entropy.now) (g.E.Entropy.drawn c.make.new.entropy) ready.made_of (g.D.Reads.log c.args.journal.now) (g.D.Reads.log c.commit.new.self) c.requires.rest ready.untaken any;
+      broken = may_have_created (g.D.Reads.log c.args.journal.now) ready c.requires.rest (g.D.Reads.log c.commit.new.self) any refl;
       refused = tt;
       found = tt;
     }
 
 pub returns-clause-came : goal.returns-clause-came
 returns-clause-came g c = λ mode.
-    let old = c.args.self.now in
-    let new = c.make.new.self in
     let it = subst (λ (n : List ℕ). HasRefused c.args.self.now.keys (create c.args.parent n c.args.is_dir mode) c.args.is_dir c.args.now c.args.self.now.live c.args.self.now.claims (g.E.Entropy.drawn c.args.entropy.now)
     (g.E.Entropy.drawn c.make.new.entropy) (disk_in (g.D.Reads.log c.args.journal.now)) c.in-Err.refusal) c.as_bytes.ensures.value (c.in-Err.ensures.refused mode) in
     record {
@@ -79,6 +66,6 @@ returns-clause-came g c = λ mode.
       draw = it.draw;
       changed = tt;
       broken = tt;
-      refused = told_refused (creating_of old new (create c.args.parent c.args.name.now c.args.is_dir mode) c.args.now it.drawn) c.in-Err.refusal (g.D.Reads.log c.args.journal.now) c.requires.rest it.refused;
+      refused = told_refused c.args.self.now.keys (create c.args.parent c.args.name.now c.args.is_dir mode) c.args.now c.args.self.now.live c.args.self.now.claims it.drawn c.in-Err.refusal (g.D.Reads.log c.args.journal.now) c.requires.rest it.refused;
       found = it.found;
     }

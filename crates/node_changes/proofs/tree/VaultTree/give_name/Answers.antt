@@ -3,7 +3,7 @@ use Rattle.outside.specs.Images.{disk_in}
 use Rattle.outside.proofs.Told.{told_then, told_always}
 use Rattle.deeds.specs.Plain.{plains}
 use Rattle.tree_loading.specs.Format.{sealing_of}
-use Rattle.node_changes.proofs.Named.{naming_of, name_refused, memory_refused, place_refused, deeds_refused, can_be_given}
+use Rattle.node_changes.proofs.Named.{NamedTree, naming_of, name_refused, memory_refused, place_refused, deeds_refused, can_be_given}
 use Rattle.node_changes.proofs.tree.VaultTree.give_name.Goals as goal
 
 pub returns-in_err-new-clause-refused : goal.returns-in_err-new-clause-refused
@@ -28,20 +28,19 @@ returns-in_err-deeds-clause-refused g c =
 
 pub returns-in-Ok-clause-made : goal.returns-in-Ok-clause-made
 returns-in-Ok-clause-made g c =
+    let its = naming_of c.args.self.now c.entries_are_parts.ensures c.args.number c.in_ok-new.new c.in_ok-new.ensures.new c.args.modified c.args.now in
     rw (← c.in_ok-new.ensures.name, c.put_name.ensures.claims)
     (told_then (disk_in (g.R.Reads.log c.args.folder.now)) _ _ c.in_ok-check_place.ensures.untaken (λ d untaken contents stands.
-    can_be_given (naming_of c.args.self.now c.entries_are_parts.ensures c.args.number c.in_ok-new.new c.in_ok-new.ensures.new c.args.modified c.args.now) (record {
+    let named : NamedTree its c.put_name.new.self.live (plains c.in_ok-deeds.deeds.items) d = record {
       texts = c.are_texts.ensures;
       kept = c.kept_claims.ensures;
       whole = c.claims_are_whole.ensures;
-      live' = c.put_name.new.self.live;
-      deeds = plains c.in_ok-deeds.deeds.items;
       naming = c.in_ok-deeds.ensures.deeds;
       named = c.in-Ok.ensures.live;
       rows = c.in-Ok.ensures.rows;
-      d = d;
       untaken = untaken;
-    }) contents stands))
+    } in
+    can_be_given its named contents stands))
 
 pub returns-in-Err-clause-refused : goal.returns-in-Err-clause-refused
 returns-in-Err-clause-refused g c =

@@ -4,7 +4,6 @@ use Rattle.outside.specs.Calls.{Rose, Told}
 use Rattle.outside.specs.Images.{disk_in}
 use Rattle.outside.proofs.Told.{changed_by, told_always}
 use Rattle.deeds.specs.Plain.{plains}
-use Rattle.tree_model.specs.declared.refusal.Refusal.TheVariants as refusals
 use Rattle.tree_model.specs.Asked.{create, qid}
 use Rattle.tree_model.specs.Step.{says}
 use Rattle.tree_loading.specs.Format.{sealing_of}
@@ -13,7 +12,8 @@ use Rattle.name_places.specs.Asked.{IsTaken}
 use Rattle.name_places.specs.Asked.{identifier_in as drawn_in}
 use Rattle.node_changes.specs.Placed.{GoesOn, IsIdentifierOf}
 use Rattle.node_changes.specs.Creating.{DrawsHead, DrawsIf, IsPlaceRefusal, IsRefusal, IsUntaken, MakesOn, new_qid}
-use Rattle.node_changes.proofs.Draws.{asked_of, no_draw, file_draw, drew_directory, found_taken, never_taken, own_folder, directory_drawn, header_drawn, head_changes, header_partly, cause_more, site_refused, random_refused, memory_refused, place_refused, untaken}
+use Rattle.node_changes.proofs.Draws.{no_draw, file_draw, drew_directory, found_taken, own_folder, directory_drawn, header_drawn, head_changes, header_partly, cause_more, site_refused, random_refused, memory_refused, place_refused, untaken}
+use Rattle.node_changes.proofs.Makings.{asked_of}
 use Rattle.node_changes.proofs.tree.VaultTree.make.Goals as goal
 
 pub returns-in_err-site-clause-refused : goal.returns-in_err-site-clause-refused
@@ -39,19 +39,14 @@ returns-in_err-site-clause-cause g c = λ mode.
 
 pub returns-in_default-clause-refused : goal.returns-in_default-clause-refused
 returns-in_default-clause-refused g c = λ mode.
-    let asked = asked_of c.args.self.now c.entries_are_parts.ensures c.args.parent c.in_ok-site.site c.in_ok-site.ensures.site c.len-count.ensures.tree c.args.name.now c.in_ok-site.ensures.name c.args.is_dir mode c.args.now in
+    let asked = asked_of c.args.self.now c.args.parent c.in_ok-site.site c.in_ok-site.ensures.site c.len-count.ensures.tree c.args.name.now c.in_ok-site.ensures.name in
     let drew = g.E.Entropy.drawn c.args.entropy.now in
     let drew' = g.E.Entropy.drawn c.draw_directory.new.entropy in
-    record {
-      drawn = None;
-      draw = no_draw c.args.is_dir drew drew' c.in_default.ensures.unspent;
-      refused = told_always (disk_in (g.R.Reads.log c.args.folder.now)) _ (random_refused asked None);
-      found = λ path is file. c.in_default.ensures.unspent;
-    }
+    random_refused asked c.args.self.now.claims c.args.is_dir mode c.args.now (disk_in (g.R.Reads.log c.args.folder.now)) drew drew' (no_draw c.args.is_dir drew drew' c.in_default.ensures.unspent)
 
 pub returns-in_err-check_places-clause-refused : goal.returns-in_err-check_places-clause-refused
 returns-in_err-check_places-clause-refused g c = λ mode.
-    let asked = asked_of c.args.self.now c.entries_are_parts.ensures c.args.parent c.in_ok-site.site c.in_ok-site.ensures.site c.len-count.ensures.tree c.args.name.now c.in_ok-site.ensures.name c.args.is_dir mode c.args.now in
+    let asked = asked_of c.args.self.now c.args.parent c.in_ok-site.site c.in_ok-site.ensures.site c.len-count.ensures.tree c.args.name.now c.in_ok-site.ensures.name in
     let drew = g.E.Entropy.drawn c.args.entropy.now in
     let drew' = g.E.Entropy.drawn c.draw_directory.new.entropy in
     let failed = Rose (g.R.Reads.faults c.args.folder.now) (g.R.Reads.faults c.check_places.new.folder) in
@@ -59,7 +54,7 @@ returns-in_err-check_places-clause-refused g c = λ mode.
     rw (p.1, p.2) (record {
       drawn = drawn_in c.in-Ok.directory;
       draw = drew_directory c.args.self.now.keys c.args.is_dir c.in-Ok.directory drew drew' c.in-Ok.ensures.drawn;
-      refused = place_refused asked (disk_in (g.R.Reads.log c.args.folder.now)) c.in-Ok.directory (own_folder c.args.self.now.keys c.args.is_dir c.in-Ok.directory drew drew' c.in-Ok.ensures.drawn) failed c.in_err-check_places.field-0.0
+      refused = place_refused asked c.args.self.now.claims c.args.is_dir mode c.args.now c.entries_are_parts.ensures (disk_in (g.R.Reads.log c.args.folder.now)) c.in-Ok.directory (own_folder c.args.self.now.keys c.args.is_dir c.in-Ok.directory drew drew' c.in-Ok.ensures.drawn) failed c.in_err-check_places.field-0.0
           (subst (λ (o : Option NewDirectory). IsPlaceRefusal c.in_ok-site.site o c.args.self.now.live c.args.self.now.claims (disk_in (g.R.Reads.log c.args.folder.now)) (Rose (g.R.Reads.faults c.args.folder.now) (g.R.Reads.faults c.check_places.new.folder)) c.in_err-check_places.field-0.0)
           c.as_ref.ensures.value c.in_err-check_places.ensures.refusal);
       found = found_taken c.args.self.now.keys c.args.is_dir c.in-Ok.directory drew drew' c.in_err-check_places.field-0.0 c.in-Ok.ensures.drawn;
@@ -67,20 +62,16 @@ returns-in_err-check_places-clause-refused g c = λ mode.
 
 pub returns-in_default-draw_header-clause-refused : goal.returns-in_default-draw_header-clause-refused
 returns-in_default-draw_header-clause-refused g c = λ mode.
-    let asked = asked_of c.args.self.now c.entries_are_parts.ensures c.args.parent c.in_ok-site.site c.in_ok-site.ensures.site c.len-count.ensures.tree c.args.name.now c.in_ok-site.ensures.name c.args.is_dir mode c.args.now in
+    let asked = asked_of c.args.self.now c.args.parent c.in_ok-site.site c.in_ok-site.ensures.site c.len-count.ensures.tree c.args.name.now c.in_ok-site.ensures.name in
     let drew = g.E.Entropy.drawn c.args.entropy.now in
     let drew' = g.E.Entropy.drawn c.draw_header.new.entropy in
     let none = subst (λ (o : Option NewDirectory). DrawsIf c.args.self.now.keys c.args.is_dir o (g.E.Entropy.drawn c.args.entropy.now) (g.E.Entropy.drawn c.draw_directory.new.entropy)) c.in-None.is c.in-Ok.ensures.drawn in
-    record {
-      drawn = None;
-      draw = file_draw c.args.is_dir drew drew' none.0 (header_partly drew (g.E.Entropy.drawn c.draw_directory.new.entropy) drew' none.1 c.in_default-draw_header.ensures.partly);
-      refused = told_always (disk_in (g.R.Reads.log c.args.folder.now)) _ (random_refused asked None);
-      found = never_taken c.args.is_dir drew drew' refusals.RandomFault (λ path is. absurd cc);
-    }
+    random_refused asked c.args.self.now.claims c.args.is_dir mode c.args.now (disk_in (g.R.Reads.log c.args.folder.now)) drew drew'
+    (file_draw c.args.is_dir drew drew' none.0 (header_partly drew (g.E.Entropy.drawn c.draw_directory.new.entropy) drew' none.1 c.in_default-draw_header.ensures.partly))
 
 pub returns-in-Ok-make_directory-clause-ready : goal.returns-in-Ok-make_directory-clause-ready
 returns-in-Ok-make_directory-clause-ready g c = λ mode.
-    let asked = asked_of c.args.self.now c.entries_are_parts.ensures c.args.parent c.in_ok-site.site c.in_ok-site.ensures.site c.len-count.ensures.tree c.args.name.now c.in_ok-site.ensures.name c.args.is_dir mode c.args.now in
+    let asked = asked_of c.args.self.now c.args.parent c.in_ok-site.site c.in_ok-site.ensures.site c.len-count.ensures.tree c.args.name.now c.in_ok-site.ensures.name in
     let new = c.make_directory.new.self in
     let drew = g.E.Entropy.drawn c.args.entropy.now in
     let drew' = g.E.Entropy.drawn c.draw_directory.new.entropy in
@@ -98,7 +89,7 @@ returns-in-Ok-make_directory-clause-ready g c = λ mode.
           c.args.self.now.live c.make_directory.new.self.live c.args.self.now.claims c.make_directory.new.self.claims (plains c.in-Ok-make_directory.deeds.items)) (sym some.0)
           (c.in-Ok-make_directory.ensures.makes c.args.name.now mode c.in_ok-site.ensures.name);
       untaken = subst (λ (o : Option NewDirectory). Told (disk_in (g.R.Reads.log c.args.folder.now)) (IsUntaken (sealing_of c.args.self.now.keys) (create c.args.parent c.args.name.now c.args.is_dir mode) (drawn_in o) c.args.self.now.live c.args.self.now.claims)) c.in-Some.is
-          (untaken asked (disk_in (g.R.Reads.log c.args.folder.now)) c.in-Ok.directory (own_folder c.args.self.now.keys c.args.is_dir c.in-Ok.directory drew drew' c.in-Ok.ensures.drawn)
+          (untaken asked c.args.self.now.claims c.args.is_dir mode c.args.now c.entries_are_parts.ensures (disk_in (g.R.Reads.log c.args.folder.now)) c.in-Ok.directory (own_folder c.args.self.now.keys c.args.is_dir c.in-Ok.directory drew drew' c.in-Ok.ensures.drawn)
           (subst (λ (o : Option NewDirectory). Told (disk_in (g.R.Reads.log c.args.folder.now)) (IsTaken c.in_ok-site.site.folder c.in_ok-site.site.place o c.args.self.now.live c.args.self.now.claims None)) c.as_ref.ensures.value c.in_ok-check_places.ensures.untaken));
       made_of = record {
         directory = directory_drawn c.args.self.now.keys drew drew' c.in-Some.directory some.1 made.0 made.1 (plains c.in-Ok-make_directory.deeds.items) made.2;
@@ -108,19 +99,15 @@ returns-in-Ok-make_directory-clause-ready g c = λ mode.
 
 pub returns-in-Err-clause-refused : goal.returns-in-Err-clause-refused
 returns-in-Err-clause-refused g c = λ mode.
-    let asked = asked_of c.args.self.now c.entries_are_parts.ensures c.args.parent c.in_ok-site.site c.in_ok-site.ensures.site c.len-count.ensures.tree c.args.name.now c.in_ok-site.ensures.name c.args.is_dir mode c.args.now in
+    let asked = asked_of c.args.self.now c.args.parent c.in_ok-site.site c.in_ok-site.ensures.site c.len-count.ensures.tree c.args.name.now c.in_ok-site.ensures.name in
     let drew = g.E.Entropy.drawn c.args.entropy.now in
     let drew' = g.E.Entropy.drawn c.draw_directory.new.entropy in
-    record {
-      drawn = drawn_in c.in-Ok.directory;
-      draw = drew_directory c.args.self.now.keys c.args.is_dir c.in-Ok.directory drew drew' c.in-Ok.ensures.drawn;
-      refused = told_always (disk_in (g.R.Reads.log c.args.folder.now)) _ (memory_refused asked (drawn_in c.in-Ok.directory));
-      found = never_taken c.args.is_dir drew drew' refusals.OutOfMemory (λ path is. absurd cc);
-    }
+    memory_refused asked c.args.self.now.claims c.args.is_dir mode c.args.now (disk_in (g.R.Reads.log c.args.folder.now)) drew drew' (drawn_in c.in-Ok.directory)
+    (drew_directory c.args.self.now.keys c.args.is_dir c.in-Ok.directory drew drew' c.in-Ok.ensures.drawn)
 
 pub returns-in-Ok-make_file-clause-ready : goal.returns-in-Ok-make_file-clause-ready
 returns-in-Ok-make_file-clause-ready g c = λ mode.
-    let asked = asked_of c.args.self.now c.entries_are_parts.ensures c.args.parent c.in_ok-site.site c.in_ok-site.ensures.site c.len-count.ensures.tree c.args.name.now c.in_ok-site.ensures.name c.args.is_dir mode c.args.now in
+    let asked = asked_of c.args.self.now c.args.parent c.in_ok-site.site c.in_ok-site.ensures.site c.len-count.ensures.tree c.args.name.now c.in_ok-site.ensures.name in
     let drew = g.E.Entropy.drawn c.args.entropy.now in
     let drew' = g.E.Entropy.drawn c.draw_header.new.entropy in
     let none = subst (λ (o : Option NewDirectory). DrawsIf c.args.self.now.keys c.args.is_dir o (g.E.Entropy.drawn c.args.entropy.now) (g.E.Entropy.drawn c.draw_directory.new.entropy)) c.in-None.is c.in-Ok.ensures.drawn in
@@ -133,7 +120,7 @@ returns-in-Ok-make_file-clause-ready g c = λ mode.
           c.args.self.now.live c.make_file.new.self.live c.args.self.now.claims c.make_file.new.self.claims (plains c.in-Ok-make_file.deeds.items)) (sym none.0)
           (c.in-Ok-make_file.ensures.makes c.args.name.now mode c.in_ok-site.ensures.name);
       untaken = subst (λ (o : Option NewDirectory). Told (disk_in (g.R.Reads.log c.args.folder.now)) (IsUntaken (sealing_of c.args.self.now.keys) (create c.args.parent c.args.name.now c.args.is_dir mode) (drawn_in o) c.args.self.now.live c.args.self.now.claims)) c.in-None.is
-          (untaken asked (disk_in (g.R.Reads.log c.args.folder.now)) c.in-Ok.directory (own_folder c.args.self.now.keys c.args.is_dir c.in-Ok.directory drew (g.E.Entropy.drawn c.draw_directory.new.entropy) c.in-Ok.ensures.drawn)
+          (untaken asked c.args.self.now.claims c.args.is_dir mode c.args.now c.entries_are_parts.ensures (disk_in (g.R.Reads.log c.args.folder.now)) c.in-Ok.directory (own_folder c.args.self.now.keys c.args.is_dir c.in-Ok.directory drew (g.E.Entropy.drawn c.draw_directory.new.entropy) c.in-Ok.ensures.drawn)
           (subst (λ (o : Option NewDirectory). Told (disk_in (g.R.Reads.log c.args.folder.now)) (IsTaken c.in_ok-site.site.folder c.in_ok-site.site.place o c.args.self.now.live c.args.self.now.claims None)) c.as_ref.ensures.value c.in_ok-check_places.ensures.untaken));
       made_of = record {
         directory = tt;
@@ -143,13 +130,10 @@ returns-in-Ok-make_file-clause-ready g c = λ mode.
 
 pub returns-in-Err-make_file-clause-refused : goal.returns-in-Err-make_file-clause-refused
 returns-in-Err-make_file-clause-refused g c = λ mode.
-    let asked = asked_of c.args.self.now c.entries_are_parts.ensures c.args.parent c.in_ok-site.site c.in_ok-site.ensures.site c.len-count.ensures.tree c.args.name.now c.in_ok-site.ensures.name c.args.is_dir mode c.args.now in
+    let asked = asked_of c.args.self.now c.args.parent c.in_ok-site.site c.in_ok-site.ensures.site c.len-count.ensures.tree c.args.name.now c.in_ok-site.ensures.name in
     let drew = g.E.Entropy.drawn c.args.entropy.now in
+    let mid = g.E.Entropy.drawn c.draw_directory.new.entropy in
     let drew' = g.E.Entropy.drawn c.draw_header.new.entropy in
     let none = subst (λ (o : Option NewDirectory). DrawsIf c.args.self.now.keys c.args.is_dir o (g.E.Entropy.drawn c.args.entropy.now) (g.E.Entropy.drawn c.draw_directory.new.entropy)) c.in-None.is c.in-Ok.ensures.drawn in
-    record {
-      drawn = None;
-      draw = file_draw c.args.is_dir drew drew' none.0 (header_partly drew (g.E.Entropy.drawn c.draw_directory.new.entropy) drew' none.1 (head_changes c.args.self.now.keys (g.E.Entropy.drawn c.draw_directory.new.entropy) drew' c.in-Ok-draw_header.header c.in-Ok-draw_header.ensures.drawn));
-      refused = told_always (disk_in (g.R.Reads.log c.args.folder.now)) _ (memory_refused asked None);
-      found = never_taken c.args.is_dir drew drew' refusals.OutOfMemory (λ path is. absurd cc);
-    }
+    memory_refused asked c.args.self.now.claims c.args.is_dir mode c.args.now (disk_in (g.R.Reads.log c.args.folder.now)) drew drew' None
+    (file_draw c.args.is_dir drew drew' none.0 (header_partly drew mid drew' none.1 (head_changes c.args.self.now.keys mid drew' c.in-Ok-draw_header.header c.in-Ok-draw_header.ensures.drawn)))

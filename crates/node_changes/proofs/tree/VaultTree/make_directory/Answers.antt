@@ -4,37 +4,18 @@ use Rattle.deeds.specs.Plain.{plains}
 use Rattle.live_tree.specs.Changes.{added, new_node}
 use Rattle.tree_deed_laws.specs.Deeds.{create_dir_deeds}
 use Rattle.node_changes.specs.declared.tree.VaultTree.{VaultTree}
-use Rattle.node_changes.proofs.Makings.{Making, directory_makes, place_by, takes_back, took_nothing}
+use Rattle.node_changes.proofs.Makings.{asked_of, making_of, directory_makes, place_by, takes_back, took_nothing}
 use Rattle.node_changes.proofs.tree.VaultTree.make_directory.Goals as goal
 use Rattle.node_changes.proofs.tree.VaultTree.make_directory.Goals.{then-is_new, else-is_new}
 
 pub returns-clause-makes : goal.returns-clause-makes
 returns-clause-makes c = λ name mode clear.
-    let old = c.args.self.now in
-    let new = c.add.new.self in
     let site = c.args.site in
     let directory = c.args.directory.now in
-    let making : Making = record {
-      keys = old.keys;
-      texts = c.are_texts.ensures;
-      kept = c.kept_claims.ensures;
-      live = old.live;
-      live' = new.live;
-      claims = old.claims;
-      claims' = new.claims;
-      parent = c.args.parent;
-      now = c.args.now;
-      site = site;
-      at = c.requires.site;
-      is = c.len-count.ensures.tree;
-      name = name;
-      clear = clear;
-      mode = mode;
-      deeds = plains c.in_ok-deeds.deeds.items;
-    } in
-    directory_makes making directory c.requires.directory.0 c.requires.directory.1
+    let asked = asked_of c.args.self.now c.args.parent site c.requires.site c.len-count.ensures.tree name clear in
+    directory_makes (making_of c.args.self.now c.add.new.self asked c.are_texts.ensures c.kept_claims.ensures c.args.now mode (plains c.in_ok-deeds.deeds.items)) directory c.requires.directory.0 c.requires.directory.1
     (c.in_ok-deeds.ensures.deeds ∙ ap₂ (λ (e t : List ℕ). create_dir_deeds (place_by site.folder e site.place.long) t directory.folder directory.identifier) c.as_bytes.ensures c.as_bytes-2.ensures)
-    (c.in_default.ensures.live ∙ ap (λ (i : List ℕ). added old.live (new_node c.args.parent site.name (KeptDir i directory.folder) site.place.entry site.place.long c.args.now) c.args.now)
+    (c.in_default.ensures.live ∙ ap (λ (i : List ℕ). added c.args.self.now.live (new_node c.args.parent site.name (KeptDir i directory.folder) site.place.entry site.place.long c.args.now) c.args.now)
     (c.from_vec.ensures ∙ c.in_ok-identifier.ensures.items))
     c.in_default.ensures.rows
     (rw (c.add.ensures.claims, ← c.next.ensures) c.in_ok-is_new.ensures.claims)

@@ -1,33 +1,14 @@
 use Rattle.std.proofs.Common.{List, ℕ, ap, ap₂, ◌∙◌}
 use Rattle.tree_deed_laws.specs.Deeds.{create_file_deeds}
 use Rattle.deeds.specs.Plain.{plains}
-use Rattle.node_changes.proofs.Makings.{Making, file_makes, place_by}
+use Rattle.node_changes.proofs.Makings.{asked_of, making_of, file_makes, place_by}
 use Rattle.node_changes.proofs.tree.VaultTree.make_file.Goals as goal
 
 pub returns-clause-makes : goal.returns-clause-makes
 returns-clause-makes c = λ name mode clear.
-    let old = c.args.self.now in
-    let new = c.add.new.self in
     let site = c.args.site in
-    let making : Making = record {
-      keys = old.keys;
-      texts = c.are_texts.ensures;
-      kept = c.kept_claims.ensures;
-      live = old.live;
-      live' = new.live;
-      claims = old.claims;
-      claims' = new.claims;
-      parent = c.args.parent;
-      now = c.args.now;
-      site = site;
-      at = c.requires.site;
-      is = c.len-count.ensures.tree;
-      name = name;
-      clear = clear;
-      mode = mode;
-      deeds = plains c.in_ok-deeds.deeds.items;
-    } in
-    file_makes making c.args.header.now c.told-header c.requires.header
+    let asked = asked_of c.args.self.now c.args.parent site c.requires.site c.len-count.ensures.tree name clear in
+    file_makes (making_of c.args.self.now c.add.new.self asked c.are_texts.ensures c.kept_claims.ensures c.args.now mode (plains c.in_ok-deeds.deeds.items)) c.args.header.now c.told-header c.requires.header
     (c.in_ok-deeds.ensures.deeds ∙ ap₂ (λ (e t : List ℕ). create_file_deeds (place_by site.folder e site.place.long) t c.in_ok-bytes.bytes.items) c.as_bytes.ensures c.as_bytes-2.ensures
     ∙ ap (λ (h : List ℕ). create_file_deeds (place_by site.folder site.place.entry site.place.long) site.place.text h) c.in_ok-bytes.ensures.items)
     c.in_ok-add.ensures.live c.in_ok-add.ensures.rows c.add.ensures.claims

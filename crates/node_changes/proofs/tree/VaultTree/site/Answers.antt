@@ -21,38 +21,30 @@ returns-in_default-identifier_in-clause-refusal c =
 pub returns-in-Err-clause-refusal : goal.returns-in-Err-clause-refusal
 returns-in-Err-clause-refusal c =
     let held = c.in-Some.node.now in
-    let dir = directory_is held.kept.what c.in-Some-identifier_in.identifier.now c.in-Some-folder.folder.now
-    (ap identifier_in (sym c.what.ensures) ∙ sym c.in-Some-identifier_in.ensures) (sym c.in-Some-folder.ensures.value) in
     subst (IsSiteRefusal c.args.self.now.live c.args.parent c.args.name.now) (sym c.name_refusal.ensures)
-    (fault_refused c.args.self.now.live c.args.parent c.args.name.now held (sym c.in-Some.ensures) (kind_is held.kept.what c.in-Some-identifier_in.identifier.now c.in-Some-folder.folder.now dir)
+    (fault_refused c.args.self.now.live c.args.parent c.args.name.now held (sym c.in-Some.ensures) (kind_is held.kept.what c.in-Some-identifier_in.identifier.now (ap identifier_in (sym c.what.ensures) ∙ sym c.in-Some-identifier_in.ensures))
     c.in-Err.fault c.in-Err.ensures.fault)
 
 pub returns-in_default-from_slice-clause-refusal : goal.returns-in_default-from_slice-clause-refusal
 returns-in_default-from_slice-clause-refusal c =
     let held = c.in-Some.node.now in
-    let dir = directory_is held.kept.what c.in-Some-identifier_in.identifier.now c.in-Some-folder.folder.now
-    (ap identifier_in (sym c.what.ensures) ∙ sym c.in-Some-identifier_in.ensures) (sym c.in-Some-folder.ensures.value) in
-    lacks_memory c.args.self.now.live c.args.parent c.args.name.now held (sym c.in-Some.ensures) (kind_is held.kept.what c.in-Some-identifier_in.identifier.now c.in-Some-folder.folder.now dir)
+    lacks_memory c.args.self.now.live c.args.parent c.args.name.now held (sym c.in-Some.ensures) (kind_is held.kept.what c.in-Some-identifier_in.identifier.now (ap identifier_in (sym c.what.ensures) ∙ sym c.in-Some-identifier_in.ensures))
 
 pub returns-then-is_some-clause-refusal : goal.returns-then-is_some-clause-refusal
 returns-then-is_some-clause-refusal c =
     let live = c.args.self.now.live in
     let held = c.in-Some.node.now in
-    let dir = directory_is held.kept.what c.in-Some-identifier_in.identifier.now c.in-Some-folder.folder.now
-    (ap identifier_in (sym c.what.ensures) ∙ sym c.in-Some-identifier_in.ensures) (sym c.in-Some-folder.ensures.value) in
     let n = c.in-Ok-from_slice.name in
     let found = some_found c.look.result (IsNamed live c.args.parent n) c.look.ensures.found (sym c.is_some.ensures ∙ c.if-is_some.true) in
-    exists_refused live c.args.parent c.args.name.now held (sym c.in-Some.ensures) (kind_is held.kept.what c.in-Some-identifier_in.identifier.now c.in-Some-folder.folder.now dir)
+    exists_refused live c.args.parent c.args.name.now held (sym c.in-Some.ensures) (kind_is held.kept.what c.in-Some-identifier_in.identifier.now (ap identifier_in (sym c.what.ensures) ∙ sym c.in-Some-identifier_in.ensures))
     c.len-count.ensures.tree n (c.in-Ok.ensures.name ∙ ap (λ (m : List ℕ). Ok m) (sym (c.in-Ok-from_slice.ensures ∙ c.as_bytes.ensures.bytes))) found.0 found.1
 
 pub returns-then-is_full-clause-refusal : goal.returns-then-is_full-clause-refusal
 returns-then-is_full-clause-refusal c =
     let live = c.args.self.now.live in
     let held = c.in-Some.node.now in
-    let dir = directory_is held.kept.what c.in-Some-identifier_in.identifier.now c.in-Some-folder.folder.now
-    (ap identifier_in (sym c.what.ensures) ∙ sym c.in-Some-identifier_in.ensures) (sym c.in-Some-folder.ensures.value) in
     let n = c.in-Ok-from_slice.name in
-    full_refused live c.args.parent c.args.name.now held (sym c.in-Some.ensures) (kind_is held.kept.what c.in-Some-identifier_in.identifier.now c.in-Some-folder.folder.now dir)
+    full_refused live c.args.parent c.args.name.now held (sym c.in-Some.ensures) (kind_is held.kept.what c.in-Some-identifier_in.identifier.now (ap identifier_in (sym c.what.ensures) ∙ sym c.in-Some-identifier_in.ensures))
     c.len-count.ensures.tree n (c.in-Ok.ensures.name ∙ ap (λ (m : List ℕ). Ok m) (sym (c.in-Ok-from_slice.ensures ∙ c.as_bytes.ensures.bytes)))
     (none_found c.look.result (IsFree live c.args.parent n) c.look.ensures.none (sym c.is_some.ensures ∙ c.if-is_some.false))
     (λ contents. c.is_full.ensures contents ∙ c.if-is_full.true)
@@ -82,6 +74,4 @@ returns-in-Ok-place_name-clause-site c =
 pub returns-clause-refusal : goal.returns-clause-refusal
 returns-clause-refusal c =
     let held = c.in-Some.node.now in
-    let dir = directory_is held.kept.what c.in-Some-identifier_in.identifier.now c.in-Some-folder.folder.now
-    (ap identifier_in (sym c.what.ensures) ∙ sym c.in-Some-identifier_in.ensures) (sym c.in-Some-folder.ensures.value) in
-    lacks_memory c.args.self.now.live c.args.parent c.args.name.now held (sym c.in-Some.ensures) (kind_is held.kept.what c.in-Some-identifier_in.identifier.now c.in-Some-folder.folder.now dir)
+    lacks_memory c.args.self.now.live c.args.parent c.args.name.now held (sym c.in-Some.ensures) (kind_is held.kept.what c.in-Some-identifier_in.identifier.now (ap identifier_in (sym c.what.ensures) ∙ sym c.in-Some-identifier_in.ensures))
