@@ -40,12 +40,12 @@ begin_of views folder workers log = record {
 }
 
 -- the store that was opened stands for no entries yet, from a beginning on
-pub begun : {D N C E K : Type 0} (start : Rows → Origin → Type 0) (since : FolderView → KeyPair → Rows → Type 0) (views : Views D N C E K) (kind : SecretKind) (folder : D) (workers : List (Worker N E K)) (secret : Course SourceView) (second : Option ℕ) (store : OpenVault D)
+pub begun : {D N C E K : Type 0} {start : Rows → Origin → Type 0} {since : FolderView → KeyPair → Rows → Type 0} {views : Views D N C E K} {kind : SecretKind} {folder : D} {workers : List (Worker N E K)} {secret : Course SourceView} {second : Option ℕ} {store : OpenVault D}
     → AreBeginnings start views folder workers → IsAlone since kind (views.folder folder) secret.before second
     → IsUnlockedStore views.folder (given_of views.folder secret second folder folder) kind folder store
     → StandsFor start (λ (s : OpenVault D) rows origin history. IsSharedStore views.folder since s rows origin history) store []
 unfolding begin_of
-begun start since views kind folder workers secret second store starts alone unlocked =
+begun {views = views} {folder = folder} {workers = workers} {store = store} starts alone unlocked =
     let opened = unlocked.opened in
     let origin : Origin = begin_of views folder workers (views.folder store.folder).log in
     let faults : (views.folder folder).faults ≤ (views.folder store.folder).faults = omega (arith, unlocked.read.faults, unlocked.later) in
@@ -77,9 +77,9 @@ begun start since views kind folder workers secret second store starts alone unl
     }
 
 -- no random source has fewer faults than there
-pub begun_since : {D N C E K : Type 0} (start : Rows → Origin → Type 0) (views : Views D N C E K) (folder : D) (workers : List (Worker N E K))
+pub begun_since : {D N C E K : Type 0} {start : Rows → Origin → Type 0} {views : Views D N C E K} {folder : D} {workers : List (Worker N E K)}
     → AreBeginnings start views folder workers → (rows : Rows) (origin : Origin) → start rows origin → AreSince (λ (e : E). (views.entropy e).faults) origin 0 workers
-begun_since start views folder workers starts rows origin begins =
+begun_since {views = views} {workers = workers} starts rows origin begins =
     let is = (starts.only rows origin begins).entropy_faults in
     since_at views origin 0 workers (λ n i same.
     let e : n ≡ i = omega arith in

@@ -17,7 +17,7 @@ use Rattle.vault_words.specs.Jobs.{Demonstration}
 use Rattle.demonstration.specs.Summary.{summary_line}
 use Rattle.demonstration.specs.Objects.{IsEmptyVault, key_line}
 use Rattle.outside.specs.declared.stream.Failed.{Failed}
-use Rattle.outside.specs.Calls.{Changes, Told}
+use Rattle.outside.specs.Calls.{Told}
 use Rattle.outside.specs.Images.{disk_in, now}
 use Rattle.outside.specs.Views.{FolderView}
 use Rattle.vault_keys.specs.Keys.{KeyPair}
@@ -32,11 +32,10 @@ use Rattle.session_server.specs.Workers.{MayStop}
 use Rattle.shared_tree.specs.declared.workers.Worker.{Worker}
 use Rattle.store_laws.specs.Store.{StoreView, bounded}
 use Rattle.vault_store.specs.Open.{ClosedVault}
-use Rattle.unlocking.specs.Secret.{IsAfterLine, raw_keys}
+use Rattle.unlocking.specs.Secret.{raw_keys}
 use Rattle.unlocking.specs.FromFolder.{IsUnlocking, unlock, with_raw_threshold}
 use Rattle.unlocking.specs.declared.from_folder.SecretKind.TheVariants.{RawKeys}
 use Rattle.vault_top.specs.Span.{Course, SourceView, Views, span_of}
-use Rattle.vault_top.specs.Sharing.{AreBeginnings, IsAlone}
 use Rattle.vault_top.specs.Sessions.{IsServedWhole}
 use Rattle.vault_top.specs.Report.{line}
 use Rattle.vault_top.specs.Tasks.{AreScriptsOf}
@@ -48,7 +47,7 @@ use Rattle.vault_top.specs.declared.serving.HandedBack.{HandedBack}
 use Rattle.vault_top.specs.declared.serving.Outcome.{Outcome}
 use Rattle.vault_top.specs.declared.serving.Outcome.TheVariants.{Served, NoMemory}
 use Rattle.vault_top.specs.declared.task.Service.{Service}
-use Rattle.vault_top.proofs.Reasons.{served_well}
+use Rattle.vault_top.proofs.Reasons.{Beginning, served_well}
 
 -- ---- ends
 
@@ -89,23 +88,19 @@ few_entries n m is few = omega arith
 
 -- ---- a vault all of whose sessions were held
 
-module _ {D N C E K : Type 0} (start : Rows → Origin → Type 0) (since : FolderView → KeyPair → Rows → Type 0) (views : Views D N C E K) (words : List (List ℕ)) (secret : Course SourceView) (second : Option ℕ) (folder : D) (service : Service)
-    (workers workers' : List (Worker N E K)) (ends : List SessionEnd) (back : HandedBack D) (kept : Kept D)
-    (starts : AreBeginnings start views folder workers) (alone : IsAlone since service.kind (views.folder folder) secret.before second)
-    (line : Changes secret.before.left secret.after.left IsAfterLine) (is : IsKeptOf back service.sessions kept) where
+module _ {D N C E K : Type 0} {start : Rows → Origin → Type 0} {since : FolderView → KeyPair → Rows → Type 0} {views : Views D N C E K} {secret : Course SourceView} {second : Option ℕ} {folder : D} {service : Service}
+    {workers workers' : List (Worker N E K)} {ends : List SessionEnd} {back : HandedBack D} {kept : Kept D} (beginning : Beginning start since views secret second folder service workers) (is : IsKeptOf back service.sessions kept) where
   all_counted : (h : HasServedAll start since views service workers workers' ends back) → AreCounts is.counts ends
   all_counted h =
       let counted = counted_so h.counts h.closed.committed back.outcome is.counts h.outcome is.outcome in
       subst (λ (es : List SessionEnd). AreCounts is.counts es) h.ended (subst (λ (r : Result SessionCounts Failed). IfOk r (λ c. AreCounts c (all_ends h.joined.shares))) counted.counted h.joined.counted)
 
-  whole_of : (h : HasServedAll start since views service workers workers' ends back)
+  whole_of : (words : List (List ℕ)) (h : HasServedAll start since views service workers workers' ends back)
       → IsServedWhole views (span_of views words secret second folder h.folder workers workers' (Some kept.store)) service.kind service.sessions (min service.at_once (length workers)) kept.store.store.entries
-  whole_of h =
+  whole_of words h =
       let counted = counted_so h.counts h.closed.committed back.outcome is.counts h.outcome is.outcome in
       let counts = all_counted h in
-      let well = served_well start since views words secret second folder service workers workers' ends back (Some kept.store) (sym is.store) starts alone line h
-      (λ worker stop. subst (λ (r : Result SessionCounts Failed). MayStop r worker) counted.counted stop) counted.closed
-      in
+      let well = served_well beginning h words (sym is.store) (λ worker stop. subst (λ (r : Result SessionCounts Failed). MayStop r worker) counted.counted stop) counted.closed in
       record {
         ends = ends;
         served = well.served;
@@ -116,12 +111,12 @@ module _ {D N C E K : Type 0} (start : Rows → Origin → Type 0) (since : Fold
             (ap (λ (c : ClosedVault). c.store.entries) (sym (same_some h.closed kept.store back.store h.closed_is is.store)) ∙ ap (λ (s : StoreView). s.entries) h.closing.idle ∙ h.joined.right.stands.count) is.few ∙ sym well.count;
       }
 
-  pub served_whole : HasServed start since views service workers workers' ends back
+  pub served_whole : (words : List (List ℕ)) → HasServed start since views service workers workers' ends back
       → IsServedWhole views (span_of views words secret second folder kept.folder workers workers' (Some kept.store)) service.kind service.sessions (min service.at_once (length workers)) kept.store.store.entries
-  served_whole (inl h) =
+  served_whole words (inl h) =
       subst (λ (f : D). IsServedWhole views (span_of views words secret second folder f workers workers' (Some kept.store)) service.kind service.sessions (min service.at_once (length workers)) kept.store.store.entries)
-      (same_some h.folder kept.folder back.folder h.folder_is is.folder) (whole_of h)
-  served_whole (inr h) = absurd (not_counted back.outcome is.counts h.outcome is.outcome)
+      (same_some h.folder kept.folder back.folder h.folder_is is.folder) (whole_of words h)
+  served_whole words (inr h) = absurd (not_counted back.outcome is.counts h.outcome is.outcome)
 
 -- ---- a demonstration
 

@@ -35,43 +35,63 @@ unasked store_of view start since None folder same h = subst (λ (o : Option _).
 unasked store_of view start since (Some vault) folder same h = subst (λ (o : Option _). IfSome o (IsUnasked view start since)) (sym same)
     (record { rows = h.rows; origin = h.origin; begins = h.begins; store = (store_of vault).store; threshold = (store_of vault).threshold; shared = h.right })
 
--- a tree that stands for what a store does was served, and the store was closed
-pub served_all : {T D N C E K : Type 0} (stands : T → Rows → Origin → List Entry → Type 0) (start : Rows → Origin → Type 0) (since : FolderView → KeyPair → Rows → Type 0) (views : Views D N C E K) (service : Service) (workers workers' : List (Worker N E K))
-    (tree : T) (store : OpenVault D) (counts : Result SessionCounts Failed) (back : HandedBack D) (folder : D) (at_once : ℕ) → at_once ≡ min service.at_once (length workers)
-    → (rows : Rows) × (origin : Origin) × start rows origin × IsJoined stands draws_for views.listener views.entropy views.link views.clock service.sessions at_once rows origin tree workers workers' counts
-    → ((rows : Rows) (origin : Origin) (history : List Entry) → stands tree rows origin history → IsSharedStore views.folder since store rows origin history)
-    → back.folder ≡ Some folder → (closed : ClosedVault) → back.store ≡ Some closed → IsClosing views.folder store.store store.folder closed folder
-    → HasOutcome counts closed.committed back.outcome
+-- a tree that stood for what a store did was served, and the store was closed
+pub record ServedTree {T D N C E K : Type 0} (stands : T → Rows → Origin → List Entry → Type 0) (start : Rows → Origin → Type 0)
+    (since : FolderView → KeyPair → Rows → Type 0) (views : Views D N C E K) (service : Service) (workers workers' : List (Worker N E K))
+    (back : HandedBack D) : Type 0 where
+  pub tree : T
+  pub store : OpenVault D
+  pub counts : Result SessionCounts Failed
+  pub at_once : ℕ
+  pub few : at_once ≡ min service.at_once (length workers)
+  pub joined : (rows : Rows) × (origin : Origin) × start rows origin × IsJoined stands draws_for views.listener views.entropy views.link
+      views.clock service.sessions at_once rows origin tree workers workers' counts
+  pub shared : (rows : Rows) (origin : Origin) (history : List Entry) → stands tree rows origin history
+      → IsSharedStore views.folder since store rows origin history
+  pub folder : D
+  pub folder_is : back.folder ≡ Some folder
+  pub closed : ClosedVault
+  pub closed_is : back.store ≡ Some closed
+  pub closing : IsClosing views.folder store.store store.folder closed folder
+  pub outcome : HasOutcome counts closed.committed back.outcome
+
+pub served_all : {T D N C E K : Type 0} {stands : T → Rows → Origin → List Entry → Type 0} {start : Rows → Origin → Type 0}
+    {since : FolderView → KeyPair → Rows → Type 0} {views : Views D N C E K} {service : Service} {workers workers' : List (Worker N E K)}
+    {back : HandedBack D} → ServedTree stands start since views service workers workers' back
     → (ends : List SessionEnd) × HasServed start since views service workers workers' ends back
-served_all stands start since views service workers workers' tree store counts back folder at_once few (rows, origin, begins, j) right is closed closed_is closing outcome = (
-  all_ends j.shares,
-  inl (record {
-    rows = rows;
-    origin = origin;
-    begins = begins;
-    store = store;
-    counts = counts;
-    joined = record {
-      count = j.count;
-      entries = j.entries;
-      right = right rows origin j.entries j.right;
-      shares = j.shares;
-      are = subst (λ (m : ℕ). AreShares views.link (MayStop counts) service.sessions m 0 (spans.worker_spans views.listener views.entropy views.clock workers workers') j.shares) few j.are;
-      counted = j.counted;
-      failed = j.failed;
-      callers = j.callers;
-      no_others = j.no_others;
-      in_time = j.in_time;
-    };
-    ended = refl;
-    folder = folder;
-    folder_is = is;
-    closed = closed;
-    closed_is = closed_is;
-    closing = closing;
-    outcome = outcome;
-  }),
-)
+served_all {views = views} {service = service} {workers = workers} {workers' = workers'} is =
+    let rows = is.joined.0 in
+    let origin = is.joined.1 in
+    let j = is.joined.3 in (
+      all_ends j.shares,
+      inl (record {
+        rows = rows;
+        origin = origin;
+        begins = is.joined.2;
+        store = is.store;
+        counts = is.counts;
+        joined = record {
+          count = j.count;
+          entries = j.entries;
+          right = is.shared rows origin j.entries j.right;
+          shares = j.shares;
+          are = subst (λ (m : ℕ). AreShares views.link (MayStop is.counts) service.sessions m 0
+              (spans.worker_spans views.listener views.entropy views.clock workers workers') j.shares) is.few j.are;
+          counted = j.counted;
+          failed = j.failed;
+          callers = j.callers;
+          no_others = j.no_others;
+          in_time = j.in_time;
+        };
+        ended = refl;
+        folder = is.folder;
+        folder_is = is.folder_is;
+        closed = is.closed;
+        closed_is = is.closed_is;
+        closing = is.closing;
+        outcome = is.outcome;
+      }),
+    )
 
 -- how the store was closed
 pub closing_of : {D : Type 0} (view : D → FolderView) (vault : OpenVault D) (closed : ClosedVault) (folder : D) → (view vault.folder).faults ≤ (view folder).faults → closed.store ≡ idle_of vault.store

@@ -103,8 +103,8 @@ module _ (found : Option Log) (store : StoreView) (folder : FolderView) (rows : 
     count = is.count;
   }
 
-module _ (before : FolderView) (store : StoreView) (back folder : FolderView) (rows : Rows) (origin : Origin) (entries : List Entry) (is : IsStoreOf before.log store back rows origin entries)
-    (closed : ClosedVault) (how : IsClosing (λ view. view) store back closed folder) where
+module _ (before : FolderView) {store : StoreView} {back folder : FolderView} {rows : Rows} {origin : Origin} {entries : List Entry} (is : IsStoreOf before.log store back rows origin entries)
+    {closed : ClosedVault} (how : IsClosing (λ view. view) store back closed folder) where
   -- what waited was committed
   flushed : IsFlushed store closed.store back folder → IsStoreOf before.log closed.store folder rows origin entries
   flushed done = flushes_stand store closed.store back folder done before.log rows origin entries is

@@ -116,8 +116,8 @@ pub record IsHandedBack (keys : KeyPair) (rows : Rows) (origin : Origin) (entrie
 -- What a stop leaves of a vault that was served under these keys with these entries. The folder's log goes on from the one that was found; a stop at
 -- any moment, from the end of the opening on, and if the disk was found sound from the end of the opening's first sync on, recovers to a prefix of the history
 -- that holds all that was synced; and up to the moment at which the history begins to a disk that shows the rows that it begins with. Each time what isn't the
--- vault's own is as it was found, also among its data. At each of these moments what isn't on the disk is at the journal's two files, or at paths that the batch
--- names which the journal holds.
+-- vault's own is as it was found, also among its data. At each of these moments the changes since the last sync name the journal's two files alone, or paths that
+-- the batch names which the journal holds.
 pub record HasStops (keys : KeyPair) (rows : Rows) (origin : Origin) (entries : List Entry) (before after : FolderView) : Type 0 where
   pub grown : Changes before.log after.log LogGoesOn
   pub recover : Told after.log (λ log. (opened : ℕ) → IsSaidFrom before.log origin opened → StopsRecover (shows_under before.log keys) opened rows entries log)

@@ -55,7 +55,7 @@ NewVaultsAreOpenable = (password : List ℕ) (secrets : NewSecrets) (disk : Disk
 
 -- ---- runs that were killed, on a host that lives on
 
--- if what isn't on the disk is at loose paths, all is on it once these are flushed as they are read
+-- if the changes since the last sync name loose paths alone, all is on the disk once these are flushed as they are read
 abbrev pub TidyLogsAreFlushed : Type 0
 TidyLogsAreFlushed = (log : Log) → IsTidy log → IsFlushedWhole log
 

@@ -79,8 +79,8 @@ pub fn no_stop_damages_a_journal<D: Folder, N: Listener, E: Entropy, K: Clock>()
     ensures new { NewVaultsAreOpenable }
 {}
 
-/// What a run that is killed leaves off the disk is at loose paths: the journal's two files, and the paths that the batch names which the
-/// journal holds. Flushed there, on a host that lives on, all is on the disk as it is read. It does nothing.
+/// The changes that a run which is killed leaves unsynced name loose paths alone: the journal's two files, and the paths that the batch names
+/// which the journal holds. Flushed there, on a host that lives on, all is on the disk as it is read. It does nothing.
 pub fn a_killed_run_is_flushed_at_loose_paths()
     ensures tidy { TidyLogsAreFlushed }
     ensures served { KilledVaultsAreFlushed }

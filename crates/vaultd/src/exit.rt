@@ -57,7 +57,7 @@ fn started<
     'a,
     R: SystemClock
         + Env
-        + Files
+        + Files<File = File>
         + Input
         + Print
         + Eprint
@@ -108,7 +108,7 @@ pub(crate) fn exit_status<
     'a,
     R: SystemClock
         + Env
-        + Files
+        + Files<File = File>
         + Input
         + Print
         + Eprint

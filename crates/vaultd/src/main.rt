@@ -12,6 +12,7 @@
 
 mod error;
 mod exit;
+mod laws;
 mod starting;
 
 use crate::exit::exit_status;

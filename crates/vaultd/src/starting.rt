@@ -18,6 +18,7 @@ use host_sockets::{Output, Socket};
 use outside::{Clock, Entropy, Gate, Link, Listener, Reads, Sink, Stage};
 use outside_real::{HostClock, OsEntropy, StdCalls};
 use std::alloc::AllocError;
+use std::fs::File;
 use std::io::Input;
 use std::net::{Net, TcpListener, TcpStream};
 use std::rt::{Clock as SystemClock, Files};
@@ -42,7 +43,7 @@ pub struct Started {
 }
 
 // So many workers, each with a listener at a socket.
-fn workers_at<'a, 's, R: SystemClock + Files + AllocGlobal>(
+fn workers_at<'a, 's, R: SystemClock + Files<File = File> + AllocGlobal>(
     rt: &'a R,
     socket: &'s Socket,
     count: u64,
@@ -64,7 +65,10 @@ fn workers_at<'a, 's, R: SystemClock + Files + AllocGlobal>(
 
 // The paths in a vault's folder at which an earlier run may have left something off the disk, by its journal. If that can't be read or is damaged
 // there are none: `run` comes to the same fault and reports it.
-fn loose_at<R: Files + AllocGlobal>(rt: &R, path: &str) -> Result<Vec<VaultPath>, AllocError> {
+fn loose_at<R: Files<File = File> + AllocGlobal>(
+    rt: &R,
+    path: &str,
+) -> Result<Vec<VaultPath>, AllocError> {
     let mut folder = Unsettled::new(StdCalls::new(rt), rt.alloc(), path)?;
     match loose_paths(rt.alloc(), &mut folder) {
         Ok(paths) => Ok(paths),
@@ -75,7 +79,7 @@ fn loose_at<R: Files + AllocGlobal>(rt: &R, path: &str) -> Result<Vec<VaultPath>
 
 // The folder at a path, once what an earlier run may have left off the disk is on it. It is opened anew, since no clause says that what read the
 // journal is still at that path.
-fn settled_at<'a, R: Files + AllocGlobal>(
+fn settled_at<'a, R: Files<File = File> + AllocGlobal>(
     rt: &'a R,
     path: &str,
 ) -> Result<HostFolder<StdCalls<&'a R>>, AllocError>
@@ -87,7 +91,7 @@ fn settled_at<'a, R: Files + AllocGlobal>(
 }
 
 // The folder at a path, as it is found.
-fn untold_at<'a, R: Files + AllocGlobal>(
+fn untold_at<'a, R: Files<File = File> + AllocGlobal>(
     rt: &'a R,
     path: &str,
 ) -> Result<HostFolder<StdCalls<&'a R>>, AllocError>
@@ -98,7 +102,7 @@ fn untold_at<'a, R: Files + AllocGlobal>(
 }
 
 // The folder at a path, in which a vault may be served.
-fn folder_at<'a, R: Files + AllocGlobal>(
+fn folder_at<'a, R: Files<File = File> + AllocGlobal>(
     rt: &'a R,
     path: &str,
     is_served: bool,
@@ -116,7 +120,7 @@ fn folder_at<'a, R: Files + AllocGlobal>(
 // words are.
 fn serve_streams<
     'a,
-    R: SystemClock + Files + Input + Print + Threads + Wait + Sync + AllocGlobal,
+    R: SystemClock + Files<File = File> + Input + Print + Threads + Wait + Sync + AllocGlobal,
     O: Sink,
 >(
     rt: &'a R,
@@ -161,7 +165,7 @@ where
 fn serve_socket<
     'a,
     's,
-    R: SystemClock + Files + Input + Print + Threads + Wait + Sync + AllocGlobal,
+    R: SystemClock + Files<File = File> + Input + Print + Threads + Wait + Sync + AllocGlobal,
     O: Sink,
 >(
     rt: &'a R,
@@ -215,7 +219,7 @@ fn tell_port<R: Eprint>(rt: &R, address: &str, socket: &Socket) {
 fn serve_if_bound<
     'a,
     R: SystemClock
-        + Files
+        + Files<File = File>
         + Input
         + Print
         + Eprint
@@ -264,7 +268,7 @@ where
 fn serve_at<
     'a,
     R: SystemClock
-        + Files
+        + Files<File = File>
         + Input
         + Print
         + Eprint
@@ -292,7 +296,7 @@ where
 pub fn start<
     'a,
     R: SystemClock
-        + Files
+        + Files<File = File>
         + Input
         + Print
         + Eprint

@@ -4,7 +4,6 @@ use Rattle.outside.specs.Calls.{next_of}
 use Rattle.vault_store.specs.Open.{ClosedVault}
 use Rattle.vault_top.specs.declared.cause.Cause.TheVariants.{Words, Memory}
 use Rattle.vault_top.specs.Words.{words_of}
-use Rattle.vault_top.specs.Span.{course, source_in, sink_in, views_of}
 use Rattle.vault_top.specs.Ending.{usage_said, version_said, demonstrated}
 use Rattle.vault_top.proofs.Written.{written_as}
 use Rattle.vault_top.proofs.Reasons.{run_untouched, run_badly_asked}
@@ -27,40 +26,21 @@ returns-in-Ok-Make g c =
     record { run = c.make.ensures (words_of c.args.words.now) asked.0 (next_of (g.K.Clock.to_give c.args.clock.now)) asked.1 }
 
 pub returns-in-Ok-Usage : goal.returns-in-Ok-Usage
-returns-in-Ok-Usage g c =
-    let views = views_of g.D.Reads g.N.Listener g.N.Conn.Link g.E.Entropy g.K.Clock in
-    record {
-      run = run_untouched views (words_of c.args.words.now) (source_in g.S.Source c.args.secret.now) (next_of (g.K.Clock.to_give c.args.clock.now))
-          c.args.folder c.args.workers.now.items (course (sink_in g.O.Sink) c.args.out.now c.report.new.out) _ usage_said refl refl
-          (λ untouched. (rw c.in-Ok-Usage.field-0-is at c.in-Ok-Usage.ensures.task, untouched))
-          (written_as _ _ _ _ _ 0 4 c.report.result c.as_bytes.ensures.value c.report.ensures.written);
-    }
+returns-in-Ok-Usage g c = record {
+  run = run_untouched usage_said refl refl (λ untouched. (rw c.in-Ok-Usage.field-0-is at c.in-Ok-Usage.ensures.task, untouched)) (written_as _ _ _ _ _ 0 4 c.report.result c.as_bytes.ensures.value c.report.ensures.written);
+}
 
 pub returns-in-Ok-Version : goal.returns-in-Ok-Version
-returns-in-Ok-Version g c =
-    let views = views_of g.D.Reads g.N.Listener g.N.Conn.Link g.E.Entropy g.K.Clock in
-    record {
-      run = run_untouched views (words_of c.args.words.now) (source_in g.S.Source c.args.secret.now) (next_of (g.K.Clock.to_give c.args.clock.now))
-          c.args.folder c.args.workers.now.items (course (sink_in g.O.Sink) c.args.out.now c.report-in-Ok-Version.new.out) _ version_said refl refl
-          (λ untouched. (rw c.in-Ok-Version.field-0-is at c.in-Ok-Version.ensures.task, untouched))
-          (written_as _ _ _ _ _ 0 4 c.report-in-Ok-Version.result c.as_bytes-in-Ok-Version.ensures.value c.report-in-Ok-Version.ensures.written);
-    }
+returns-in-Ok-Version g c = record {
+  run = run_untouched version_said refl refl (λ untouched. (rw c.in-Ok-Version.field-0-is at c.in-Ok-Version.ensures.task, untouched))
+      (written_as _ _ _ _ _ 0 4 c.report-in-Ok-Version.result c.as_bytes-in-Ok-Version.ensures.value c.report-in-Ok-Version.ensures.written);
+}
 
 pub returns-in-Err-Refused : goal.returns-in-Err-Refused
-returns-in-Err-Refused g c =
-    let views = views_of g.D.Reads g.N.Listener g.N.Conn.Link g.E.Entropy g.K.Clock in
-    record {
-      run = run_badly_asked views (words_of c.args.words.now) (source_in g.S.Source c.args.secret.now) (next_of (g.K.Clock.to_give c.args.clock.now))
-          c.args.folder c.args.workers.now.items (course (sink_in g.O.Sink) c.args.out.now c.refuse.new.out) _ Words refl refl (inl (refl, rw c.in-Err-Refused.field-0-is at c.in-Err-Refused.ensures.cause)) c.refuse.ensures;
-    }
+returns-in-Err-Refused g c = record { run = run_badly_asked Words refl refl (inl (refl, rw c.in-Err-Refused.field-0-is at c.in-Err-Refused.ensures.cause)) c.refuse.ensures }
 
 pub returns-in-Err-Memory : goal.returns-in-Err-Memory
-returns-in-Err-Memory g c =
-    let views = views_of g.D.Reads g.N.Listener g.N.Conn.Link g.E.Entropy g.K.Clock in
-    record {
-      run = run_badly_asked views (words_of c.args.words.now) (source_in g.S.Source c.args.secret.now) (next_of (g.K.Clock.to_give c.args.clock.now))
-          c.args.folder c.args.workers.now.items (course (sink_in g.O.Sink) c.args.out.now c.refuse-in-Err-Memory.new.out) _ Memory refl refl (inr refl) c.refuse-in-Err-Memory.ensures;
-    }
+returns-in-Err-Memory g c = record { run = run_badly_asked Memory refl refl (inr refl) c.refuse-in-Err-Memory.ensures }
 
 pub report_demonstration-requires : goal.report_demonstration-requires
 report_demonstration-requires g c =
@@ -69,17 +49,11 @@ report_demonstration-requires g c =
 
 pub returns-in-Ok-Demo : goal.returns-in-Ok-Demo
 returns-in-Ok-Demo g c =
-    let views = views_of g.D.Reads g.N.Listener g.N.Conn.Link g.E.Entropy g.K.Clock in
     let asked = rw c.in-Ok-Demo.field-0-is at c.in-Ok-Demo.ensures.task in
-    let words = words_of c.args.words.now in
-    let secret = source_in g.S.Source c.args.secret.now in
-    let sink = course (sink_in g.O.Sink) c.args.out.now c.report_demonstration.new.out in
     record {
       run = elim (c.report_demonstration.ensures.demonstrated asked.0 asked.2.are) [
-        | inl h ↦ run_untouched views words secret (next_of (g.K.Clock.to_give c.args.clock.now)) c.args.folder c.args.workers.now.items sink c.report_demonstration.result (demonstrated h.text)
-            c.report_demonstration.ensures.folder (subst (λ (store : Option ClosedVault). IsSome store) (sym h.store_is) refl)
+        | inl h ↦ run_untouched (demonstrated h.text) c.report_demonstration.ensures.folder (subst (λ (store : Option ClosedVault). IsSome store) (sym h.store_is) refl)
             (λ untouched. record { demonstration = asked.0; words = asked.1; untouched = untouched; closed = h.closed; is = h.store_is; held = h.held }) h.reported
-        | inr h ↦ run_badly_asked views words secret (next_of (g.K.Clock.to_give c.args.clock.now)) c.args.folder c.args.workers.now.items sink c.report_demonstration.result Memory
-            c.report_demonstration.ensures.folder h.0 (inr refl) h.1
+        | inr h ↦ run_badly_asked Memory c.report_demonstration.ensures.folder h.0 (inr refl) h.1
       ];
     }

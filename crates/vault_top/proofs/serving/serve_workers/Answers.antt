@@ -13,15 +13,26 @@ returns-in-Ok g c =
     let views = views_of g.D.Reads g.N.Listener g.N.Conn.Link g.E.Entropy g.K.Clock in
     let many : c.len.result ≡ length c.args.workers.now.items = (let len = c.len.ensures in let ok = c.args.workers.now.ok in omega arith) in
     let store = c.into_store.result in
+    let close = c.close-folder in
     record {
-      served = served_all _ g.B.Start.is g.B.Since.since views c.args.service c.args.workers.now.items c.serve_all.new.workers.items
-          c.in-Ok.field-0.tree store c.in-Ok.field-0.counts _ c.close-folder.result.0 c.sharers-at_once.result
-          (c.sharers-at_once.ensures ∙ ap (λ (n : ℕ). min c.args.service.at_once n) many)
-          c.in-Ok.ensures.joined
-          (λ rows origin history h. subst (λ (s : OpenVault _). IsSharedStore views.folder g.B.Since.since s rows origin history) (sym c.into_store.ensures) h)
-          refl c.close-folder.result.1 refl
-          (closing_of views.folder store c.close-folder.result.1 c.close-folder.result.0 c.close-folder.ensures.later c.close-folder.ensures.idle c.close-folder.ensures.flushed c.close-folder.ensures.stopped c.close-folder.ensures.moments c.close-folder.ensures.cause)
-          (subst (λ (r : Result (Unit {0}) Failed). HasOutcome c.in-Ok.field-0.counts r c.outcome_of.result) c.committed.ensures c.outcome_of.ensures);
+      served = served_all (record {
+        tree = _;
+        store = store;
+        counts = _;
+        at_once = _;
+        few = c.sharers-at_once.ensures ∙ ap (λ (n : ℕ). min c.args.service.at_once n) many;
+        joined = c.in-Ok.ensures.joined;
+        shared = λ rows origin history h.
+            subst (λ (s : OpenVault _). IsSharedStore views.folder g.B.Since.since s rows origin history) (sym c.into_store.ensures) h;
+        folder = _;
+        folder_is = refl;
+        closed = _;
+        closed_is = refl;
+        closing = closing_of views.folder store close.result.1 close.result.0 close.ensures.later close.ensures.idle close.ensures.flushed
+            close.ensures.stopped close.ensures.moments close.ensures.cause;
+        outcome = subst (λ (r : Result (Unit {0}) Failed). HasOutcome c.in-Ok.field-0.counts r c.outcome_of.result) c.committed.ensures
+            c.outcome_of.ensures;
+      });
     }
 
 pub returns-in-Err : goal.returns-in-Err
