@@ -78,19 +78,24 @@ four p q r t = p ++ q ++ r ++ t
 run-mix : (p q r t : ℕ) → p < 256 → q < 256 → r < 256 → t < 256 → number (bits_from (run mix_gates (bits_of p ++ bits_of q ++ bits_of r ++ bits_of t))) ≡ mixed p q r t
 run-mix p q r t hp hq hr ht = ap number (sym (mixed-bits p q r t hp hq hr ht)) ∙ number-bits_of (mixed p q r t) (mixed-lt p q r t hp hq hr ht)
 
-pub mixed-at : (lane bit : ℕ) (y0 y1 y2 y3 y4 y5 y6 y7 r0 r1 r2 r3 r4 r5 r6 r7 yo0 yo1 yo2 yo3 yo4 yo5 yo6 yo7 ro0 ro1 ro2 ro3 ro4 ro5 ro6 ro7 : List ℕ) (ws : List (List ℕ)) → lane < 16
-    → AreVectors (y0 ∷ y1 ∷ y2 ∷ y3 ∷ y4 ∷ y5 ∷ y6 ∷ y7 ∷ r0 ∷ r1 ∷ r2 ∷ r3 ∷ r4 ∷ r5 ∷ r6 ∷ r7 ∷ yo0 ∷ yo1 ∷ yo2 ∷ yo3 ∷ yo4 ∷ yo5 ∷ yo6 ∷ yo7 ∷ ro0 ∷ ro1 ∷ ro2 ∷ ro3 ∷ ro4 ∷ ro5 ∷ ro6 ∷ ro7 ∷ []) → length ws ≡ 35
-    → Wired mix_gates (y0 ∷ y1 ∷ y2 ∷ y3 ∷ y4 ∷ y5 ∷ y6 ∷ y7 ∷ r0 ∷ r1 ∷ r2 ∷ r3 ∷ r4 ∷ r5 ∷ r6 ∷ r7 ∷ yo0 ∷ yo1 ∷ yo2 ∷ yo3 ∷ yo4 ∷ yo5 ∷ yo6 ∷ yo7 ∷ ro0 ∷ ro1 ∷ ro2 ∷ ro3 ∷ ro4 ∷ ro5 ∷ ro6 ∷ ro7 ∷ []) ws
-    → number (bits_from (bits_at lane bit (all_wires (y0 ∷ y1 ∷ y2 ∷ y3 ∷ y4 ∷ y5 ∷ y6 ∷ y7 ∷ r0 ∷ r1 ∷ r2 ∷ r3 ∷ r4 ∷ r5 ∷ r6 ∷ r7 ∷ yo0 ∷ yo1 ∷ yo2 ∷ yo3 ∷ yo4 ∷ yo5 ∷ yo6 ∷ yo7 ∷ ro0 ∷ ro1 ∷ ro2 ∷ ro3 ∷ ro4 ∷ ro5 ∷ ro6 ∷ ro7 ∷ []) ws)))
-    ≡ mixed (byte_at (y0 ∷ y1 ∷ y2 ∷ y3 ∷ y4 ∷ y5 ∷ y6 ∷ y7 ∷ []) lane bit) (byte_at (r0 ∷ r1 ∷ r2 ∷ r3 ∷ r4 ∷ r5 ∷ r6 ∷ r7 ∷ []) lane bit) (byte_at (yo0 ∷ yo1 ∷ yo2 ∷ yo3 ∷ yo4 ∷ yo5 ∷ yo6 ∷ yo7 ∷ []) lane bit) (byte_at (ro0 ∷ ro1 ∷ ro2 ∷ ro3 ∷ ro4 ∷ ro5 ∷ ro6 ∷ ro7 ∷ []) lane bit)
-mixed-at lane bit y0 y1 y2 y3 y4 y5 y6 y7 r0 r1 r2 r3 r4 r5 r6 r7 yo0 yo1 yo2 yo3 yo4 yo5 yo6 yo7 ro0 ro1 ro2 ro3 ro4 ro5 ro6 ro7 ws within are long wired =
-    let y = byte-is lane bit y0 y1 y2 y3 y4 y5 y6 y7 in
-    let r = byte-is lane bit r0 r1 r2 r3 r4 r5 r6 r7 in
-    let yo = byte-is lane bit yo0 yo1 yo2 yo3 yo4 yo5 yo6 yo7 in
-    let ro = byte-is lane bit ro0 ro1 ro2 ro3 ro4 ro5 ro6 ro7 in
-    ap (λ (l : List ℕ). number (bits_from l)) (bits-of_wires lane bit within mix_gates (y0 ∷ y1 ∷ y2 ∷ y3 ∷ y4 ∷ y5 ∷ y6 ∷ y7 ∷ r0 ∷ r1 ∷ r2 ∷ r3 ∷ r4 ∷ r5 ∷ r6 ∷ r7 ∷ yo0 ∷ yo1 ∷ yo2 ∷ yo3 ∷ yo4 ∷ yo5 ∷ yo6 ∷ yo7 ∷ ro0 ∷ ro1 ∷ ro2 ∷ ro3 ∷ ro4 ∷ ro5 ∷ ro6 ∷ ro7 ∷ []) ws are long wired)
-    ∙ ap₂ (λ (a b : List ℕ). number (bits_from (run mix_gates (a ++ b)))) y.1 (ap₂ (λ (a b : List ℕ). a ++ b) r.1 (ap₂ (λ (a b : List ℕ). a ++ b) yo.1 ro.1))
-    ∙ run-mix _ _ _ _ y.0 r.0 yo.0 ro.0
+bits_at-append : (lane bit : ℕ) (vs ws : List (List ℕ)) → bits_at lane bit (vs ++ ws) ≡ bits_at lane bit vs ++ bits_at lane bit ws
+bits_at-append lane bit [] ws = refl
+bits_at-append lane bit (v ∷ vs) ws = ap (λ (l : List ℕ). bit_of lane bit v ∷ l) (bits_at-append lane bit vs ws)
+
+-- the circuit over the planes of four rows: a row, the next, and those opposite the two
+pub mixed-at : (lane bit : ℕ) (y r yo ro ws : List (List ℕ)) → lane < 16 → length y ≡ 8 → length r ≡ 8 → length yo ≡ 8 → length ro ≡ 8 → AreVectors (y ++ (r ++ (yo ++ ro))) → length ws ≡ 35 → Wired mix_gates (y ++ (r ++ (yo ++ ro))) ws
+    → number (bits_from (bits_at lane bit (all_wires (y ++ (r ++ (yo ++ ro))) ws))) ≡ mixed (byte_at y lane bit) (byte_at r lane bit) (byte_at yo lane bit) (byte_at ro lane bit)
+mixed-at lane bit y r yo ro ws within y_long r_long yo_long ro_long are long wired =
+    let p = byte-is lane bit y y_long in
+    let q = byte-is lane bit r r_long in
+    let s = byte-is lane bit yo yo_long in
+    let t = byte-is lane bit ro ro_long in
+    let parts : bits_at lane bit (y ++ (r ++ (yo ++ ro))) ≡ bits_at lane bit y ++ (bits_at lane bit r ++ (bits_at lane bit yo ++ bits_at lane bit ro)) =
+    bits_at-append lane bit y (r ++ (yo ++ ro))
+    ∙ ap (λ (l : List ℕ). bits_at lane bit y ++ l) (bits_at-append lane bit r (yo ++ ro) ∙ ap (λ (l : List ℕ). bits_at lane bit r ++ l) (bits_at-append lane bit yo ro)) in
+    ap (λ (l : List ℕ). number (bits_from l)) (bits-of_wires lane bit within mix_gates (y ++ (r ++ (yo ++ ro))) ws are long wired)
+    ∙ ap (λ (l : List ℕ). number (bits_from (run mix_gates l))) (parts ∙ ap₂ (λ (a b : List ℕ). a ++ b) p.1 (ap₂ (λ (a b : List ℕ). a ++ b) q.1 (ap₂ (λ (a b : List ℕ). a ++ b) s.1 t.1)))
+    ∙ run-mix _ _ _ _ p.0 q.0 s.0 t.0
 
 -- each of some places is within 16 lanes
 pub place-lt : (places : List ℕ) → T (all_below 16 places) → (i : ℕ) → get_or places i 0 < 16

@@ -1,5 +1,5 @@
 -- The circuit of the S-box, on bits.
-use Rattle.std.proofs.Common.{◌≡◌, ℕ, ◌/◌, ◌%◌, ◌<◌, List, [], ◌∷◌, length, map, get_or, bit_xor, refl, ap, ◌∙◌, arith}
+use Rattle.std.proofs.Common.{◌≡◌, ℕ, ◌/◌, ◌%◌, ◌<◌, List, [], ◌∷◌, length, map, get_or, bit_xor, refl, sym, ap, subst, ◌∙◌, arith}
 use Rattle.std.proofs.lemmas.List.FromFn.{fill_by_all}
 use Rattle.aes_block.proofs.TableLemmas.{forward, forward-is, same_below}
 use Rattle.aes_kernels.specs.Circuit.{bit_of, bits_at, bits_of, byte_at, number, substituted_at}
@@ -53,12 +53,11 @@ pub eight-is : (x : List (List ℕ)) → length x ≡ 8 → x ≡ get_or x 0 [] 
 eight-is x long = fill_by_all (λ (k : ℕ). get_or x k []) x 8 [] long (λ k h. refl)
 
 -- the byte of eight planes, and its bits
-pub byte-is : (lane bit : ℕ) (p0 p1 p2 p3 p4 p5 p6 p7 : List ℕ)
-    → (byte_at (p0 ∷ p1 ∷ p2 ∷ p3 ∷ p4 ∷ p5 ∷ p6 ∷ p7 ∷ []) lane bit < 256)
-    × (bits_at lane bit (p0 ∷ p1 ∷ p2 ∷ p3 ∷ p4 ∷ p5 ∷ p6 ∷ p7 ∷ []) ≡ bits_of (byte_at (p0 ∷ p1 ∷ p2 ∷ p3 ∷ p4 ∷ p5 ∷ p6 ∷ p7 ∷ []) lane bit))
-byte-is lane bit p0 p1 p2 p3 p4 p5 p6 p7 =
-    let low : (v : List ℕ) → bit_of lane bit v < 2 = λ v. omega arith in
-    bits_of-number _ _ _ _ _ _ _ _ (low p0) (low p1) (low p2) (low p3) (low p4) (low p5) (low p6) (low p7)
+pub byte-is : (lane bit : ℕ) (planes : List (List ℕ)) → length planes ≡ 8 → (byte_at planes lane bit < 256) × (bits_at lane bit planes ≡ bits_of (byte_at planes lane bit))
+byte-is lane bit planes long =
+    let low : (i : ℕ) → bit_of lane bit (get_or planes i []) < 2 = λ i. omega arith in
+    subst (λ (x : List (List ℕ)). (byte_at x lane bit < 256) × (bits_at lane bit x ≡ bits_of (byte_at x lane bit))) (sym (eight-is planes long))
+    (bits_of-number _ _ _ _ _ _ _ _ (low 0) (low 1) (low 2) (low 3) (low 4) (low 5) (low 6) (low 7))
 
 pub s_box-at : (lane bit : ℕ) (p0 p1 p2 p3 p4 p5 p6 p7 : List ℕ) (ws : List (List ℕ)) → lane < 16 → AreVectors (p0 ∷ p1 ∷ p2 ∷ p3 ∷ p4 ∷ p5 ∷ p6 ∷ p7 ∷ []) → length ws ≡ 115
     → Wired s_box_gates (p0 ∷ p1 ∷ p2 ∷ p3 ∷ p4 ∷ p5 ∷ p6 ∷ p7 ∷ []) ws

@@ -109,7 +109,3 @@ last-blocks p key z k blocks size long keys had made bit small =
     last_row (λ l. byte_at p (lane_of l) bit) (λ l. byte_at z (lane_of l) bit) (λ l. get_or rk l 0) (at 0 (lit< tt)) (at 4 (lit< tt)) (at 8 (lit< tt)) (at 12 (lit< tt)) (at 1 (lit< tt)) (at 5 (lit< tt)) (at 9 (lit< tt)) (at 13 (lit< tt)) (at 2 (lit< tt)) (at 6 (lit< tt)) (at 10 (lit< tt)) (at 14 (lit< tt)) (at 3 (lit< tt)) (at 7 (lit< tt)) (at 11 (lit< tt)) (at 15 (lit< tt))
     ∙ ap₂ (λ (s t : List ℕ). xor_bytes (shift_rows (sub_bytes s)) t) (had bit small) (sym (sixteen-is rk long))
     ∙ aes-is k (key_schedule k) (get_or blocks bit []) 14 refl (omega (arith, size))
-
-pub eight-same : {a0 a1 a2 a3 a4 a5 a6 a7 b0 b1 b2 b3 b4 b5 b6 b7 : List ℕ} → a0 ≡ b0 → a1 ≡ b1 → a2 ≡ b2 → a3 ≡ b3 → a4 ≡ b4 → a5 ≡ b5 → a6 ≡ b6 → a7 ≡ b7
-    → (a0 ∷ a1 ∷ a2 ∷ a3 ∷ a4 ∷ a5 ∷ a6 ∷ a7 ∷ []) ≡ (b0 ∷ b1 ∷ b2 ∷ b3 ∷ b4 ∷ b5 ∷ b6 ∷ b7 ∷ [])
-eight-same e0 e1 e2 e3 e4 e5 e6 e7 = cc

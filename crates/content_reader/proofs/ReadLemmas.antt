@@ -51,25 +51,39 @@ pub header_ends : (header : Option Head) (slice : Option (List ℕ)) (before now
 header_ends header slice before now Device closed ends = ends
 header_ends header slice before now Damaged closed ends = closed ends
 
+-- the chunks that a slice meets were read from a host file whose header, if it has one, opens to this head: n bytes
+pub record HasReadChunks (keys : KeyPair) (head : Head) (d : Disk) (path : Path) (at count n : ℕ) (new : List ℕ) : Type 0 where
+  pub first : ℕ
+  pub many : ℕ
+  pub room : ℕ
+  pub key : IsKey keys.enc
+  pub some : 0 < count
+  pub opens : (bytes : List ℕ) → HasHeader d path bytes → header_opens keys (take 68 bytes) ≡ Some head
+  pub is_first : first ≡ at / 32768
+  pub meets : Meets at count first many
+  pub is_room : room ≡ 32796 * many
+  pub gave : (bytes : List ℕ) × (node_at d path ≡ Some (file bytes)) × (n ≡ min room (length bytes - (68 + 32796 * first)))
+      × (take n new ≡ take n (drop (68 + 32796 * first) bytes))
+
 -- what was read of a slice that is within a content
-pub span_is : (keys : KeyPair) (head : Head) (d : Disk) (path : Path) (at count : ℕ) {first : ℕ} (many n : ℕ) {room : ℕ} (new : List ℕ) {bytes : List ℕ} → IsKey keys.enc → 0 < count
-    → ((bytes : List ℕ) → HasHeader d path bytes → header_opens keys (take 68 bytes) ≡ Some head) → first ≡ at / 32768 → Meets at count first many → room ≡ 32796 * many
-    → (bytes : List ℕ) × (node_at d path ≡ Some (file bytes)) × (n ≡ min room (length bytes - (68 + 32796 * first))) × (take n new ≡ take n (drop (68 + 32796 * first) bytes))
-    → IsWithin d path at count bytes → IsSpan keys head at count (take n new) bytes
-span_is keys head d path at count {first} many n {room} new {bytes} key some opens is_first meets is_room read is =
+pub span_is : {keys : KeyPair} {head : Head} {d : Disk} {path : Path} {at count n : ℕ} {new bytes : List ℕ}
+    → HasReadChunks keys head d path at count n new → IsWithin d path at count bytes → IsSpan keys head at count (take n new) bytes
+span_is {d = d} {path = path} {at = at} {count = count} {n = n} {new = new} {bytes = bytes} read is =
     let there : node_at d path ≡ Some (file bytes) = is.there in
-    let same : read.0 ≡ bytes = cc (read.1, there) in
-    let counted : n ≡ min (32796 * many) (length bytes - (68 + 32796 * first)) =
-    read.2 ∙ ap₂ (λ (r : ℕ) (bs : List ℕ). min r (length bs - (68 + 32796 * first))) is_room same in
-    let front : take n new ≡ take n (drop (68 + 32796 * first) bytes) = read.3 ∙ ap (λ (bs : List ℕ). take n (drop (68 + 32796 * first) bs)) same in
+    let same : read.gave.0 ≡ bytes = cc (read.gave.1, there) in
+    let counted : n ≡ min (32796 * read.many) (length bytes - (68 + 32796 * read.first)) =
+    read.gave.2 ∙ ap₂ (λ (r : ℕ) (bs : List ℕ). min r (length bs - (68 + 32796 * read.first))) read.is_room same in
+    let front : take n new ≡ take n (drop (68 + 32796 * read.first) bytes) =
+    read.gave.3 ∙ ap (λ (bs : List ℕ). take n (drop (68 + 32796 * read.first) bs)) same in
     let within : at + count ≤ is.size = is.inside in
+    let some : 0 < count = read.some in
     record {
-      key = key;
+      key = read.key;
       size = is.size;
       sized = is.sized;
       inside = is.inside;
-      header = opens bytes (record { there = is.there; long = header_within (length bytes) is.size at is.sized (omega arith) });
-      chunks = chunks_read at count first many n bytes (take n new) some is_first meets counted front;
+      header = read.opens bytes (record { there = is.there; long = header_within (length bytes) is.size at is.sized (omega arith) });
+      chunks = chunks_read at count read.first read.many n bytes (take n new) some read.is_first read.meets counted front;
     }
 
 -- what was gathered into the front of a list

@@ -111,30 +111,30 @@ Counted_step cipher nonce old now b block ys n a e blocks known at end room is m
     subst (λ (k : ℕ). Counted cipher nonce old (n + 1) (put_mid k (e - a) now ys)) (sym at) next
 
 -- four encrypted counter blocks
-pub four_masks_are : (cipher : List ℕ → List ℕ) (nonce b0 b1 b2 b3 : List ℕ) (first : ℕ) → first < 2 ^ 32
+pub four_masks_are : (cipher : List ℕ → List ℕ) (nonce : List ℕ) {b0 b1 b2 b3 : List ℕ} (first : ℕ) → first < 2 ^ 32
     → b0 ≡ counter_block nonce first → b1 ≡ counter_block nonce ((first + 1) % 4294967296)
     → b2 ≡ counter_block nonce ((first + 2) % 4294967296) → b3 ≡ counter_block nonce ((first + 3) % 4294967296)
     → (j : ℕ) → j < 4 → get_or (map cipher (b0 ∷ b1 ∷ b2 ∷ b3 ∷ [])) j [] ≡ cipher (counter_block nonce ((first + j) % 2 ^ 32))
-four_masks_are cipher nonce b0 b1 b2 b3 first small e0 e1 e2 e3 zero within =
+four_masks_are cipher nonce first small e0 e1 e2 e3 zero within =
     let same : first ≡ (first + 0) % 2 ^ 32 = omega arith in
     ap cipher (e0 ∙ ap (counter_block nonce) same)
-four_masks_are cipher nonce b0 b1 b2 b3 first small e0 e1 e2 e3 (suc zero) within = ap cipher e1
-four_masks_are cipher nonce b0 b1 b2 b3 first small e0 e1 e2 e3 (suc (suc zero)) within = ap cipher e2
-four_masks_are cipher nonce b0 b1 b2 b3 first small e0 e1 e2 e3 (suc (suc (suc zero))) within = ap cipher e3
-four_masks_are cipher nonce b0 b1 b2 b3 first small e0 e1 e2 e3 (suc (suc (suc (suc j)))) within = absurd (omega arith)
+four_masks_are cipher nonce first small e0 e1 e2 e3 (suc zero) within = ap cipher e1
+four_masks_are cipher nonce first small e0 e1 e2 e3 (suc (suc zero)) within = ap cipher e2
+four_masks_are cipher nonce first small e0 e1 e2 e3 (suc (suc (suc zero))) within = ap cipher e3
+four_masks_are cipher nonce first small e0 e1 e2 e3 (suc (suc (suc (suc j)))) within = absurd (omega arith)
 
 -- eight encrypted counter blocks
-pub eight_masks_are : (cipher : List ℕ → List ℕ) (nonce b0 b1 b2 b3 b4 b5 b6 b7 : List ℕ) (first : ℕ) → first < 2 ^ 32
+pub eight_masks_are : (cipher : List ℕ → List ℕ) (nonce : List ℕ) {b0 b1 b2 b3 b4 b5 b6 b7 : List ℕ} (first : ℕ) → first < 2 ^ 32
     → b0 ≡ counter_block nonce first → b1 ≡ counter_block nonce ((first + 1) % 4294967296) → b2 ≡ counter_block nonce ((first + 2) % 4294967296) → b3 ≡ counter_block nonce ((first + 3) % 4294967296) → b4 ≡ counter_block nonce ((first + 4) % 4294967296) → b5 ≡ counter_block nonce ((first + 5) % 4294967296) → b6 ≡ counter_block nonce ((first + 6) % 4294967296) → b7 ≡ counter_block nonce ((first + 7) % 4294967296)
     → (j : ℕ) → j < 8 → get_or (map cipher (b0 ∷ b1 ∷ b2 ∷ b3 ∷ b4 ∷ b5 ∷ b6 ∷ b7 ∷ [])) j [] ≡ cipher (counter_block nonce ((first + j) % 2 ^ 32))
-eight_masks_are cipher nonce b0 b1 b2 b3 b4 b5 b6 b7 first small e0 e1 e2 e3 e4 e5 e6 e7 zero within =
+eight_masks_are cipher nonce first small e0 e1 e2 e3 e4 e5 e6 e7 zero within =
     let same : first ≡ (first + 0) % 2 ^ 32 = omega arith in
     ap cipher (e0 ∙ ap (counter_block nonce) same)
-eight_masks_are cipher nonce b0 b1 b2 b3 b4 b5 b6 b7 first small e0 e1 e2 e3 e4 e5 e6 e7 (suc zero) within = ap cipher e1
-eight_masks_are cipher nonce b0 b1 b2 b3 b4 b5 b6 b7 first small e0 e1 e2 e3 e4 e5 e6 e7 (suc (suc zero)) within = ap cipher e2
-eight_masks_are cipher nonce b0 b1 b2 b3 b4 b5 b6 b7 first small e0 e1 e2 e3 e4 e5 e6 e7 (suc (suc (suc zero))) within = ap cipher e3
-eight_masks_are cipher nonce b0 b1 b2 b3 b4 b5 b6 b7 first small e0 e1 e2 e3 e4 e5 e6 e7 (suc (suc (suc (suc zero)))) within = ap cipher e4
-eight_masks_are cipher nonce b0 b1 b2 b3 b4 b5 b6 b7 first small e0 e1 e2 e3 e4 e5 e6 e7 (suc (suc (suc (suc (suc zero))))) within = ap cipher e5
-eight_masks_are cipher nonce b0 b1 b2 b3 b4 b5 b6 b7 first small e0 e1 e2 e3 e4 e5 e6 e7 (suc (suc (suc (suc (suc (suc zero)))))) within = ap cipher e6
-eight_masks_are cipher nonce b0 b1 b2 b3 b4 b5 b6 b7 first small e0 e1 e2 e3 e4 e5 e6 e7 (suc (suc (suc (suc (suc (suc (suc zero))))))) within = ap cipher e7
-eight_masks_are cipher nonce b0 b1 b2 b3 b4 b5 b6 b7 first small e0 e1 e2 e3 e4 e5 e6 e7 (suc (suc (suc (suc (suc (suc (suc (suc j)))))))) within = absurd (omega arith)
+eight_masks_are cipher nonce first small e0 e1 e2 e3 e4 e5 e6 e7 (suc zero) within = ap cipher e1
+eight_masks_are cipher nonce first small e0 e1 e2 e3 e4 e5 e6 e7 (suc (suc zero)) within = ap cipher e2
+eight_masks_are cipher nonce first small e0 e1 e2 e3 e4 e5 e6 e7 (suc (suc (suc zero))) within = ap cipher e3
+eight_masks_are cipher nonce first small e0 e1 e2 e3 e4 e5 e6 e7 (suc (suc (suc (suc zero)))) within = ap cipher e4
+eight_masks_are cipher nonce first small e0 e1 e2 e3 e4 e5 e6 e7 (suc (suc (suc (suc (suc zero))))) within = ap cipher e5
+eight_masks_are cipher nonce first small e0 e1 e2 e3 e4 e5 e6 e7 (suc (suc (suc (suc (suc (suc zero)))))) within = ap cipher e6
+eight_masks_are cipher nonce first small e0 e1 e2 e3 e4 e5 e6 e7 (suc (suc (suc (suc (suc (suc (suc zero))))))) within = ap cipher e7
+eight_masks_are cipher nonce first small e0 e1 e2 e3 e4 e5 e6 e7 (suc (suc (suc (suc (suc (suc (suc (suc j)))))))) within = absurd (omega arith)

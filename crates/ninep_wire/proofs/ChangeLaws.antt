@@ -10,7 +10,7 @@ use Rattle.tree_model.specs.Asked.{PlainChange}
 use Rattle.ninep_wire.specs.declared.fault.WireErr.TheVariants.{Long}
 use Rattle.tree_model.specs.Wire.{number, string, IsString, qid, IsQid}
 use Rattle.ninep_wire.specs.TMessage.{optional_number, optional_qid, optional_string, change_fields, change_stat, IsTouchedNumber, IsTouchedString, IsChange}
-use Rattle.ninep_wire.specs.Reading.{◌>>=◌, bytes_at, number_at, string_at, qid_at, touched_number, touched_qid, touched_string, optional_number_at, optional_qid_at, optional_string_at, change_at, ended, stat_in, stat_at}
+use Rattle.ninep_wire.specs.Reading.{◌>>=◌, bytes_at, number_at, qid_at, touched_number, touched_qid, touched_string, optional_number_at, optional_qid_at, optional_string_at, change_at, ended, stat_in, stat_at}
 use Rattle.ninep_wire.proofs.FieldLaws.{IsBytes, IsBytes-front, bind_ok, passed_ok, ok_is, Takes, Takes-then, IsField, step, takes1, bytes_field, number_field, string_field, qid_field}
 
 -- ---- a field that may be untouched
@@ -37,7 +37,7 @@ pub optional_number_field : (n : ℕ) → IsField (Option ℕ) (optional_number_
 unfolding optional_number_at
 optional_number_field n = record {
   takes = λ bytes x fits e.
-      takes1 (number_at n) (number n) (λ k. k < 256 ^ n) (number_field n) (touched_number n) bytes x fits e (λ y. Takes bytes (optional_number n y.0) y.1 × IsTouchedNumber n y.0)
+      takes1 (number_field n) (touched_number n) bytes x fits e (λ y. Takes bytes (optional_number n y.0) y.1 × IsTouchedNumber n y.0)
       (λ k rest t lt. let is = touched_number_is n k (eqb k (256 ^ n - 1)) refl lt in (subst (λ (w : List ℕ). Takes bytes w rest) is.0 t, is.1));
   again = optional_number_again n;
 }
@@ -95,7 +95,7 @@ pub optional_qid_field : IsField (Option Qid) optional_qid_at optional_qid (λ x
 unfolding optional_qid_at
 optional_qid_field = record {
   takes = λ bytes x fits e.
-      takes1 qid_at qid IsQid qid_field touched_qid bytes x fits e (λ y. Takes bytes (optional_qid y.0) y.1 × IfSome y.0 (λ q. IsQid q × (qid q ≢ optional_qid None)))
+      takes1 qid_field touched_qid bytes x fits e (λ y. Takes bytes (optional_qid y.0) y.1 × IfSome y.0 (λ q. IsQid q × (qid q ≢ optional_qid None)))
       (λ q rest t f. let is = touched_qid_is q (are_ones q) refl f in (subst (λ (w : List ℕ). Takes bytes w rest) is.0 t, is.1));
   again = optional_qid_again;
 }
@@ -119,7 +119,7 @@ pub optional_string_field : IsField (Option (List ℕ)) optional_string_at optio
 unfolding optional_string_at
 optional_string_field = record {
   takes = λ bytes x fits e.
-      takes1 string_at string IsString string_field touched_string bytes x fits e (λ y. Takes bytes (optional_string y.0) y.1 × IsTouchedString y.0)
+      takes1 string_field touched_string bytes x fits e (λ y. Takes bytes (optional_string y.0) y.1 × IsTouchedString y.0)
       (λ text rest t f. let is = touched_string_is text (eqb (length text) 0) refl f in (subst (λ (w : List ℕ). Takes bytes w rest) is.0 t, is.1));
   again = optional_string_again;
 }
@@ -148,45 +148,45 @@ after {a} {x} {b} {y} {c} p q = Takes-then a x b y c p q
 pub change_takes : (bytes : List ℕ) (x : PlainChange × List ℕ) → IsBytes bytes → change_at bytes ≡ Ok x → Takes bytes (change_fields x.0) x.1 × AreTouched x.0
 unfolding change_at
 change_takes bytes x fits e =
-    step (optional_number_at 2) (optional_number 2) (IsTouchedNumber 2) (optional_number_field 2) (λ v0. optional_number_at 4 v0.1 >>=
+    step (optional_number_field 2) (λ v0. optional_number_at 4 v0.1 >>=
     λ v1. optional_qid_at v1.1 >>= λ v2. optional_number_at 4 v2.1 >>= λ v3. optional_number_at 4 v3.1 >>= λ v4. optional_number_at 4 v4.1 >>=
     λ v5. optional_number_at 8 v5.1 >>= λ v6. optional_string_at v6.1 >>= λ v7. optional_string_at v7.1 >>= λ v8. optional_string_at v8.1 >>=
     λ v9. optional_string_at v9.1 >>= λ v10. Ok (made v0.0 v1.0 v2.0 v3.0 v4.0 v5.0 v6.0 v7.0 v8.0 v9.0 v10.0, v10.1)) bytes x fits e (Takes bytes (change_fields x.0) x.1 × AreTouched x.0) (λ p0 r0 t0 f0 e0.
-    step (optional_number_at 4) (optional_number 4) (IsTouchedNumber 4) (optional_number_field 4) (λ v1. optional_qid_at v1.1 >>=
+    step (optional_number_field 4) (λ v1. optional_qid_at v1.1 >>=
     λ v2. optional_number_at 4 v2.1 >>= λ v3. optional_number_at 4 v3.1 >>= λ v4. optional_number_at 4 v4.1 >>= λ v5. optional_number_at 8 v5.1 >>=
     λ v6. optional_string_at v6.1 >>= λ v7. optional_string_at v7.1 >>= λ v8. optional_string_at v8.1 >>= λ v9. optional_string_at v9.1 >>=
     λ v10. Ok (made p0 v1.0 v2.0 v3.0 v4.0 v5.0 v6.0 v7.0 v8.0 v9.0 v10.0, v10.1)) r0 x t0.rest_fits e0 (Takes bytes (change_fields x.0) x.1 × AreTouched x.0)
     (λ p1 r1 t1 f1 e1.
     let u1 = after t0 t1 in
-    step optional_qid_at optional_qid (λ x. IfSome x (λ q. IsQid q × (qid q ≢ optional_qid None))) optional_qid_field (λ v2. optional_number_at 4 v2.1 >>=
+    step optional_qid_field (λ v2. optional_number_at 4 v2.1 >>=
     λ v3. optional_number_at 4 v3.1 >>= λ v4. optional_number_at 4 v4.1 >>= λ v5. optional_number_at 8 v5.1 >>= λ v6. optional_string_at v6.1 >>=
     λ v7. optional_string_at v7.1 >>= λ v8. optional_string_at v8.1 >>= λ v9. optional_string_at v9.1 >>= λ v10. Ok (made p0 p1 v2.0 v3.0 v4.0 v5.0 v6.0 v7.0 v8.0 v9.0 v10.0, v10.1)) r1 x t1.rest_fits e1 (Takes bytes (change_fields x.0) x.1 × AreTouched x.0) (λ p2 r2 t2 f2 e2.
     let u2 = after u1 t2 in
-    step (optional_number_at 4) (optional_number 4) (IsTouchedNumber 4) (optional_number_field 4) (λ v3. optional_number_at 4 v3.1 >>=
+    step (optional_number_field 4) (λ v3. optional_number_at 4 v3.1 >>=
     λ v4. optional_number_at 4 v4.1 >>= λ v5. optional_number_at 8 v5.1 >>= λ v6. optional_string_at v6.1 >>= λ v7. optional_string_at v7.1 >>=
     λ v8. optional_string_at v8.1 >>= λ v9. optional_string_at v9.1 >>= λ v10. Ok (made p0 p1 p2 v3.0 v4.0 v5.0 v6.0 v7.0 v8.0 v9.0 v10.0, v10.1)) r2 x t2.rest_fits e2 (Takes bytes (change_fields x.0) x.1 × AreTouched x.0) (λ p3 r3 t3 f3 e3.
     let u3 = after u2 t3 in
-    step (optional_number_at 4) (optional_number 4) (IsTouchedNumber 4) (optional_number_field 4) (λ v4. optional_number_at 4 v4.1 >>=
+    step (optional_number_field 4) (λ v4. optional_number_at 4 v4.1 >>=
     λ v5. optional_number_at 8 v5.1 >>= λ v6. optional_string_at v6.1 >>= λ v7. optional_string_at v7.1 >>= λ v8. optional_string_at v8.1 >>=
     λ v9. optional_string_at v9.1 >>= λ v10. Ok (made p0 p1 p2 p3 v4.0 v5.0 v6.0 v7.0 v8.0 v9.0 v10.0, v10.1)) r3 x t3.rest_fits e3 (Takes bytes (change_fields x.0) x.1 × AreTouched x.0) (λ p4 r4 t4 f4 e4.
     let u4 = after u3 t4 in
-    step (optional_number_at 4) (optional_number 4) (IsTouchedNumber 4) (optional_number_field 4) (λ v5. optional_number_at 8 v5.1 >>=
+    step (optional_number_field 4) (λ v5. optional_number_at 8 v5.1 >>=
     λ v6. optional_string_at v6.1 >>= λ v7. optional_string_at v7.1 >>= λ v8. optional_string_at v8.1 >>= λ v9. optional_string_at v9.1 >>=
     λ v10. Ok (made p0 p1 p2 p3 p4 v5.0 v6.0 v7.0 v8.0 v9.0 v10.0, v10.1)) r4 x t4.rest_fits e4 (Takes bytes (change_fields x.0) x.1 × AreTouched x.0) (λ p5 r5 t5 f5 e5.
     let u5 = after u4 t5 in
-    step (optional_number_at 8) (optional_number 8) (IsTouchedNumber 8) (optional_number_field 8) (λ v6. optional_string_at v6.1 >>=
+    step (optional_number_field 8) (λ v6. optional_string_at v6.1 >>=
     λ v7. optional_string_at v7.1 >>= λ v8. optional_string_at v8.1 >>= λ v9. optional_string_at v9.1 >>= λ v10. Ok (made p0 p1 p2 p3 p4 p5 v6.0 v7.0 v8.0 v9.0 v10.0, v10.1)) r5 x t5.rest_fits e5 (Takes bytes (change_fields x.0) x.1 × AreTouched x.0) (λ p6 r6 t6 f6 e6.
     let u6 = after u5 t6 in
-    step optional_string_at optional_string IsTouchedString optional_string_field (λ v7. optional_string_at v7.1 >>=
+    step optional_string_field (λ v7. optional_string_at v7.1 >>=
     λ v8. optional_string_at v8.1 >>= λ v9. optional_string_at v9.1 >>= λ v10. Ok (made p0 p1 p2 p3 p4 p5 p6 v7.0 v8.0 v9.0 v10.0, v10.1)) r6 x t6.rest_fits e6 (Takes bytes (change_fields x.0) x.1 × AreTouched x.0) (λ p7 r7 t7 f7 e7.
     let u7 = after u6 t7 in
-    step optional_string_at optional_string IsTouchedString optional_string_field (λ v8. optional_string_at v8.1 >>=
+    step optional_string_field (λ v8. optional_string_at v8.1 >>=
     λ v9. optional_string_at v9.1 >>= λ v10. Ok (made p0 p1 p2 p3 p4 p5 p6 p7 v8.0 v9.0 v10.0, v10.1)) r7 x t7.rest_fits e7 (Takes bytes (change_fields x.0) x.1 × AreTouched x.0)
     (λ p8 r8 t8 f8 e8.
     let u8 = after u7 t8 in
-    step optional_string_at optional_string IsTouchedString optional_string_field (λ v9. optional_string_at v9.1 >>= λ v10. Ok (made p0 p1 p2 p3 p4 p5 p6 p7 p8 v9.0 v10.0, v10.1)) r8 x t8.rest_fits e8 (Takes bytes (change_fields x.0) x.1 × AreTouched x.0) (λ p9 r9 t9 f9 e9.
+    step optional_string_field (λ v9. optional_string_at v9.1 >>= λ v10. Ok (made p0 p1 p2 p3 p4 p5 p6 p7 p8 v9.0 v10.0, v10.1)) r8 x t8.rest_fits e8 (Takes bytes (change_fields x.0) x.1 × AreTouched x.0) (λ p9 r9 t9 f9 e9.
     let u9 = after u8 t9 in
-    step optional_string_at optional_string IsTouchedString optional_string_field (λ v10. Ok (made p0 p1 p2 p3 p4 p5 p6 p7 p8 p9 v10.0, v10.1)) r9 x t9.rest_fits e9 (Takes bytes (change_fields x.0) x.1 × AreTouched x.0) (λ p10 r10 t10 f10 e10.
+    step optional_string_field (λ v10. Ok (made p0 p1 p2 p3 p4 p5 p6 p7 p8 p9 v10.0, v10.1)) r9 x t9.rest_fits e9 (Takes bytes (change_fields x.0) x.1 × AreTouched x.0) (λ p10 r10 t10 f10 e10.
     let u10 = after u9 t10 in
     let read : PlainChange × List ℕ = (made p0 p1 p2 p3 p4 p5 p6 p7 p8 p9 p10, r10) in
     subst (λ (y : PlainChange × List ℕ). Takes bytes (change_fields y.0) y.1 × AreTouched y.0) (ok_is read x e10)
@@ -235,10 +235,10 @@ whole_stat bytes inner fields left after size c e0 e1 len e2 e3 e4 =
 stat_in_takes : (bytes : List ℕ) (c : PlainChange) → IsBytes bytes → stat_in bytes ≡ Ok c → (bytes ≡ change_stat c) × AreTouched c
 unfolding stat_in
 stat_in_takes bytes c fits e =
-    step (number_at 2) (number 2) (λ n. n < 256 ^ 2) (number_field 2)
+    step (number_field 2)
     (λ size. bytes_at size.0 size.1 >>= λ fields. change_at fields.0 >>= λ change. ended change >>= λ whole. ended (whole, fields.1))
     bytes c fits e ((bytes ≡ change_stat c) × AreTouched c) (λ size inner t0 f0 e0.
-    step (bytes_at size) (λ text. text) (λ text. length text ≡ size) (bytes_field size)
+    step (bytes_field size)
     (λ fields. change_at fields.0 >>= λ change. ended change >>= λ whole. ended (whole, fields.1))
     inner c t0.rest_fits e0 ((bytes ≡ change_stat c) × AreTouched c) (λ fields after t1 f1 e1.
     let a = bind_ok (change_at fields) (λ change. ended change >>= λ whole. ended (whole, after)) c e1 in

@@ -171,60 +171,56 @@ data_field = record {
 -- ---- several fields in a row
 
 -- one step of a reader, and what follows it
-pub step : {A D : Type 0} (a : List ℕ → Result (A × List ℕ) WireErr) (sa : A → List ℕ) (FA : A → Type 0) → IsField A a sa FA
+pub step : {A D : Type 0} {a : List ℕ → Result (A × List ℕ) WireErr} {sa : A → List ℕ} {FA : A → Type 0} → IsField A a sa FA
     → (k : A × List ℕ → Result D WireErr) (bytes : List ℕ) (y : D) → IsBytes bytes → (a bytes >>= k) ≡ Ok y
     → (P : Type 0) → ((p : A) (rest : List ℕ) → Takes bytes (sa p) rest → FA p → k (p, rest) ≡ Ok y → P) → P
-step a sa FA fa k bytes y fits e P h =
+step {a = a} fa k bytes y fits e P h =
     let b = bind_ok (a bytes) k y e in
     let t = fa.takes bytes b.0 fits b.1 in
     h b.0.0 b.0.1 t.0 t.1 b.2
 
-pub takes1 : {A D : Type 0} (a : List ℕ → Result (A × List ℕ) WireErr) (sa : A → List ℕ) (FA : A → Type 0) → IsField A a sa FA
+pub takes1 : {A D : Type 0} {a : List ℕ → Result (A × List ℕ) WireErr} {sa : A → List ℕ} {FA : A → Type 0} → IsField A a sa FA
     → (make : A → D) (bytes : List ℕ) (y : D × List ℕ) → IsBytes bytes → (a bytes >>= λ x. Ok (make x.0, x.1)) ≡ Ok y
     → (P : D × List ℕ → Type 0) → ((p : A) (rest : List ℕ) → Takes bytes (sa p) rest → FA p → P (make p, rest)) → P y
-takes1 {A} {D} a sa FA fa make bytes y fits e P h =
+takes1 {D = D} {a = a} fa make bytes y fits e P h =
     let b = bind_ok (a bytes) (λ x. Ok (make x.0, x.1)) y e in
     let t = fa.takes bytes b.0 fits b.1 in
     let made : D × List ℕ = (make b.0.0, b.0.1) in
     subst P (ok_is made y b.2) (h b.0.0 b.0.1 t.0 t.1)
 
-pub takes2 : {A B D : Type 0} (a : List ℕ → Result (A × List ℕ) WireErr) (sa : A → List ℕ) (FA : A → Type 0) → IsField A a sa FA
-    → (b : List ℕ → Result (B × List ℕ) WireErr) (sb : B → List ℕ) (FB : B → Type 0) → IsField B b sb FB
+pub takes2 : {A B D : Type 0} {a : List ℕ → Result (A × List ℕ) WireErr} {sa : A → List ℕ} {FA : A → Type 0} {b : List ℕ → Result (B × List ℕ) WireErr} {sb : B → List ℕ} {FB : B → Type 0} → IsField A a sa FA → IsField B b sb FB
     → (make : A → B → D) (bytes : List ℕ) (y : D × List ℕ) → IsBytes bytes → (a bytes >>= λ x. b x.1 >>= λ z. Ok (make x.0 z.0, z.1)) ≡ Ok y
     → (P : D × List ℕ → Type 0) → ((p : A) (q : B) (rest : List ℕ) → Takes bytes (sa p ++ sb q) rest → FA p → FB q → P (make p q, rest)) → P y
-takes2 a sa FA fa b sb FB fb make bytes y fits e P h =
+takes2 {a = a} {sa = sa} {b = b} {sb = sb} fa fb make bytes y fits e P h =
     let s = bind_ok (a bytes) (λ x. b x.1 >>= λ z. Ok (make x.0 z.0, z.1)) y e in
     let t = fa.takes bytes s.0 fits s.1 in
-    takes1 b sb FB fb (make s.0.0) s.0.1 y t.0.rest_fits s.2 P (λ q rest u g. h s.0.0 q rest (Takes-then bytes (sa s.0.0) s.0.1 (sb q) rest t.0 u) t.1 g)
+    takes1 fb (make s.0.0) s.0.1 y t.0.rest_fits s.2 P (λ q rest u g. h s.0.0 q rest (Takes-then bytes (sa s.0.0) s.0.1 (sb q) rest t.0 u) t.1 g)
 
 -- what comes before is grouped to the left
 regroup : (x y z : List ℕ) (bytes rest : List ℕ) → Takes bytes (x ++ (y ++ z)) rest → Takes bytes ((x ++ y) ++ z) rest
 regroup x y z bytes rest t = subst (λ (w : List ℕ). Takes bytes w rest) (sym (append_assoc x y z)) t
 
-pub takes3 : {A B C D : Type 0} (a : List ℕ → Result (A × List ℕ) WireErr) (sa : A → List ℕ) (FA : A → Type 0) → IsField A a sa FA
-    → (b : List ℕ → Result (B × List ℕ) WireErr) (sb : B → List ℕ) (FB : B → Type 0) → IsField B b sb FB
-    → (c : List ℕ → Result (C × List ℕ) WireErr) (sc : C → List ℕ) (FC : C → Type 0) → IsField C c sc FC
+pub takes3 : {A B C D : Type 0} {a : List ℕ → Result (A × List ℕ) WireErr} {sa : A → List ℕ} {FA : A → Type 0} {b : List ℕ → Result (B × List ℕ) WireErr} {sb : B → List ℕ} {FB : B → Type 0}
+    {c : List ℕ → Result (C × List ℕ) WireErr} {sc : C → List ℕ} {FC : C → Type 0} → IsField A a sa FA → IsField B b sb FB → IsField C c sc FC
     → (make : A → B → C → D) (bytes : List ℕ) (y : D × List ℕ) → IsBytes bytes
     → (a bytes >>= λ x. b x.1 >>= λ z. c z.1 >>= λ w. Ok (make x.0 z.0 w.0, w.1)) ≡ Ok y
     → (P : D × List ℕ → Type 0) → ((p : A) (q : B) (r : C) (rest : List ℕ) → Takes bytes ((sa p ++ sb q) ++ sc r) rest → FA p → FB q → FC r → P (make p q r, rest)) → P y
-takes3 a sa FA fa b sb FB fb c sc FC fc make bytes y fits e P h =
+takes3 {a = a} {sa = sa} {b = b} {sb = sb} {c = c} {sc = sc} fa fb fc make bytes y fits e P h =
     let s = bind_ok (a bytes) (λ x. b x.1 >>= λ z. c z.1 >>= λ w. Ok (make x.0 z.0 w.0, w.1)) y e in
     let t = fa.takes bytes s.0 fits s.1 in
-    takes2 b sb FB fb c sc FC fc (make s.0.0) s.0.1 y t.0.rest_fits s.2 P
+    takes2 fb fc (make s.0.0) s.0.1 y t.0.rest_fits s.2 P
     (λ q r rest u g k. h s.0.0 q r rest (regroup (sa s.0.0) (sb q) (sc r) bytes rest (Takes-then bytes (sa s.0.0) s.0.1 (sb q ++ sc r) rest t.0 u)) t.1 g k)
 
-pub takes4 : {A B C D E : Type 0} (a : List ℕ → Result (A × List ℕ) WireErr) (sa : A → List ℕ) (FA : A → Type 0) → IsField A a sa FA
-    → (b : List ℕ → Result (B × List ℕ) WireErr) (sb : B → List ℕ) (FB : B → Type 0) → IsField B b sb FB
-    → (c : List ℕ → Result (C × List ℕ) WireErr) (sc : C → List ℕ) (FC : C → Type 0) → IsField C c sc FC
-    → (d : List ℕ → Result (D × List ℕ) WireErr) (sd : D → List ℕ) (FD : D → Type 0) → IsField D d sd FD
+pub takes4 : {A B C D E : Type 0} {a : List ℕ → Result (A × List ℕ) WireErr} {sa : A → List ℕ} {FA : A → Type 0} {b : List ℕ → Result (B × List ℕ) WireErr} {sb : B → List ℕ} {FB : B → Type 0}
+    {c : List ℕ → Result (C × List ℕ) WireErr} {sc : C → List ℕ} {FC : C → Type 0} {d : List ℕ → Result (D × List ℕ) WireErr} {sd : D → List ℕ} {FD : D → Type 0} → IsField A a sa FA → IsField B b sb FB → IsField C c sc FC → IsField D d sd FD
     → (make : A → B → C → D → E) (bytes : List ℕ) (y : E × List ℕ) → IsBytes bytes
     → (a bytes >>= λ x. b x.1 >>= λ z. c z.1 >>= λ w. d w.1 >>= λ v. Ok (make x.0 z.0 w.0 v.0, v.1)) ≡ Ok y
     → (P : E × List ℕ → Type 0)
     → ((p : A) (q : B) (r : C) (s : D) (rest : List ℕ) → Takes bytes (((sa p ++ sb q) ++ sc r) ++ sd s) rest → FA p → FB q → FC r → FD s → P (make p q r s, rest)) → P y
-takes4 a sa FA fa b sb FB fb c sc FC fc d sd FD fd make bytes y fits e P h =
+takes4 {a = a} {sa = sa} {b = b} {sb = sb} {c = c} {sc = sc} {d = d} {sd = sd} fa fb fc fd make bytes y fits e P h =
     let s = bind_ok (a bytes) (λ x. b x.1 >>= λ z. c z.1 >>= λ w. d w.1 >>= λ v. Ok (make x.0 z.0 w.0 v.0, v.1)) y e in
     let t = fa.takes bytes s.0 fits s.1 in
-    takes3 b sb FB fb c sc FC fc d sd FD fd (make s.0.0) s.0.1 y t.0.rest_fits s.2 P
+    takes3 fb fc fd (make s.0.0) s.0.1 y t.0.rest_fits s.2 P
     (λ q r o rest u g k l.
     let whole = Takes-then bytes (sa s.0.0) s.0.1 ((sb q ++ sc r) ++ sd o) rest t.0 u in
     let outer = regroup (sa s.0.0) (sb q ++ sc r) (sd o) bytes rest whole in
@@ -236,7 +232,7 @@ pub qid_field : IsField Qid qid_at qid IsQid
 unfolding qid_at
 qid_field = record {
   takes = λ bytes x fits e.
-      takes3 (number_at 1) (number 1) (λ n. n < 256 ^ 1) (number_field 1) (number_at 4) (number 4) (λ n. n < 256 ^ 4) (number_field 4) (number_at 8) (number 8) (λ n. n < 256 ^ 8) (number_field 8)
+      takes3 (number_field 1) (number_field 4) (number_field 8)
       (λ k v p. record { kind = k; version = v; path = p }) bytes x fits e (λ y. Takes bytes (qid y.0) y.1 × IsQid y.0)
       (λ k v p rest t f g h. (t, record { kind = omega (arith, f); version = omega (arith, g); path = omega (arith, h) }));
   again = λ q rest fits.

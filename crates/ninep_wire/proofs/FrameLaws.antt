@@ -36,13 +36,13 @@ whole_frame frame r0 r1 r2 rest size tag c framed size_fits tag_fits fits e0 e1 
 pub message_takes : (frame : List ℕ) (m : PlainMessage) → IsBytes frame → IsFrame frame → message_in frame ≡ Ok m → IsMessage m × (frame ≡ spelled_t m)
 unfolding message_in
 message_takes frame m fits framed e =
-    step (number_at 4) (number 4) (λ n. n < 256 ^ 4) (number_field 4)
+    step (number_field 4)
     (λ size. number_at 1 size.1 >>= λ kind. number_at 2 kind.1 >>= λ tag. t_message_at kind.0 tag.1 >>= λ call. ended call >>= λ whole. Ok (record { tag = tag.0; body = whole }))
     frame m fits e (IsMessage m × (frame ≡ spelled_t m)) (λ size r0 t0 f0 e0.
-    step (number_at 1) (number 1) (λ n. n < 256 ^ 1) (number_field 1)
+    step (number_field 1)
     (λ kind. number_at 2 kind.1 >>= λ tag. t_message_at kind.0 tag.1 >>= λ call. ended call >>= λ whole. Ok (record { tag = tag.0; body = whole }))
     r0 m t0.rest_fits e0 (IsMessage m × (frame ≡ spelled_t m)) (λ kind r1 t1 f1 e1.
-    step (number_at 2) (number 2) (λ n. n < 256 ^ 2) (number_field 2)
+    step (number_field 2)
     (λ tag. t_message_at kind tag.1 >>= λ call. ended call >>= λ whole. Ok (record { tag = tag.0; body = whole }))
     r1 m t1.rest_fits e1 (IsMessage m × (frame ≡ spelled_t m)) (λ tag r2 t2 f2 e2.
     let a = bind_ok (t_message_at kind r2) (λ call. ended call >>= λ whole. Ok (record { tag = tag; body = whole })) m e2 in

@@ -1,10 +1,10 @@
 -- Each message that is read is the one that was written, and what was written is read again.
-use Rattle.std.proofs.Common.{◌≡◌, ℕ, ◌^◌, ◌<◌, Bool, true, false, cond, eqb, List, ◌++◌, length, Ok, refl, sym, ap, subst, ◌∙◌, append_assoc}
+use Rattle.std.proofs.Common.{◌≡◌, ℕ, Bool, true, false, cond, eqb, List, ◌++◌, Ok, refl, sym, ap, subst, ◌∙◌, append_assoc}
 use Rattle.std.proofs.lemmas.Bool.{eqb-true}
-use Rattle.tree_model.specs.Wire.{number, string, IsString}
-use Rattle.ninep_wire.specs.TMessage.{PlainTMessage, version, auth, attach, flush, walk, open_fid, create, read, write, clunk, remove, stat, wstat, t_kind, t_fields, IsChange, IsTMessage}
-use Rattle.ninep_wire.specs.Reading.{number_at, string_at, data_at, names_at, stat_at, version_at, auth_at, attach_at, flush_at, walk_at, open_at, create_at, read_at, write_at, clunk_at, remove_at, fstat_at, wstat_at, t_message_at}
-use Rattle.ninep_wire.proofs.FieldLaws.{IsBytes, Takes, takes1, takes2, takes3, takes4, number_field, string_field, counted, data_field, names, AreStrings, names_field}
+use Rattle.tree_model.specs.Wire.{number, string}
+use Rattle.ninep_wire.specs.TMessage.{PlainTMessage, version, auth, attach, flush, walk, open_fid, create, read, write, clunk, remove, stat, wstat, t_kind, t_fields, IsTMessage}
+use Rattle.ninep_wire.specs.Reading.{version_at, auth_at, attach_at, flush_at, walk_at, open_at, create_at, read_at, write_at, clunk_at, remove_at, fstat_at, wstat_at, t_message_at}
+use Rattle.ninep_wire.proofs.FieldLaws.{IsBytes, Takes, takes1, takes2, takes3, takes4, number_field, string_field, counted, data_field, names, names_field}
 use Rattle.ninep_wire.proofs.ChangeLaws.{sized_stat, stat_field}
 
 -- what was read as the fields of a message of this type
@@ -16,94 +16,79 @@ pub record Called (kind : ℕ) (bytes : List ℕ) (y : PlainTMessage × List ℕ
 version_takes : (bytes : List ℕ) (y : PlainTMessage × List ℕ) → IsBytes bytes → version_at bytes ≡ Ok y → Called 100 bytes y
 unfolding version_at
 version_takes bytes y fits e =
-    takes2 (number_at 4) (number 4) (λ n. n < 256 ^ 4) (number_field 4) string_at string IsString string_field
-    version bytes y fits e (Called 100 bytes)
+    takes2 (number_field 4) string_field version bytes y fits e (Called 100 bytes)
     (λ p q rest t f g. record { kind_is = refl; takes = t; fits = (f, g) })
 
 auth_takes : (bytes : List ℕ) (y : PlainTMessage × List ℕ) → IsBytes bytes → auth_at bytes ≡ Ok y → Called 102 bytes y
 unfolding auth_at
 auth_takes bytes y fits e =
-    takes3 (number_at 4) (number 4) (λ n. n < 256 ^ 4) (number_field 4) string_at string IsString string_field string_at string IsString string_field
-    auth bytes y fits e (Called 102 bytes)
+    takes3 (number_field 4) string_field string_field auth bytes y fits e (Called 102 bytes)
     (λ p q r rest t f g h. record { kind_is = refl; takes = t; fits = (f, g, h) })
 
 attach_takes : (bytes : List ℕ) (y : PlainTMessage × List ℕ) → IsBytes bytes → attach_at bytes ≡ Ok y → Called 104 bytes y
 unfolding attach_at
 attach_takes bytes y fits e =
-    takes4 (number_at 4) (number 4) (λ n. n < 256 ^ 4) (number_field 4) (number_at 4) (number 4) (λ n. n < 256 ^ 4)
-    (number_field 4) string_at string IsString string_field string_at string IsString string_field
-    attach bytes y fits e (Called 104 bytes)
+    takes4 (number_field 4) (number_field 4) string_field string_field attach bytes y fits e (Called 104 bytes)
     (λ p q r s rest t f g h k. record { kind_is = refl; takes = t; fits = (f, g, h, k) })
 
 flush_takes : (bytes : List ℕ) (y : PlainTMessage × List ℕ) → IsBytes bytes → flush_at bytes ≡ Ok y → Called 108 bytes y
 unfolding flush_at
 flush_takes bytes y fits e =
-    takes1 (number_at 2) (number 2) (λ n. n < 256 ^ 2) (number_field 2)
-    flush bytes y fits e (Called 108 bytes)
+    takes1 (number_field 2) flush bytes y fits e (Called 108 bytes)
     (λ p rest t f. record { kind_is = refl; takes = t; fits = f })
 
 walk_takes : (bytes : List ℕ) (y : PlainTMessage × List ℕ) → IsBytes bytes → walk_at bytes ≡ Ok y → Called 110 bytes y
 unfolding walk_at
 walk_takes bytes y fits e =
-    takes3 (number_at 4) (number 4) (λ n. n < 256 ^ 4) (number_field 4) (number_at 4) (number 4) (λ n. n < 256 ^ 4) (number_field 4) names_at names AreStrings names_field
-    walk bytes y fits e (Called 110 bytes)
+    takes3 (number_field 4) (number_field 4) names_field walk bytes y fits e (Called 110 bytes)
     (λ p q r rest t f g h. record { kind_is = refl; takes = t; fits = (f, g, h.0, h.1) })
 
 open_takes : (bytes : List ℕ) (y : PlainTMessage × List ℕ) → IsBytes bytes → open_at bytes ≡ Ok y → Called 112 bytes y
 unfolding open_at
 open_takes bytes y fits e =
-    takes2 (number_at 4) (number 4) (λ n. n < 256 ^ 4) (number_field 4) (number_at 1) (number 1) (λ n. n < 256 ^ 1) (number_field 1)
-    open_fid bytes y fits e (Called 112 bytes)
+    takes2 (number_field 4) (number_field 1) open_fid bytes y fits e (Called 112 bytes)
     (λ p q rest t f g. record { kind_is = refl; takes = t; fits = (f, g) })
 
 create_takes : (bytes : List ℕ) (y : PlainTMessage × List ℕ) → IsBytes bytes → create_at bytes ≡ Ok y → Called 114 bytes y
 unfolding create_at
 create_takes bytes y fits e =
-    takes4 (number_at 4) (number 4) (λ n. n < 256 ^ 4) (number_field 4) string_at string IsString string_field (number_at 4) (number 4)
-    (λ n. n < 256 ^ 4) (number_field 4) (number_at 1) (number 1) (λ n. n < 256 ^ 1) (number_field 1)
-    create bytes y fits e (Called 114 bytes)
+    takes4 (number_field 4) string_field (number_field 4) (number_field 1) create bytes y fits e (Called 114 bytes)
     (λ p q r s rest t f g h k. record { kind_is = refl; takes = t; fits = (f, g, h, k) })
 
 read_takes : (bytes : List ℕ) (y : PlainTMessage × List ℕ) → IsBytes bytes → read_at bytes ≡ Ok y → Called 116 bytes y
 unfolding read_at
 read_takes bytes y fits e =
-    takes3 (number_at 4) (number 4) (λ n. n < 256 ^ 4) (number_field 4) (number_at 8) (number 8) (λ n. n < 256 ^ 8) (number_field 8) (number_at 4) (number 4) (λ n. n < 256 ^ 4) (number_field 4)
-    read bytes y fits e (Called 116 bytes)
+    takes3 (number_field 4) (number_field 8) (number_field 4) read bytes y fits e (Called 116 bytes)
     (λ p q r rest t f g h. record { kind_is = refl; takes = t; fits = (f, g, h) })
 
 write_takes : (bytes : List ℕ) (y : PlainTMessage × List ℕ) → IsBytes bytes → write_at bytes ≡ Ok y → Called 118 bytes y
 unfolding write_at
 write_takes bytes y fits e =
-    takes3 (number_at 4) (number 4) (λ n. n < 256 ^ 4) (number_field 4) (number_at 8) (number 8) (λ n. n < 256 ^ 8) (number_field 8) data_at counted (λ bytes. length bytes < 2 ^ 32) data_field
-    write bytes y fits e (Called 118 bytes)
+    takes3 (number_field 4) (number_field 8) data_field write bytes y fits e (Called 118 bytes)
     (λ p q r rest t f g h. record { kind_is = refl; takes = t; fits = (f, g, h) })
 
 clunk_takes : (bytes : List ℕ) (y : PlainTMessage × List ℕ) → IsBytes bytes → clunk_at bytes ≡ Ok y → Called 120 bytes y
 unfolding clunk_at
 clunk_takes bytes y fits e =
-    takes1 (number_at 4) (number 4) (λ n. n < 256 ^ 4) (number_field 4)
-    clunk bytes y fits e (Called 120 bytes)
+    takes1 (number_field 4) clunk bytes y fits e (Called 120 bytes)
     (λ p rest t f. record { kind_is = refl; takes = t; fits = f })
 
 remove_takes : (bytes : List ℕ) (y : PlainTMessage × List ℕ) → IsBytes bytes → remove_at bytes ≡ Ok y → Called 122 bytes y
 unfolding remove_at
 remove_takes bytes y fits e =
-    takes1 (number_at 4) (number 4) (λ n. n < 256 ^ 4) (number_field 4)
-    remove bytes y fits e (Called 122 bytes)
+    takes1 (number_field 4) remove bytes y fits e (Called 122 bytes)
     (λ p rest t f. record { kind_is = refl; takes = t; fits = f })
 
 fstat_takes : (bytes : List ℕ) (y : PlainTMessage × List ℕ) → IsBytes bytes → fstat_at bytes ≡ Ok y → Called 124 bytes y
 unfolding fstat_at
 fstat_takes bytes y fits e =
-    takes1 (number_at 4) (number 4) (λ n. n < 256 ^ 4) (number_field 4)
-    stat bytes y fits e (Called 124 bytes)
+    takes1 (number_field 4) stat bytes y fits e (Called 124 bytes)
     (λ p rest t f. record { kind_is = refl; takes = t; fits = f })
 
 wstat_takes : (bytes : List ℕ) (y : PlainTMessage × List ℕ) → IsBytes bytes → wstat_at bytes ≡ Ok y → Called 126 bytes y
 unfolding wstat_at
 wstat_takes bytes y fits e =
-    takes2 (number_at 4) (number 4) (λ n. n < 256 ^ 4) (number_field 4) stat_at sized_stat IsChange stat_field
-    wstat bytes y fits e (Called 126 bytes)
+    takes2 (number_field 4) stat_field wstat bytes y fits e (Called 126 bytes)
     (λ p q rest t f g. record { kind_is = refl; takes = t; fits = (f, g) })
 
 split : {A : Type 0} (b : Bool) (x y z : A) (P : Type 0) → cond b x y ≡ z → (b ≡ true → x ≡ z → P) → (b ≡ false → y ≡ z → P) → P

@@ -111,11 +111,11 @@ IsMixed-none r row x target some long row_words e =
     }
 
 -- two blocks more: y and then z are X, u and then v the target
-pub IsMixed-more : (r n k j : ℕ) (row x y z t u v : List ℕ) → IsMixed r row x t n → n < r → length row ≡ 32 * r → length t ≡ 32 * r
+pub IsMixed-more : {r n : ℕ} (k j : ℕ) {row x y z t u v : List ℕ} → IsMixed r row x t n → n < r → length row ≡ 32 * r → length t ≡ 32 * r
     → length y ≡ 16 → length z ≡ 16 → AreWords row → k ≡ 16 → j ≡ 16
     → y ≡ salsa (xor_bytes x (take 16 (drop (16 * (2 * n)) row))) → u ≡ put_mid (16 * n) k t y
     → z ≡ salsa (xor_bytes y (take 16 (drop (16 * (2 * n + 1)) row))) → v ≡ put_mid (16 * (r + n)) j u z → IsMixed r row z v (n + 1)
-IsMixed-more r n k j row x y z t u v h within long t_long y_long z_long row_words ek ej ey eu ez ev =
+IsMixed-more {r = r} {n = n} k j {row = row} {x = x} {y = y} {z = z} {t = t} {u = u} {v = v} h within long t_long y_long z_long row_words ek ej ey eu ez ev =
     let u_long : length u ≡ 32 * r = length-written (16 * n) k t u y (omega arith) (omega arith) eu ∙ t_long in
     let y_words : AreWords y = rw ey (AreWords-salsa (xor_bytes x (take 16 (drop (16 * (2 * n)) row)))) in
     let y_is : bytes_of_words y ≡ mixed_after r (bytes_of_words row) (2 * n + 1) =

@@ -53,44 +53,41 @@ unfold_steps : (x : List ℕ) → double_round x ≡ step 15 12 13 14 (step 10 1
 unfolding step
 unfold_steps x = refl
 
-double_round-is : (x0 x1 x2 x3 x4 x5 x6 x7 x8 x9 x10 x11 x12 x13 x14 x15 : ℕ) (q0 q1 q2 q3 q4 q5 q6 q7 : List ℕ)
-    → q0 ≡ quarter 0 1 2 3 (x0 ∷ x4 ∷ x8 ∷ x12 ∷ [])
-    → q1 ≡ quarter 0 1 2 3 (x5 ∷ x9 ∷ x13 ∷ x1 ∷ [])
-    → q2 ≡ quarter 0 1 2 3 (x10 ∷ x14 ∷ x2 ∷ x6 ∷ [])
-    → q3 ≡ quarter 0 1 2 3 (x15 ∷ x3 ∷ x7 ∷ x11 ∷ [])
-    → q4 ≡ quarter 0 1 2 3 (get_or q0 0 0 ∷ get_or q1 3 0 ∷ get_or q2 2 0 ∷ get_or q3 1 0 ∷ [])
-    → q5 ≡ quarter 0 1 2 3 (get_or q1 0 0 ∷ get_or q2 3 0 ∷ get_or q3 2 0 ∷ get_or q0 1 0 ∷ [])
-    → q6 ≡ quarter 0 1 2 3 (get_or q2 0 0 ∷ get_or q3 3 0 ∷ get_or q0 2 0 ∷ get_or q1 1 0 ∷ [])
-    → q7 ≡ quarter 0 1 2 3 (get_or q3 0 0 ∷ get_or q0 3 0 ∷ get_or q1 2 0 ∷ get_or q2 1 0 ∷ [])
+-- the quarters of a double round of 16 words: those of its columns, and then those of its rows
+pub record AreQuarters (x q0 q1 q2 q3 q4 q5 q6 q7 : List ℕ) : Type 0 where
+  pub first : q0 ≡ quarter 0 1 2 3 (get_or x 0 0 ∷ get_or x 4 0 ∷ get_or x 8 0 ∷ get_or x 12 0 ∷ [])
+  pub second : q1 ≡ quarter 0 1 2 3 (get_or x 5 0 ∷ get_or x 9 0 ∷ get_or x 13 0 ∷ get_or x 1 0 ∷ [])
+  pub third : q2 ≡ quarter 0 1 2 3 (get_or x 10 0 ∷ get_or x 14 0 ∷ get_or x 2 0 ∷ get_or x 6 0 ∷ [])
+  pub fourth : q3 ≡ quarter 0 1 2 3 (get_or x 15 0 ∷ get_or x 3 0 ∷ get_or x 7 0 ∷ get_or x 11 0 ∷ [])
+  pub fifth : q4 ≡ quarter 0 1 2 3 (get_or q0 0 0 ∷ get_or q1 3 0 ∷ get_or q2 2 0 ∷ get_or q3 1 0 ∷ [])
+  pub sixth : q5 ≡ quarter 0 1 2 3 (get_or q1 0 0 ∷ get_or q2 3 0 ∷ get_or q3 2 0 ∷ get_or q0 1 0 ∷ [])
+  pub seventh : q6 ≡ quarter 0 1 2 3 (get_or q2 0 0 ∷ get_or q3 3 0 ∷ get_or q0 2 0 ∷ get_or q1 1 0 ∷ [])
+  pub eighth : q7 ≡ quarter 0 1 2 3 (get_or q3 0 0 ∷ get_or q0 3 0 ∷ get_or q1 2 0 ∷ get_or q2 1 0 ∷ [])
+
+double_round-is : (x0 x1 x2 x3 x4 x5 x6 x7 x8 x9 x10 x11 x12 x13 x14 x15 : ℕ) {q0 q1 q2 q3 q4 q5 q6 q7 : List ℕ} → AreQuarters (x0 ∷ x1 ∷ x2 ∷ x3 ∷ x4 ∷ x5 ∷ x6 ∷ x7 ∷ x8 ∷ x9 ∷ x10 ∷ x11 ∷ x12 ∷ x13 ∷ x14 ∷ x15 ∷ []) q0 q1 q2 q3 q4 q5 q6 q7
     → get_or q4 0 0 ∷ get_or q4 1 0 ∷ get_or q4 2 0 ∷ get_or q4 3 0 ∷ get_or q5 3 0 ∷ get_or q5 0 0 ∷ get_or q5 1 0 ∷ get_or q5 2 0 ∷ get_or q6 2 0 ∷ get_or q6 3 0 ∷ get_or q6 0 0 ∷ get_or q6 1 0 ∷ get_or q7 1 0 ∷ get_or q7 2 0 ∷ get_or q7 3 0 ∷ get_or q7 0 0 ∷ [] ≡ double_round (x0 ∷ x1 ∷ x2 ∷ x3 ∷ x4 ∷ x5 ∷ x6 ∷ x7 ∷ x8 ∷ x9 ∷ x10 ∷ x11 ∷ x12 ∷ x13 ∷ x14 ∷ x15 ∷ [])
-double_round-is x0 x1 x2 x3 x4 x5 x6 x7 x8 x9 x10 x11 x12 x13 x14 x15 q0 q1 q2 q3 q4 q5 q6 q7 e0 e1 e2 e3 e4 e5 e6 e7 =
+double_round-is x0 x1 x2 x3 x4 x5 x6 x7 x8 x9 x10 x11 x12 x13 x14 x15 {q0 = q0} {q1 = q1} {q2 = q2} {q3 = q3} {q4 = q4} {q5 = q5} {q6 = q6} {q7 = q7} q =
     sym (unfold_steps (x0 ∷ x1 ∷ x2 ∷ x3 ∷ x4 ∷ x5 ∷ x6 ∷ x7 ∷ x8 ∷ x9 ∷ x10 ∷ x11 ∷ x12 ∷ x13 ∷ x14 ∷ x15 ∷ [])
-    ∙ ap (λ (l : List ℕ). step 15 12 13 14 (step 10 11 8 9 (step 5 6 7 4 (step 0 1 2 3 (step 15 3 7 11 (step 10 14 2 6 (step 5 9 13 1 l))))))) (column_0 x0 x1 x2 x3 x4 x5 x6 x7 x8 x9 x10 x11 x12 x13 x14 x15 q0 e0)
-    ∙ ap (λ (l : List ℕ). step 15 12 13 14 (step 10 11 8 9 (step 5 6 7 4 (step 0 1 2 3 (step 15 3 7 11 (step 10 14 2 6 l)))))) (column_1 (get_or q0 0 0) x1 x2 x3 (get_or q0 1 0) x5 x6 x7 (get_or q0 2 0) x9 x10 x11 (get_or q0 3 0) x13 x14 x15 q1 e1)
-    ∙ ap (λ (l : List ℕ). step 15 12 13 14 (step 10 11 8 9 (step 5 6 7 4 (step 0 1 2 3 (step 15 3 7 11 l))))) (column_2 (get_or q0 0 0) (get_or q1 3 0) x2 x3 (get_or q0 1 0) (get_or q1 0 0) x6 x7 (get_or q0 2 0) (get_or q1 1 0) x10 x11 (get_or q0 3 0) (get_or q1 2 0) x14 x15 q2 e2)
-    ∙ ap (λ (l : List ℕ). step 15 12 13 14 (step 10 11 8 9 (step 5 6 7 4 (step 0 1 2 3 l)))) (column_3 (get_or q0 0 0) (get_or q1 3 0) (get_or q2 2 0) x3 (get_or q0 1 0) (get_or q1 0 0) (get_or q2 3 0) x7 (get_or q0 2 0) (get_or q1 1 0) (get_or q2 0 0) x11 (get_or q0 3 0) (get_or q1 2 0) (get_or q2 1 0) x15 q3 e3)
-    ∙ ap (λ (l : List ℕ). step 15 12 13 14 (step 10 11 8 9 (step 5 6 7 4 l))) (row_0 (get_or q0 0 0) (get_or q1 3 0) (get_or q2 2 0) (get_or q3 1 0) (get_or q0 1 0) (get_or q1 0 0) (get_or q2 3 0) (get_or q3 2 0) (get_or q0 2 0) (get_or q1 1 0) (get_or q2 0 0) (get_or q3 3 0) (get_or q0 3 0) (get_or q1 2 0) (get_or q2 1 0) (get_or q3 0 0) q4 e4)
-    ∙ ap (λ (l : List ℕ). step 15 12 13 14 (step 10 11 8 9 l)) (row_1 (get_or q4 0 0) (get_or q4 1 0) (get_or q4 2 0) (get_or q4 3 0) (get_or q0 1 0) (get_or q1 0 0) (get_or q2 3 0) (get_or q3 2 0) (get_or q0 2 0) (get_or q1 1 0) (get_or q2 0 0) (get_or q3 3 0) (get_or q0 3 0) (get_or q1 2 0) (get_or q2 1 0) (get_or q3 0 0) q5 e5)
-    ∙ ap (λ (l : List ℕ). step 15 12 13 14 l) (row_2 (get_or q4 0 0) (get_or q4 1 0) (get_or q4 2 0) (get_or q4 3 0) (get_or q5 3 0) (get_or q5 0 0) (get_or q5 1 0) (get_or q5 2 0) (get_or q0 2 0) (get_or q1 1 0) (get_or q2 0 0) (get_or q3 3 0) (get_or q0 3 0) (get_or q1 2 0) (get_or q2 1 0) (get_or q3 0 0) q6 e6)
-    ∙ row_3 (get_or q4 0 0) (get_or q4 1 0) (get_or q4 2 0) (get_or q4 3 0) (get_or q5 3 0) (get_or q5 0 0) (get_or q5 1 0) (get_or q5 2 0) (get_or q6 2 0) (get_or q6 3 0) (get_or q6 0 0) (get_or q6 1 0) (get_or q0 3 0) (get_or q1 2 0) (get_or q2 1 0) (get_or q3 0 0) q7 e7)
+    ∙ ap (λ (l : List ℕ). step 15 12 13 14 (step 10 11 8 9 (step 5 6 7 4 (step 0 1 2 3 (step 15 3 7 11 (step 10 14 2 6 (step 5 9 13 1 l))))))) (column_0 x0 x1 x2 x3 x4 x5 x6 x7 x8 x9 x10 x11 x12 x13 x14 x15 q0 q.first)
+    ∙ ap (λ (l : List ℕ). step 15 12 13 14 (step 10 11 8 9 (step 5 6 7 4 (step 0 1 2 3 (step 15 3 7 11 (step 10 14 2 6 l)))))) (column_1 (get_or q0 0 0) x1 x2 x3 (get_or q0 1 0) x5 x6 x7 (get_or q0 2 0) x9 x10 x11 (get_or q0 3 0) x13 x14 x15 q1 q.second)
+    ∙ ap (λ (l : List ℕ). step 15 12 13 14 (step 10 11 8 9 (step 5 6 7 4 (step 0 1 2 3 (step 15 3 7 11 l))))) (column_2 (get_or q0 0 0) (get_or q1 3 0) x2 x3 (get_or q0 1 0) (get_or q1 0 0) x6 x7 (get_or q0 2 0) (get_or q1 1 0) x10 x11 (get_or q0 3 0) (get_or q1 2 0) x14 x15 q2 q.third)
+    ∙ ap (λ (l : List ℕ). step 15 12 13 14 (step 10 11 8 9 (step 5 6 7 4 (step 0 1 2 3 l)))) (column_3 (get_or q0 0 0) (get_or q1 3 0) (get_or q2 2 0) x3 (get_or q0 1 0) (get_or q1 0 0) (get_or q2 3 0) x7 (get_or q0 2 0) (get_or q1 1 0) (get_or q2 0 0) x11 (get_or q0 3 0) (get_or q1 2 0) (get_or q2 1 0) x15 q3 q.fourth)
+    ∙ ap (λ (l : List ℕ). step 15 12 13 14 (step 10 11 8 9 (step 5 6 7 4 l))) (row_0 (get_or q0 0 0) (get_or q1 3 0) (get_or q2 2 0) (get_or q3 1 0) (get_or q0 1 0) (get_or q1 0 0) (get_or q2 3 0) (get_or q3 2 0) (get_or q0 2 0) (get_or q1 1 0) (get_or q2 0 0) (get_or q3 3 0) (get_or q0 3 0) (get_or q1 2 0) (get_or q2 1 0) (get_or q3 0 0) q4 q.fifth)
+    ∙ ap (λ (l : List ℕ). step 15 12 13 14 (step 10 11 8 9 l)) (row_1 (get_or q4 0 0) (get_or q4 1 0) (get_or q4 2 0) (get_or q4 3 0) (get_or q0 1 0) (get_or q1 0 0) (get_or q2 3 0) (get_or q3 2 0) (get_or q0 2 0) (get_or q1 1 0) (get_or q2 0 0) (get_or q3 3 0) (get_or q0 3 0) (get_or q1 2 0) (get_or q2 1 0) (get_or q3 0 0) q5 q.sixth)
+    ∙ ap (λ (l : List ℕ). step 15 12 13 14 l) (row_2 (get_or q4 0 0) (get_or q4 1 0) (get_or q4 2 0) (get_or q4 3 0) (get_or q5 3 0) (get_or q5 0 0) (get_or q5 1 0) (get_or q5 2 0) (get_or q0 2 0) (get_or q1 1 0) (get_or q2 0 0) (get_or q3 3 0) (get_or q0 3 0) (get_or q1 2 0) (get_or q2 1 0) (get_or q3 0 0) q6 q.seventh)
+    ∙ row_3 (get_or q4 0 0) (get_or q4 1 0) (get_or q4 2 0) (get_or q4 3 0) (get_or q5 3 0) (get_or q5 0 0) (get_or q5 1 0) (get_or q5 2 0) (get_or q6 2 0) (get_or q6 3 0) (get_or q6 0 0) (get_or q6 1 0) (get_or q0 3 0) (get_or q1 2 0) (get_or q2 1 0) (get_or q3 0 0) q7 q.eighth)
 
 -- a list of 16 words by its places
 pub sixteen-is : (x : List ℕ) → length x ≡ 16 → x ≡ get_or x 0 0 ∷ get_or x 1 0 ∷ get_or x 2 0 ∷ get_or x 3 0 ∷ get_or x 4 0 ∷ get_or x 5 0 ∷ get_or x 6 0 ∷ get_or x 7 0 ∷ get_or x 8 0 ∷ get_or x 9 0 ∷ get_or x 10 0 ∷ get_or x 11 0 ∷ get_or x 12 0 ∷ get_or x 13 0 ∷ get_or x 14 0 ∷ get_or x 15 0 ∷ []
 sixteen-is x long = fill_by_all (λ (k : ℕ). get_or x k 0) x 16 0 long (λ k h. refl)
 
 -- what a double round makes of 16 words
-pub double_round_of_sixteen : (x q0 q1 q2 q3 q4 q5 q6 q7 : List ℕ) → length x ≡ 16
-    → q0 ≡ quarter 0 1 2 3 (get_or x 0 0 ∷ get_or x 4 0 ∷ get_or x 8 0 ∷ get_or x 12 0 ∷ [])
-    → q1 ≡ quarter 0 1 2 3 (get_or x 5 0 ∷ get_or x 9 0 ∷ get_or x 13 0 ∷ get_or x 1 0 ∷ [])
-    → q2 ≡ quarter 0 1 2 3 (get_or x 10 0 ∷ get_or x 14 0 ∷ get_or x 2 0 ∷ get_or x 6 0 ∷ [])
-    → q3 ≡ quarter 0 1 2 3 (get_or x 15 0 ∷ get_or x 3 0 ∷ get_or x 7 0 ∷ get_or x 11 0 ∷ [])
-    → q4 ≡ quarter 0 1 2 3 (get_or q0 0 0 ∷ get_or q1 3 0 ∷ get_or q2 2 0 ∷ get_or q3 1 0 ∷ [])
-    → q5 ≡ quarter 0 1 2 3 (get_or q1 0 0 ∷ get_or q2 3 0 ∷ get_or q3 2 0 ∷ get_or q0 1 0 ∷ [])
-    → q6 ≡ quarter 0 1 2 3 (get_or q2 0 0 ∷ get_or q3 3 0 ∷ get_or q0 2 0 ∷ get_or q1 1 0 ∷ [])
-    → q7 ≡ quarter 0 1 2 3 (get_or q3 0 0 ∷ get_or q0 3 0 ∷ get_or q1 2 0 ∷ get_or q2 1 0 ∷ [])
+pub double_round_of_sixteen : (x : List ℕ) {q0 q1 q2 q3 q4 q5 q6 q7 : List ℕ} → length x ≡ 16 → AreQuarters x q0 q1 q2 q3 q4 q5 q6 q7
     → get_or q4 0 0 ∷ get_or q4 1 0 ∷ get_or q4 2 0 ∷ get_or q4 3 0 ∷ get_or q5 3 0 ∷ get_or q5 0 0 ∷ get_or q5 1 0 ∷ get_or q5 2 0 ∷ get_or q6 2 0 ∷ get_or q6 3 0 ∷ get_or q6 0 0 ∷ get_or q6 1 0 ∷ get_or q7 1 0 ∷ get_or q7 2 0 ∷ get_or q7 3 0 ∷ get_or q7 0 0 ∷ [] ≡ double_round x
-double_round_of_sixteen x q0 q1 q2 q3 q4 q5 q6 q7 long e0 e1 e2 e3 e4 e5 e6 e7 =
-    double_round-is (get_or x 0 0) (get_or x 1 0) (get_or x 2 0) (get_or x 3 0) (get_or x 4 0) (get_or x 5 0) (get_or x 6 0) (get_or x 7 0) (get_or x 8 0) (get_or x 9 0) (get_or x 10 0) (get_or x 11 0) (get_or x 12 0) (get_or x 13 0) (get_or x 14 0) (get_or x 15 0) q0 q1 q2 q3 q4 q5 q6 q7 e0 e1 e2 e3 e4 e5 e6 e7 ∙ ap double_round (sym (sixteen-is x long))
+double_round_of_sixteen x long q =
+    double_round-is (get_or x 0 0) (get_or x 1 0) (get_or x 2 0) (get_or x 3 0) (get_or x 4 0) (get_or x 5 0) (get_or x 6 0) (get_or x 7 0) (get_or x 8 0) (get_or x 9 0) (get_or x 10 0) (get_or x 11 0) (get_or x 12 0) (get_or x 13 0) (get_or x 14 0) (get_or x 15 0)
+    (record { first = q.first; second = q.second; third = q.third; fourth = q.fourth; fifth = q.fifth; sixth = q.sixth; seventh = q.seventh; eighth = q.eighth })
+    ∙ ap double_round (sym (sixteen-is x long))
 
 -- ---- Salsa20/8
 

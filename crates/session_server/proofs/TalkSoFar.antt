@@ -93,8 +93,8 @@ pub extends_none : {B : Type 0} (stands : B → B → List Asked → Type 0) (a 
 extends_none stands a = λ start before stood. subst (λ (w : List Asked). stands a start w) (sym (append-nil before)) stood
 
 -- before the first message
-pub so_far_none : {B : Type 0} (stands : B → B → List Asked → Type 0) (object : B) (link : LinkView) (clock : Option (ℕ → ℕ)) (s : State) → s ≡ fresh → SoFar stands object object link link clock clock 0 s
-so_far_none stands object link clock s is = record {
+pub so_far_none : {B : Type 0} {stands : B → B → List Asked → Type 0} {object : B} {link : LinkView} {clock : Option (ℕ → ℕ)} {s : State} → s ≡ fresh → SoFar stands object object link link clock clock 0 s
+so_far_none {stands = stands} {object = object} {link = link} {clock = clock} is = record {
   frames = [];
   seconds = [];
   asked = [];
@@ -115,27 +115,6 @@ pub record IsOnLink (now after : LinkView) (frame sent : List ℕ) : Type 0 wher
   pub wrote : Writes now.taken after.taken sent
   pub read_faults : now.read_faults ≤ after.read_faults
   pub write_faults : now.write_faults ≤ after.write_faults
-
--- one message more
-pub so_far_more : {B : Type 0} (stands : B → B → List Asked → Type 0) (object object' object'' : B) (before now after : LinkView) (clock clock' clock'' : Option (ℕ → ℕ)) (n : ℕ) (s : State)
-    (frame : List ℕ) (second : ℕ) (request : Option Asked) (answer : List ℕ) (next : State)
-    → SoFar stands object object' before now clock clock' n s → OneAnswered s frame second request answer next → IsOnLink now after frame answer
-    → TakesNext clock' clock'' (second ∷ []) → Extends stands object' object'' (option_to_list request)
-    → SoFar stands object object'' before after clock clock'' (n + 1) next
-so_far_more stands object object' object'' before now after clock clock' clock'' n s frame second request answer next so one link gave extends = record {
-  frames = so.frames ++ frame ∷ [];
-  seconds = so.seconds ++ second ∷ [];
-  asked = so.asked ++ option_to_list request;
-  answers = so.answers ++ answer ∷ [];
-  count = length-append so.frames (frame ∷ []) ∙ ap (λ (k : ℕ). k + 1) so.count;
-  answered = answered_more fresh so.frames so.seconds so.asked so.answers s frame second request answer next so.answered one;
-  read = subst (λ (w : List ℕ). Reads before.left after.left w) (sym (concat_more so.frames frame)) (reads_more before.left now.left after.left (concat so.frames) frame so.read link.read);
-  wrote = subst (λ (w : List ℕ). Writes before.taken after.taken w) (sym (concat_more so.answers answer)) (writes_more before.taken now.taken after.taken (concat so.answers) answer so.wrote link.wrote);
-  clock_gave = gives_more clock clock' clock'' so.seconds (second ∷ []) so.clock_gave gave;
-  extends = extends_more stands object object' object'' so.asked (option_to_list request) so.extends extends;
-  read_faults = omega (arith, so.read_faults, link.read_faults);
-  write_faults = omega (arith, so.write_faults, link.write_faults);
-}
 
 -- ---- how the talk ends
 
@@ -166,61 +145,9 @@ no_write_fault WriteFault kind e = kind
 no_write_fault Limit kind e = cc
 no_write_fault Memory kind e = cc
 
--- the reading of the next message stopped
-pub talked_stop : {B : Type 0} (stands : B → B → List Asked → Type 0) (object object' : B) (before now after : LinkView) (clock clock' : Option (ℕ → ℕ)) (n : ℕ) (s : State) (end : SessionEnd)
-    → SoFar stands object object' before now clock clock' n s → n < 2 ^ 32 → StopsAt [] s now.left after.left end → after.taken ≡ now.taken
-    → HasCause now.read_faults after.read_faults (end ≡ ReadFault) → now.write_faults ≤ after.write_faults
-    → HasTalked stands object object' before after clock clock' end
-talked_stop stands object object' before now after clock clock' n s end so lt stop same cause writes = record {
-  asked = so.asked;
-  talked = record {
-    input = concat so.frames ++ stop.more;
-    seconds = so.seconds;
-    answers = so.answers;
-    sent = concat so.answers;
-    talk = record {
-      frames = so.frames;
-      rest = stop.more;
-      last = s;
-      input_is = refl;
-      answered = so.answered;
-      ended = stop.ends;
-      count = before_limit (length so.frames) end stop.kind (omega (arith, so.count));
-    };
-    read = reads_then (IsReadUp end) before.left now.left after.left (concat so.frames) stop.more so.read stop.read;
-    written = subst (λ (t : Option (List ℕ)). Writes before.taken t (concat so.answers)) (sym same) so.wrote;
-    sent_is = all_taken end so.answers stop.kind;
-    clock_gave = so.clock_gave;
-    read_fault = cause_later before.read_faults now.read_faults after.read_faults (end ≡ ReadFault) (end ≡ ReadFault) so.read_faults cause (λ e. e);
-    write_fault = no_cause before.write_faults after.write_faults (end ≡ WriteFault) (omega (arith, so.write_faults)) (no_write_fault end stop.kind);
-  };
-  extends = so.extends;
-}
-
--- 2^32 messages were answered
-pub talked_limit : {B : Type 0} (stands : B → B → List Asked → Type 0) (object object' : B) (before now : LinkView) (clock clock' : Option (ℕ → ℕ)) (s : State)
-    → SoFar stands object object' before now clock clock' (2 ^ 32) s → HasTalked stands object object' before now clock clock' Limit
-talked_limit stands object object' before now clock clock' s so = record {
-  asked = so.asked;
-  talked = record {
-    input = concat so.frames;
-    seconds = so.seconds;
-    answers = so.answers;
-    sent = concat so.answers;
-    talk = record { frames = so.frames; rest = []; last = s; input_is = sym (append-nil (concat so.frames)); answered = so.answered; ended = refl; count = so.count };
-    read = reads_with (IsReadUp Limit) before.left now.left (concat so.frames) so.read (told_always now.left (IsReadUp Limit) (λ x. tt));
-    written = so.wrote;
-    sent_is = refl;
-    clock_gave = so.clock_gave;
-    read_fault = no_cause before.read_faults now.read_faults (Limit ≡ ReadFault) so.read_faults (λ e. cc);
-    write_fault = no_cause before.write_faults now.write_faults (Limit ≡ WriteFault) so.write_faults (λ e. cc);
-  };
-  extends = so.extends;
-}
-
 -- nothing was read for lack of memory
-pub talked_memory : {B : Type 0} (stands : B → B → List Asked → Type 0) (object : B) (link : LinkView) (clock : Option (ℕ → ℕ)) → HasTalked stands object object link link clock clock Memory
-talked_memory stands object link clock = record {
+pub talked_memory : {B : Type 0} {stands : B → B → List Asked → Type 0} {object : B} {link : LinkView} {clock : Option (ℕ → ℕ)} → HasTalked stands object object link link clock clock Memory
+talked_memory {stands = stands} {object = object} {link = link} {clock = clock} = record {
   asked = [];
   talked = record {
     input = [];
@@ -238,46 +165,111 @@ talked_memory stands object link clock = record {
   extends = extends_none stands object;
 }
 
--- the last message is answered, and only a part of the answer's front is taken
-pub talked_fault : {B : Type 0} (stands : B → B → List Asked → Type 0) (object object' object'' : B) (before now after : LinkView) (clock clock' clock'' : Option (ℕ → ℕ)) (n : ℕ) (s : State)
-    (frame : List ℕ) (second : ℕ) (request : Option Asked) (answer : List ℕ) (sent : ℕ) (next : State)
-    → SoFar stands object object' before now clock clock' n s → n < 2 ^ 32 → OneAnswered s frame second request answer next
-    → sent < length answer → IsOnLink now after frame (take sent answer) → HasCause now.write_faults after.write_faults (WriteFault ≡ WriteFault)
-    → TakesNext clock' clock'' (second ∷ []) → Extends stands object' object'' (option_to_list request)
-    → HasTalked stands object object'' before after clock clock'' WriteFault
-talked_fault stands object object' object'' before now after clock clock' clock'' n s frame second request answer sent next so lt one short link cause gave extends =
-    let size : length (so.frames ++ frame ∷ []) ≡ n + 1 = length-append so.frames (frame ∷ []) ∙ ap (λ (k : ℕ). k + 1) so.count in
-    let input : Reads before.left after.left (concat (so.frames ++ frame ∷ [])) =
-    subst (λ (w : List ℕ). Reads before.left after.left w) (sym (concat_more so.frames frame)) (reads_more before.left now.left after.left (concat so.frames) frame so.read link.read)
-    in record {
-      asked = so.asked ++ option_to_list request;
-      talked = record {
-        input = concat (so.frames ++ frame ∷ []);
-        seconds = so.seconds ++ second ∷ [];
-        answers = so.answers ++ answer ∷ [];
-        sent = concat so.answers ++ take sent answer;
-        talk = record {
-          frames = so.frames ++ frame ∷ [];
-          rest = [];
-          last = next;
-          input_is = sym (append-nil (concat (so.frames ++ frame ∷ [])));
-          answered = answered_more fresh so.frames so.seconds so.asked so.answers s frame second request answer next so.answered one;
-          ended = refl;
-          count = (omega (arith, size), omega (arith, size));
-        };
-        read = reads_with (IsReadUp WriteFault) before.left after.left (concat (so.frames ++ frame ∷ [])) input (told_always after.left (IsReadUp WriteFault) (λ x. tt));
-        written = writes_more before.taken now.taken after.taken (concat so.answers) (take sent answer) so.wrote link.wrote;
-        sent_is = record {
-          earlier = so.answers;
-          part = take sent answer;
-          lost = drop sent answer;
-          answers_are = ap (λ (w : List ℕ). so.answers ++ w ∷ []) (sym (take-append-drop sent answer));
-          some = omega (arith, length-drop sent answer);
-          taken_is = refl;
-        };
-        clock_gave = gives_more clock clock' clock'' so.seconds (second ∷ []) so.clock_gave gave;
-        read_fault = no_cause before.read_faults after.read_faults (WriteFault ≡ ReadFault) (omega (arith, so.read_faults, link.read_faults)) (λ e. cc);
-        write_fault = cause_later before.write_faults now.write_faults after.write_faults (WriteFault ≡ WriteFault) (WriteFault ≡ WriteFault) so.write_faults cause (λ e. e);
+module _ {B : Type 0} {stands : B → B → List Asked → Type 0} {object object' : B} {before now : LinkView} {clock clock' : Option (ℕ → ℕ)} {n : ℕ} {s : State} (so : SoFar stands object object' before now clock clock' n s) where
+  -- the reading of the next message stopped
+  pub talked_stop : {after : LinkView} {end : SessionEnd} → n < 2 ^ 32 → StopsAt [] s now.left after.left end → after.taken ≡ now.taken → HasCause now.read_faults after.read_faults (end ≡ ReadFault) → now.write_faults ≤ after.write_faults
+      → HasTalked stands object object' before after clock clock' end
+  talked_stop {after} {end} lt stop same cause writes = record {
+    asked = so.asked;
+    talked = record {
+      input = concat so.frames ++ stop.more;
+      seconds = so.seconds;
+      answers = so.answers;
+      sent = concat so.answers;
+      talk = record {
+        frames = so.frames;
+        rest = stop.more;
+        last = s;
+        input_is = refl;
+        answered = so.answered;
+        ended = stop.ends;
+        count = before_limit (length so.frames) end stop.kind (omega (arith, so.count));
       };
+      read = reads_then (IsReadUp end) before.left now.left after.left (concat so.frames) stop.more so.read stop.read;
+      written = subst (λ (t : Option (List ℕ)). Writes before.taken t (concat so.answers)) (sym same) so.wrote;
+      sent_is = all_taken end so.answers stop.kind;
+      clock_gave = so.clock_gave;
+      read_fault = cause_later before.read_faults now.read_faults after.read_faults (end ≡ ReadFault) (end ≡ ReadFault) so.read_faults cause (λ e. e);
+      write_fault = no_cause before.write_faults after.write_faults (end ≡ WriteFault) (omega (arith, so.write_faults)) (no_write_fault end stop.kind);
+    };
+    extends = so.extends;
+  }
+
+  -- 2^32 messages were answered
+  pub talked_limit : n ≡ 2 ^ 32 → HasTalked stands object object' before now clock clock' Limit
+  talked_limit all = record {
+    asked = so.asked;
+    talked = record {
+      input = concat so.frames;
+      seconds = so.seconds;
+      answers = so.answers;
+      sent = concat so.answers;
+      talk = record { frames = so.frames; rest = []; last = s; input_is = sym (append-nil (concat so.frames)); answered = so.answered; ended = refl; count = so.count ∙ all };
+      read = reads_with (IsReadUp Limit) before.left now.left (concat so.frames) so.read (told_always now.left (IsReadUp Limit) (λ x. tt));
+      written = so.wrote;
+      sent_is = refl;
+      clock_gave = so.clock_gave;
+      read_fault = no_cause before.read_faults now.read_faults (Limit ≡ ReadFault) so.read_faults (λ e. cc);
+      write_fault = no_cause before.write_faults now.write_faults (Limit ≡ WriteFault) so.write_faults (λ e. cc);
+    };
+    extends = so.extends;
+  }
+
+  -- one message more
+  module _ {object'' : B} {clock'' : Option (ℕ → ℕ)} {frame : List ℕ} {second : ℕ} {request : Option Asked} {answer : List ℕ} {next : State}
+      (one : OneAnswered s frame second request answer next) (gave : TakesNext clock' clock'' (second ∷ [])) (extends : Extends stands object' object'' (option_to_list request)) where
+    pub so_far_more : {after : LinkView} → IsOnLink now after frame answer → SoFar stands object object'' before after clock clock'' (n + 1) next
+    so_far_more {after} link = record {
+      frames = so.frames ++ frame ∷ [];
+      seconds = so.seconds ++ second ∷ [];
+      asked = so.asked ++ option_to_list request;
+      answers = so.answers ++ answer ∷ [];
+      count = length-append so.frames (frame ∷ []) ∙ ap (λ (k : ℕ). k + 1) so.count;
+      answered = answered_more fresh so.frames so.seconds so.asked so.answers s frame second request answer next so.answered one;
+      read = subst (λ (w : List ℕ). Reads before.left after.left w) (sym (concat_more so.frames frame)) (reads_more before.left now.left after.left (concat so.frames) frame so.read link.read);
+      wrote = subst (λ (w : List ℕ). Writes before.taken after.taken w) (sym (concat_more so.answers answer)) (writes_more before.taken now.taken after.taken (concat so.answers) answer so.wrote link.wrote);
+      clock_gave = gives_more clock clock' clock'' so.seconds (second ∷ []) so.clock_gave gave;
       extends = extends_more stands object object' object'' so.asked (option_to_list request) so.extends extends;
+      read_faults = omega (arith, so.read_faults, link.read_faults);
+      write_faults = omega (arith, so.write_faults, link.write_faults);
     }
+
+    -- only a part of its answer's front is taken
+    pub talked_fault : {after : LinkView} (sent : ℕ) → n < 2 ^ 32 → sent < length answer → IsOnLink now after frame (take sent answer) → HasCause now.write_faults after.write_faults (WriteFault ≡ WriteFault)
+        → HasTalked stands object object'' before after clock clock'' WriteFault
+    talked_fault {after} sent lt short link cause =
+        let size : length (so.frames ++ frame ∷ []) ≡ n + 1 = length-append so.frames (frame ∷ []) ∙ ap (λ (k : ℕ). k + 1) so.count in
+        let input : Reads before.left after.left (concat (so.frames ++ frame ∷ [])) =
+        subst (λ (w : List ℕ). Reads before.left after.left w) (sym (concat_more so.frames frame)) (reads_more before.left now.left after.left (concat so.frames) frame so.read link.read)
+        in record {
+          asked = so.asked ++ option_to_list request;
+          talked = record {
+            input = concat (so.frames ++ frame ∷ []);
+            seconds = so.seconds ++ second ∷ [];
+            answers = so.answers ++ answer ∷ [];
+            sent = concat so.answers ++ take sent answer;
+            talk = record {
+              frames = so.frames ++ frame ∷ [];
+              rest = [];
+              last = next;
+              input_is = sym (append-nil (concat (so.frames ++ frame ∷ [])));
+              answered = answered_more fresh so.frames so.seconds so.asked so.answers s frame second request answer next so.answered one;
+              ended = refl;
+              count = (omega (arith, size), omega (arith, size));
+            };
+            read = reads_with (IsReadUp WriteFault) before.left after.left (concat (so.frames ++ frame ∷ [])) input (told_always after.left (IsReadUp WriteFault) (λ x. tt));
+            written = writes_more before.taken now.taken after.taken (concat so.answers) (take sent answer) so.wrote link.wrote;
+            sent_is = record {
+              earlier = so.answers;
+              part = take sent answer;
+              lost = drop sent answer;
+              answers_are = ap (λ (w : List ℕ). so.answers ++ w ∷ []) (sym (take-append-drop sent answer));
+              some = omega (arith, length-drop sent answer);
+              taken_is = refl;
+            };
+            clock_gave = gives_more clock clock' clock'' so.seconds (second ∷ []) so.clock_gave gave;
+            read_fault = no_cause before.read_faults after.read_faults (WriteFault ≡ ReadFault) (omega (arith, so.read_faults, link.read_faults)) (λ e. cc);
+            write_fault = cause_later before.write_faults now.write_faults after.write_faults (WriteFault ≡ WriteFault) (WriteFault ≡ WriteFault) so.write_faults cause (λ e. e);
+          };
+          extends = extends_more stands object object' object'' so.asked (option_to_list request) so.extends extends;
+        }

@@ -24,8 +24,8 @@ pub record InTurn {S : Type 0} (stands : S → List (Ended Made) → Type 0) (ol
   pub own : turns_by old.number new.seen ≡ turns_by old.number old.seen
   pub right : stands value new.seen
 
-pub in_turn : {S : Type 0} (stands : S → List (Ended Made) → Type 0) (old new : SeatView Made) (value : S) → TakesTurn stands old new value → InTurn stands old new value
-in_turn stands old new value took =
+pub in_turn : {S : Type 0} {stands : S → List (Ended Made) → Type 0} {old new : SeatView Made} {value : S} → TakesTurn stands old new value → InTurn stands old new value
+in_turn {stands = stands} {old = old} {new = new} {value = value} took =
     let seen : new.seen ≡ took.history = ap (λ (s : SeatView Made). s.seen) took.after in record {
       number = ap (λ (s : SeatView Made). s.number) took.after;
       lock = ap (λ (s : SeatView Made). s.lock) took.after;
@@ -37,11 +37,11 @@ in_turn stands old new value took =
     }
 
 -- a turn that ended with an entry, of a seat that was idle before it
-pub entry_of_turn : {S E : Type 0} (stands : S → List (Ended Made) → Type 0) (draws : Option (List ℕ) → Option (List ℕ) → Made → Type 0) (view : E → EntropyView) (old during new : SeatView Made) (value : S) (entropy entropy' : E) (asked : Asked)
-    (entry : Option Made) (made : Made) → InTurn stands old during value → old.in_turn ≡ false → entry ≡ Some made → IsMadeOf draws asked (view entropy) (view entropy') made
+pub entry_of_turn : {S E : Type 0} {stands : S → List (Ended Made) → Type 0} {draws : Option (List ℕ) → Option (List ℕ) → Made → Type 0} {view : E → EntropyView} {old during new : SeatView Made} {value : S} {entropy entropy' : E} {asked : Asked}
+    {entry : Option Made} {made : Made} → InTurn stands old during value → old.in_turn ≡ false → entry ≡ Some made → IsMadeOf draws asked (view entropy) (view entropy') made
     → new ≡ record during { ticket = None; in_turn = false; seen = with_turn during entry } → (view entropy).faults ≤ (view entropy').faults
     → HasEntry draws view (client_of old entropy) (client_of new entropy') asked
-entry_of_turn stands draws view old during new value entropy entropy' asked entry made t idle is one after later =
+entry_of_turn {old = old} {during = during} {new = new} {made = made} t idle is one after later =
     let drew : new.drawn ≡ during.drawn = ap (λ (s : SeatView Made). s.drawn) after in
     let drawn = t.drawn in
     let lock : new.lock ≡ old.lock = ap (λ (s : SeatView Made). s.lock) after ∙ t.lock in
@@ -60,9 +60,9 @@ entry_of_turn stands draws view old during new value entropy entropy' asked entr
     }
 
 -- its caller's random source goes on
-pub goes_after_turn : {S : Type 0} (start : Rows → Origin → Type 0) (stands : S → List (Ended Made) → Type 0) (old during new : SeatView Made) (value : S) (faults : ℕ) (entry : Option Made) (made : Made)
+pub goes_after_turn : {S : Type 0} (start : Rows → Origin → Type 0) {stands : S → List (Ended Made) → Type 0} {old during new : SeatView Made} {value : S} (faults : ℕ) {entry : Option Made} {made : Made}
     → InTurn stands old during value → entry ≡ Some made → made.entropy.after ≤ faults → new ≡ record during { ticket = None; in_turn = false; seen = with_turn during entry } → GoesOn start new faults
-goes_after_turn start stands old during new value faults entry made t is high after =
+goes_after_turn start {during = during} {new = new} faults {made = made} t is high after =
     goes_on_after start during new during.seen made faults (ap (λ (s : SeatView Made). s.number) after)
     (ap (λ (s : SeatView Made). s.seen) after ∙ (λ i. during.seen ++ record { by = during.number; entry = is i } ∷ [])) high
 

@@ -24,9 +24,9 @@ pub record IsHalfway (cipher : List ℕ → List ℕ) (chain block : List ℕ) (
   pub since : take filled block ++ rest ≡ drop (16 * n) text
   pub more : 16 * n ≤ length text - 1
 
-pub halfway_none : (cipher : List ℕ → List ℕ) (chain block : List ℕ) (filled : ℕ) (text piece : List ℕ)
+pub halfway_none : {cipher : List ℕ → List ℕ} {chain block : List ℕ} {filled : ℕ} {text piece : List ℕ}
     → HasAbsorbed cipher chain block filled text → IsHalfway cipher chain block filled piece (text ++ piece)
-halfway_none cipher chain block filled text piece h =
+halfway_none {cipher = cipher} {text = text} {piece = piece} h =
     let n = blocks_before_last (length text) in
     let within : 16 * n ≤ length text = omega arith in
     let long = length-append text piece in
@@ -38,13 +38,13 @@ halfway_none cipher chain block filled text piece h =
       more = omega arith;
     }
 
-pub halfway_more : (cipher : List ℕ → List ℕ) (chain chain' block block' block'' : List ℕ) (filled filled' filled'' : ℕ) (rest front back text : List ℕ)
+pub halfway_more : {cipher : List ℕ → List ℕ} {chain chain' block : List ℕ} (block' : List ℕ) {block'' : List ℕ} {filled filled' filled'' : ℕ} {rest front back text : List ℕ}
     → IsHalfway cipher chain block filled rest text → filled ≤ 16 → length block ≡ 16 → length block' ≡ 16 → 16 - filled < length rest
     → front ≡ take (16 - filled) rest → back ≡ drop (16 - filled) rest → filled' ≡ filled + length front
     → take filled' block' ≡ take filled block ++ front → chain' ≡ cipher (xor_bytes chain block') → filled'' ≡ 0
     → IsHalfway cipher chain' block'' filled'' back text
 unfolding chained
-halfway_more cipher chain chain' block block' block'' filled filled' filled'' rest front back text h fits long long' some front_is back_is filled_is block_is chained' empty =
+halfway_more {cipher = cipher} {block = block} block' {block'' = block''} {filled = filled} {filled' = filled'} {rest = rest} {front = front} {back = back} {text = text} h fits long long' some front_is back_is filled_is block_is chained' empty =
     let n = h.n in
     let front_long = ap length front_is ∙ length-take-le (16 - filled) rest (omega arith) in
     let back_long = ap length back_is ∙ length-drop (16 - filled) rest in
@@ -63,10 +63,10 @@ halfway_more cipher chain chain' block block' block'' filled filled' filled'' re
       more = omega arith;
     }
 
-pub halfway_all : (cipher : List ℕ → List ℕ) (chain block block' : List ℕ) (filled filled' : ℕ) (rest text : List ℕ)
+pub halfway_all : {cipher : List ℕ → List ℕ} {chain block block' : List ℕ} {filled filled' : ℕ} {rest text : List ℕ}
     → IsHalfway cipher chain block filled rest text → filled ≤ 16 → length block ≡ 16 → filled + length rest ≤ 16
     → take filled' block' ≡ take filled block ++ rest → HasAbsorbed cipher chain block' filled' text
-halfway_all cipher chain block block' filled filled' rest text h fits long room is =
+halfway_all {cipher = cipher} {block = block} {filled = filled} {rest = rest} {text = text} h fits long room is =
     let n = h.n in
     let kept = length-take-le filled block (omega arith) in
     let since_long = length-append (take filled block) rest in

@@ -61,16 +61,22 @@ HasName-left N k bytes below is =
     let same : N - k ≡ suc (N - (k + 1)) = omega arith in
     HasName-first (N - (k + 1)) bytes (subst (λ (m : ℕ). AreNames m bytes) same is)
 
-names_left : (N k : ℕ) (bytes name rest : List ℕ) → k < N → AreNames (N - k) bytes → name ≡ first_name bytes → rest ≡ names_behind bytes
-    → names_in (N - k) bytes ≡ name ∷ names_in (N - (k + 1)) rest
-names_left N k bytes name rest below is first behind =
-    let same : N - k ≡ suc (N - (k + 1)) = omega arith in
-    ap (λ (m : ℕ). names_in m bytes) same ∙ (HasName-left N k bytes below is).names
-    ∙ ap (λ (n : List ℕ). n ∷ names_in (N - (k + 1)) (names_behind bytes)) (sym first)
-    ∙ ap (λ (r : List ℕ). name ∷ names_in (N - (k + 1)) r) (sym behind)
+-- the next of N names, the k-th, was taken off the front
+pub record IsSplit (N k : ℕ) (bytes name rest : List ℕ) : Type 0 where
+  pub below : k < N
+  pub are : AreNames (N - k) bytes
+  pub name_is : name ≡ first_name bytes
+  pub rest_is : rest ≡ names_behind bytes
 
-pub names_after : (N k : ℕ) (bytes rest : List ℕ) → k < N → AreNames (N - k) bytes → rest ≡ names_behind bytes → AreNames (N - (k + 1)) rest
-names_after N k bytes rest below is behind = subst (λ (r : List ℕ). AreNames (N - (k + 1)) r) (sym behind) (HasName-left N k bytes below is).rest
+names_left : {N k : ℕ} {bytes name rest : List ℕ} → IsSplit N k bytes name rest → names_in (N - k) bytes ≡ name ∷ names_in (N - (k + 1)) rest
+names_left {N = N} {k = k} {bytes = bytes} {name = name} split =
+    let same : N - k ≡ suc (N - (k + 1)) = omega (arith, split.below) in
+    ap (λ (m : ℕ). names_in m bytes) same ∙ (HasName-left N k bytes split.below split.are).names
+    ∙ ap (λ (n : List ℕ). n ∷ names_in (N - (k + 1)) (names_behind bytes)) (sym split.name_is)
+    ∙ ap (λ (r : List ℕ). name ∷ names_in (N - (k + 1)) r) (sym split.rest_is)
+
+pub names_after : {N k : ℕ} {bytes name rest : List ℕ} → IsSplit N k bytes name rest → AreNames (N - (k + 1)) rest
+names_after {N = N} {k = k} {bytes = bytes} split = subst (λ (r : List ℕ). AreNames (N - (k + 1)) r) (sym split.rest_is) (HasName-left N k bytes split.below split.are).rest
 
 -- ---- the way so far
 
@@ -82,12 +88,20 @@ ended : (tree : HeldTree) (from : ℕ) (names : List (List ℕ)) (at : ℕ) (lef
     → GoesOn tree from names at left front → IsWay tree at left [] end → IsWay tree from names front end
 ended tree from names at left front end goes way = subst (λ (qs : List Qid). IsWay tree from names qs end) (append-nil front) (goes [] end way)
 
-pub ends_refused : (tree : HeldTree) (from : ℕ) (names : List (List ℕ)) (at N k : ℕ) (bytes name rest : List ℕ) (front : List Qid) (next : Result ℕ Refusal) (refusal : Refusal)
-    → k < N → AreNames (N - k) bytes → name ≡ first_name bytes → rest ≡ names_behind bytes → Next tree at name next → next ≡ Err refusal
-    → GoesOn tree from names at (names_in (N - k) bytes) front → IsWay tree from names front (Some refusal)
-ends_refused tree from names at N k bytes name rest front next refusal below are first behind led is goes =
-    ended tree from names at (names_in (N - k) bytes) front (Some refusal) goes
-    (subst (λ (ns : List (List ℕ)). IsWay tree at ns [] (Some refusal)) (sym (names_left N k bytes name rest below are first behind))
+-- a walk along N names has come from one node to another by the first k of them, with these qids, and took the next name off the front
+pub record IsOnWay (tree : HeldTree) (from : ℕ) (names : List (List ℕ)) (at N k : ℕ) (bytes name rest : List ℕ) (qids : List Qid)
+    : Type 0 where
+  pub split : IsSplit N k bytes name rest
+  pub goes : GoesOn tree from names at (names_in (N - k) bytes) (take k qids)
+
+pub ends_refused : {tree : HeldTree} {from : ℕ} {names : List (List ℕ)} {at N k : ℕ} {bytes name rest : List ℕ} {qids : List Qid}
+    {next : Result ℕ Refusal} {refusal : Refusal}
+    → IsOnWay tree from names at N k bytes name rest qids → Next tree at name next → next ≡ Err refusal
+    → IsWay tree from names (take k qids) (Some refusal)
+ends_refused {tree = tree} {from = from} {names = names} {at = at} {N = N} {k = k} {bytes = bytes} {name = name} {rest = rest}
+    {qids = qids} {refusal = refusal} way led is =
+    ended tree from names at (names_in (N - k) bytes) (take k qids) (Some refusal) way.goes
+    (subst (λ (ns : List (List ℕ)). IsWay tree at ns [] (Some refusal)) (sym (names_left way.split))
     (way_refused tree at name (names_in (N - (k + 1)) rest) refusal (subst (λ (r : Result ℕ Refusal). Next tree at name r) is led)))
 
 pub ends_whole : (tree : HeldTree) (from : ℕ) (names : List (List ℕ)) (at N k : ℕ) (bytes : List ℕ) (qids : List Qid)
@@ -98,14 +112,25 @@ ends_whole tree from names at N k bytes qids all goes =
     subst (λ (n : ℕ). IsWay tree from names (take n qids) None) all
     (ended tree from names at (names_in (N - k) bytes) (take k qids) None goes (subst (λ (m : ℕ). IsWay tree at (names_in m bytes) [] None) none (way_none tree at)))
 
-pub goes_further : (tree : HeldTree) (from : ℕ) (names : List (List ℕ)) (at N k : ℕ) (bytes : List ℕ) {name rest : List ℕ} (qids : List Qid) {next : Result ℕ Refusal} {node : ℕ} {q : Qid}
-    → IsTree tree → k < N → k < length qids → AreNames (N - k) bytes → name ≡ first_name bytes → rest ≡ names_behind bytes → Next tree at name next → next ≡ Ok node → qid_at tree node ≡ Some q
-    → GoesOn tree from names at (names_in (N - k) bytes) (take k qids) → GoesOn tree from names node (names_in (N - (k + 1)) rest) (take (k + 1) (set qids k q))
-goes_further tree from names at N k bytes {name} {rest} qids {next} {node} {q} good below room are first behind led is shown goes more end way =
+-- a name leads from a node to another, and that one's qid
+pub record LeadsTo (tree : HeldTree) (at : ℕ) (name : List ℕ) (node : ℕ) (q : Qid) : Type 0 where
+  pub good : IsTree tree
+  pub next : Result ℕ Refusal
+  pub led : Next tree at name next
+  pub is : next ≡ Ok node
+  pub shown : qid_at tree node ≡ Some q
+
+pub goes_further : {tree : HeldTree} {from : ℕ} {names : List (List ℕ)} {at N k : ℕ} {bytes name rest : List ℕ} {qids : List Qid}
+    {node : ℕ} {q : Qid}
+    → IsOnWay tree from names at N k bytes name rest qids → LeadsTo tree at name node q → k < length qids
+    → GoesOn tree from names node (names_in (N - (k + 1)) rest) (take (k + 1) (set qids k q))
+goes_further {tree = tree} {from = from} {names = names} {at = at} {N = N} {k = k} {name = name} {rest = rest} {qids = qids}
+    {node = node} {q = q} so_far leads room more end way =
     let one : k + 1 ≡ suc k = omega arith in
     let front : take (k + 1) (set qids k q) ++ more ≡ take k qids ++ q ∷ more =
     ap (λ (n : ℕ). take n (set qids k q) ++ more) one ∙ ap (λ (qs : List Qid). qs ++ more) (take-suc-set qids k q room) ∙ append_assoc (take k qids) (q ∷ []) more in
     subst (λ (qs : List Qid). IsWay tree from names qs end) (sym front)
-    (goes (q ∷ more) end
-    (subst (λ (ns : List (List ℕ)). IsWay tree at ns (q ∷ more) end) (sym (names_left N k bytes name rest below are first behind))
-    (way_more tree at node name (names_in (N - (k + 1)) rest) q more end good (subst (λ (r : Result ℕ Refusal). Next tree at name r) is led) shown way)))
+    (so_far.goes (q ∷ more) end
+    (subst (λ (ns : List (List ℕ)). IsWay tree at ns (q ∷ more) end) (sym (names_left so_far.split))
+    (way_more tree at node name (names_in (N - (k + 1)) rest) q more end leads.good
+    (subst (λ (r : Result ℕ Refusal). Next tree at name r) leads.is leads.led) leads.shown way)))

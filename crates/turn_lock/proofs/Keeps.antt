@@ -426,39 +426,56 @@ module _ {S E : Type 0} (stands : S → List (Ended E) → Type 0) where
         (λ z same. let pair : Some y ≡ Some z = ap (λ (l : List (ℕ × Option S)). (get_or l 0 (0, Some y)).1) same in let one : y ≡ z = cc in record { entry = e; is = may.is; after = refl; right = subst (λ (x : S). stands x (v.seen ++ ended_by v e ∷ [])) one right }),
       )
 
-  -- a view is added that can do nothing, or that has the next number
-  pub arrived : (seats next : ℕ) (s : St) (r : View E) (log : List (Ended E)) → seats < turn_limit → next ≤ seats → Making seats s.views → (r.number ≡ Some 0 → ⊥) → length s.words ≡ 2 → ((n : ℕ) → next ≤ n → turns_by n log ≡ []) → get_or s.words 1 0 ≡ length log
-      → ((j : ℕ) (v : View E) → get_elem? s.views j ≡ some v → Fits log (tickets s) v) → Fits log (tickets s) r → Distinct s.views → r.ticket ≡ None → Numbered next (s.views ++ r ∷ [])
-      → total parts_of s.views + r.parts ≡ seats → total drawn_of s.views + r.drawn ≡ tickets s → tickets s + (total unspent_of s.views + r.parts) ≤ turn_limit + seats
-      → total turns_of s.views + length log ≡ min (tickets s) turn_limit → Placed stands log s.homes s.views → r.took ≡ false
-      → Kept stands seats record { words = s.words; homes = s.homes; views = s.views ++ r ∷ [] }
-  arrived seats next s r log few low making no_maker wide strangers ended each mine distinct none_yet numbered parts drawn bounded waiting placed free =
+  -- a state is kept but for a view to come, which can do nothing, or has the next number
+  pub record Awaits (seats next : ℕ) (s : St) (r : View E) (log : List (Ended E)) : Type 0 where
+    pub few : seats < turn_limit
+    pub low : next ≤ seats
+    pub making : Making seats s.views
+    pub no_maker : r.number ≡ Some 0 → ⊥
+    pub wide : length s.words ≡ 2
+    pub strangers : (n : ℕ) → next ≤ n → turns_by n log ≡ []
+    pub ended_is : get_or s.words 1 0 ≡ length log
+    pub each : (j : ℕ) (v : View E) → get_elem? s.views j ≡ some v → Fits log (tickets s) v
+    pub mine : Fits log (tickets s) r
+    pub distinct : Distinct s.views
+    pub none_yet : r.ticket ≡ None
+    pub numbered : Numbered next (s.views ++ r ∷ [])
+    pub parts : total parts_of s.views + r.parts ≡ seats
+    pub drawn : total drawn_of s.views + r.drawn ≡ tickets s
+    pub bounded : tickets s + (total unspent_of s.views + r.parts) ≤ turn_limit + seats
+    pub waiting : total turns_of s.views + length log ≡ min (tickets s) turn_limit
+    pub placed : Placed stands log s.homes s.views
+    pub free : r.took ≡ false
+
+  -- it is added
+  pub arrived : (seats next : ℕ) (s : St) (r : View E) (log : List (Ended E)) → Awaits seats next s r log → Kept stands seats record { words = s.words; homes = s.homes; views = s.views ++ r ∷ [] }
+  arrived seats next s r log k =
       let p = total_snoc parts_of s.views r in
       let d = total_snoc drawn_of s.views r in
       let u = total_snoc unspent_of s.views r in
       let t = total_snoc turns_of s.views r in
-      let ur : unspent_of r ≡ r.parts = ap (λ z. if is_late z then 0 else r.parts) none_yet in
-      let tr : turns_of r ≡ 0 = ap has_turn none_yet in record {
+      let ur : unspent_of r ≡ r.parts = ap (λ z. if is_late z then 0 else r.parts) k.none_yet in
+      let tr : turns_of r ≡ 0 = ap has_turn k.none_yet in record {
         log = log;
         next = next;
-        few = few;
-        low = low;
-        making = all_snoc (λ i u. u.number ≡ Some 0 → u.given + u.parts ≡ seats + 1) s.views r making (λ e. absurd (no_maker e));
-        strangers = strangers;
-        wide = wide;
-        ended_is = ended;
-        each = all_snoc (λ j v. Fits log (tickets s) v) s.views r each mine;
-        distinct = distinct_snoc s.views r none_yet distinct;
-        numbered = numbered;
-        parts = omega arith;
-        drawn = omega arith;
-        bounded = omega arith;
-        waiting = omega arith;
+        few = k.few;
+        low = k.low;
+        making = all_snoc (λ i u. u.number ≡ Some 0 → u.given + u.parts ≡ seats + 1) s.views r k.making (λ e. absurd (k.no_maker e));
+        strangers = k.strangers;
+        wide = k.wide;
+        ended_is = k.ended_is;
+        each = all_snoc (λ j v. Fits log (tickets s) v) s.views r k.each k.mine;
+        distinct = distinct_snoc s.views r k.none_yet k.distinct;
+        numbered = k.numbered;
+        parts = omega (arith, k.parts);
+        drawn = omega (arith, k.drawn);
+        bounded = omega (arith, k.bounded);
+        waiting = omega (arith, k.waiting);
         placed = ⊎_elim
             (λ (a : (i : ℕ) × (v : View E) × (get_elem? s.views i ≡ some v) × (v.took ≡ true)). inl (a.0, a.1, at_longer s.views (r ∷ []) a.0 a.1 a.2, a.3))
             (λ (b : ((y : S) × (get_elem? s.homes 0 ≡ some (some (Some y))) × stands y log) × ((i : ℕ) (v : View E) → get_elem? s.views i ≡ some v → v.took ≡ false)).
-            inr (b.0, all_snoc (λ j v. v.took ≡ false) s.views r b.1 free))
-            placed;
+            inr (b.0, all_snoc (λ j v. v.took ≡ false) s.views r b.1 k.free))
+            k.placed;
       }
 
   -- number 0 makes a token
@@ -480,37 +497,48 @@ module _ {S E : Type 0} (stands : S → List (Ended E) → Type 0) where
       let bounded = k.bounded in
       let back : (i : ℕ) (u : View E) → get_elem? vs i ≡ some u → (u' : View E) × (get_elem? s.views i ≡ some u') × (u.number ≡ u'.number) × (u.met ≡ u'.met)
       = all_set (λ i u. (u' : View E) × (get_elem? s.views i ≡ some u') × (u.number ≡ u'.number) × (u.met ≡ u'.met)) s.views id w (v, at, refl, refl) (λ j u other e. (u, e, refl, refl)) in
-      arrived seats (k.next + 1) record { words = s.words; homes = s.homes; views = vs } r k.log k.few (let m = k.making id v at is in let l = k.low in omega arith)
-      (all_set (λ i u. u.number ≡ Some 0 → u.given + u.parts ≡ seats + 1) s.views id w (λ e. let m = k.making id v at is in omega arith) (λ j u other e. k.making j u e)) (λ e. let same : v.given ≡ 0 = cc in omega arith) k.wide (λ n past. k.strangers n (omega arith)) k.ended_is
-      (all_set (λ j u. Fits k.log x u) s.views id w record {
-        starts = f.starts;
-        owns = f.owns;
-        met = f.met;
-        drew = λ t e. let clash : None ≡ Some t = sym none_yet ∙ e in cc;
-        took = f.took;
-        idle = λ z. absurd (omega arith);
-        mine = f.mine;
-      } (λ j u other e. k.each j u e))
-      record {
-        starts = f.starts;
-        owns = λ n e. let same : v.given ≡ n = cc in let le : k.next ≤ n = omega arith in let all = k.strangers n le in
-            all ∙ sym (turns_by-prefix_none n v.seen f.starts.0 (ap (turns_by n) (sym f.starts.1) ∙ all));
-        met = λ i m e. absurd (some-ne-none m (sym e));
-        drew = λ t e. let clash : None ≡ Some t = e in cc;
-        took = λ e. absurd (true≢false (sym e));
-        idle = λ z. absurd (omega arith);
-        mine = λ n e. let same : v.given ≡ n = cc in let le : k.next ≤ n = omega arith in let all = k.strangers n le in
-            turns_by-prefix_none n v.seen f.starts.0 (ap (turns_by n) (sym f.starts.1) ∙ all);
+      arrived seats (k.next + 1) record { words = s.words; homes = s.homes; views = vs } r k.log record {
+        few = k.few;
+        low = (let m = k.making id v at is in let l = k.low in omega arith);
+        making = all_set (λ i u. u.number ≡ Some 0 → u.given + u.parts ≡ seats + 1) s.views id w (λ e. let m = k.making id v at is in omega arith) (λ j u other e. k.making j u e);
+        no_maker = λ e. let same : v.given ≡ 0 = cc in omega arith;
+        wide = k.wide;
+        strangers = λ n past. k.strangers n (omega arith);
+        ended_is = k.ended_is;
+        each = all_set (λ j u. Fits k.log x u) s.views id w record {
+          starts = f.starts;
+          owns = f.owns;
+          met = f.met;
+          drew = λ t e. let clash : None ≡ Some t = sym none_yet ∙ e in cc;
+          took = f.took;
+          idle = λ z. absurd (omega arith);
+          mine = f.mine;
+        } (λ j u other e. k.each j u e);
+        mine = record {
+          starts = f.starts;
+          owns = λ n e. let same : v.given ≡ n = cc in let le : k.next ≤ n = omega arith in let all = k.strangers n le in
+              all ∙ sym (turns_by-prefix_none n v.seen f.starts.0 (ap (turns_by n) (sym f.starts.1) ∙ all));
+          met = λ i m e. absurd (some-ne-none m (sym e));
+          drew = λ t e. let clash : None ≡ Some t = e in cc;
+          took = λ e. absurd (true≢false (sym e));
+          idle = λ z. absurd (omega arith);
+          mine = λ n e. let same : v.given ≡ n = cc in let le : k.next ≤ n = omega arith in let all = k.strangers n le in
+              turns_by-prefix_none n v.seen f.starts.0 (ap (turns_by n) (sym f.starts.1) ∙ all);
+        };
+        distinct = distinct_old id s.views v w at (λ t e. e) k.distinct;
+        none_yet = refl;
+        numbered = numbered_snoc (k.next + 1) vs r refl
+            (λ n e. let same : v.given ≡ n = cc in (
+              omega arith,
+              omega arith,
+              (λ i u g h. let b = back i u g in let low = (k.numbered.0 i n b.0 b.1 (sym b.2 ∙ h)).0 in absurd (omega arith)),
+              (λ i j u m g h q. let b = back i u g in let low = k.numbered.3 i j n b.0 m b.1 (subst (λ (l : List (Met E)). get_elem? l j ≡ some m) b.3 h) q in absurd (omega arith)),
+            ))
+            numbered;
+        parts = omega arith;
+        drawn = (let d = total_same drawn_of s.views id v w at refl in let d' = k.drawn in omega arith);
+        bounded = omega arith;
+        waiting = subst (λ (z : ℕ). z + length k.log ≡ min x turn_limit) (sym (total_same turns_of s.views id v w at refl)) k.waiting;
+        placed = placed_set k.log id s v w at free free k.placed;
+        free = refl;
       }
-      (distinct_old id s.views v w at (λ t e. e) k.distinct) refl
-      (numbered_snoc (k.next + 1) vs r refl
-      (λ n e. let same : v.given ≡ n = cc in (
-        omega arith,
-        omega arith,
-        (λ i u g h. let b = back i u g in let low = (k.numbered.0 i n b.0 b.1 (sym b.2 ∙ h)).0 in absurd (omega arith)),
-        (λ i j u m g h q. let b = back i u g in let low = k.numbered.3 i j n b.0 m b.1 (subst (λ (l : List (Met E)). get_elem? l j ≡ some m) b.3 h) q in absurd (omega arith)),
-      ))
-      numbered)
-      (omega arith) (let d = total_same drawn_of s.views id v w at refl in let d' = k.drawn in omega arith) (omega arith)
-      (subst (λ (z : ℕ). z + length k.log ≡ min x turn_limit) (sym (total_same turns_of s.views id v w at refl)) k.waiting)
-      (placed_set k.log id s v w at free free k.placed) refl

@@ -155,18 +155,34 @@ module _ {S E : Type 0} (stands : S → List (Ended E) → Type 0) where
       let r : View E = witness v in
       let f = k.each id v at in
       subst (λ (vs : List (View E)). Kept stands seats record { words = s.words; homes = s.homes; views = vs ++ r ∷ [] }) (sym (set_again s.views id v at))
-      (arrived stands seats k.next s r k.log k.few k.low k.making (λ e. let clash : None ≡ Some 0 = e in cc) k.wide k.strangers k.ended_is k.each
-      record {
-        starts = f.starts;
-        owns = λ n e. let clash : None ≡ Some n = e in absurd (cc);
-        met = λ i m e. absurd (some-ne-none m (sym e));
-        drew = λ t e. let clash : None ≡ Some t = e in absurd (cc);
-        took = λ e. absurd (true≢false (sym e));
-        idle = λ e. refl;
-        mine = λ n e. let clash : None ≡ Some n = e in absurd (cc);
-      }
-      k.distinct refl (numbered_snoc k.next s.views r refl (λ n e. let clash : None ≡ Some n = e in absurd (cc)) k.numbered)
-      (let p = k.parts in omega arith) (let p = k.drawn in omega arith) (let p = k.bounded in omega arith) k.waiting k.placed refl)
+      (arrived stands seats k.next s r k.log record {
+        few = k.few;
+        low = k.low;
+        making = k.making;
+        no_maker = λ e. let clash : None ≡ Some 0 = e in cc;
+        wide = k.wide;
+        strangers = k.strangers;
+        ended_is = k.ended_is;
+        each = k.each;
+        mine = record {
+          starts = f.starts;
+          owns = λ n e. let clash : None ≡ Some n = e in absurd (cc);
+          met = λ i m e. absurd (some-ne-none m (sym e));
+          drew = λ t e. let clash : None ≡ Some t = e in absurd (cc);
+          took = λ e. absurd (true≢false (sym e));
+          idle = λ e. refl;
+          mine = λ n e. let clash : None ≡ Some n = e in absurd (cc);
+        };
+        distinct = k.distinct;
+        none_yet = refl;
+        numbered = numbered_snoc k.next s.views r refl (λ n e. let clash : None ≡ Some n = e in absurd (cc)) k.numbered;
+        parts = (let p = k.parts in omega arith);
+        drawn = (let p = k.drawn in omega arith);
+        bounded = (let p = k.bounded in omega arith);
+        waiting = k.waiting;
+        placed = k.placed;
+        free = refl;
+      })
 
   -- two tokens are joined
   pub joins : (seats id other : ℕ) (v w : View E) → (v.number ≡ Some 0 → w.parts ≡ 0) → v.took ≡ false → w.took ≡ false → ((t : ℕ) → v.ticket ≡ Some t → turn_limit ≤ t) → ((t : ℕ) → w.ticket ≡ Some t → turn_limit ≤ t)

@@ -32,15 +32,21 @@ pub decoded_object-read : (piece text bytes : List ℕ) (d : Data) → decode_of
 decoded_object-read piece text bytes d is same utf8 found =
     ap (option_and_then object_of) (decoded-Ok piece bytes is ∙ ap Some same) ∙ object_of-read text d utf8 found
 
-pub config_file-joined : (keys : KeyPair) (threshold : ℕ) (identifier file text other id signature : List ℕ) → file ≡ text ++ 46 ∷ signature
-    → text ≡ signed_text threshold id → other ≡ text → signature ≡ piece_of (signature_of hs256 (signing_key keys) other) → id ≡ identifier
-    → file ≡ config_file keys threshold identifier
+-- a file was joined of a text, whose other spelling was signed under another spelling of the identifier
+pub record IsJoined (keys : KeyPair) (threshold : ℕ) (identifier file text other id signature : List ℕ) : Type 0 where
+  pub joined : file ≡ text ++ 46 ∷ signature
+  pub is : text ≡ signed_text threshold id
+  pub same : other ≡ text
+  pub encoded : signature ≡ piece_of (signature_of hs256 (signing_key keys) other)
+  pub named : id ≡ identifier
+
+pub config_file-joined : {keys : KeyPair} {threshold : ℕ} {identifier file text other id signature : List ℕ} → IsJoined keys threshold identifier file text other id signature → file ≡ config_file keys threshold identifier
 unfolding config_file
-config_file-joined keys threshold identifier file text other id signature joined is same encoded named =
-    let text_is : text ≡ signed_text threshold identifier = is ∙ ap (signed_text threshold) named in
+config_file-joined {keys = keys} {threshold = threshold} {identifier = identifier} {text = text} {signature = signature} file =
+    let text_is : text ≡ signed_text threshold identifier = file.is ∙ ap (signed_text threshold) file.named in
     let signature_is : signature ≡ piece_of (signature_of hs256 (signing_key keys) (signed_text threshold identifier)) =
-    encoded ∙ ap (λ t. piece_of (signature_of hs256 (signing_key keys) t)) (same ∙ text_is) in
-    joined ∙ (λ i. text_is i ++ 46 ∷ signature_is i)
+    file.encoded ∙ ap (λ t. piece_of (signature_of hs256 (signing_key keys) t)) (file.same ∙ text_is) in
+    file.joined ∙ (λ i. text_is i ++ 46 ∷ signature_is i)
 
 -- ---- how long it is
 
@@ -137,19 +143,18 @@ config_of-config_file keys threshold identifier low high short header claims sig
     ∙ checked_some keys (token_of (config_file keys threshold identifier)) (written_token keys threshold identifier) (token_of-config_file keys threshold identifier header claims signature)
     ∙ checked-written keys threshold identifier low high
 
-pub config_of-joined : (keys : KeyPair) (threshold : ℕ) (identifier file text other id signature : List ℕ) → file ≡ text ++ 46 ∷ signature
-    → text ≡ signed_text threshold id → other ≡ text → signature ≡ piece_of (signature_of hs256 (signing_key keys) other) → id ≡ identifier
+pub config_of-joined : {keys : KeyPair} {threshold : ℕ} {identifier file text other id signature : List ℕ} → IsJoined keys threshold identifier file text other id signature
     → 1 ≤ threshold → threshold ≤ max_threshold → length identifier ≤ 36
     → decoded_object (piece_of (compact_text written_header)) ≡ Some written_header
     → decoded_object (piece_of (compact_text (written_claims threshold id))) ≡ Some (written_claims threshold id)
     → decoded signature ≡ Some (signature_of hs256 (signing_key keys) other) → length (signature_of hs256 (signing_key keys) other) ≡ 32
     → config_of keys file ≡ Ok threshold
-config_of-joined keys threshold identifier file text other id signature joined is same encoded named low high short header claims decodes long =
+config_of-joined {keys = keys} {threshold = threshold} {identifier = identifier} {other = other} file low high short header claims decodes long =
     let sign : List ℕ → List ℕ = λ t. signature_of hs256 (signing_key keys) t in
-    let signed : other ≡ signed_text threshold identifier = same ∙ is ∙ ap (signed_text threshold) named in
-    let reads : decoded (piece_of (sign other)) ≡ Some (sign other) = ap decoded (sym encoded) ∙ decodes in
-    ap (config_of keys) (config_file-joined keys threshold identifier file text other id signature joined is same encoded named)
+    let signed : other ≡ signed_text threshold identifier = file.same ∙ file.is ∙ ap (signed_text threshold) file.named in
+    let reads : decoded (piece_of (sign other)) ≡ Some (sign other) = ap decoded (sym file.encoded) ∙ decodes in
+    ap (config_of keys) (config_file-joined file)
     ∙ config_of-config_file keys threshold identifier low high short header
-    (subst (λ (i : List ℕ). decoded_object (piece_of (compact_text (written_claims threshold i))) ≡ Some (written_claims threshold i)) named claims)
+    (subst (λ (i : List ℕ). decoded_object (piece_of (compact_text (written_claims threshold i))) ≡ Some (written_claims threshold i)) file.named claims)
     (subst (λ (t : List ℕ). decoded (piece_of (signature_of hs256 (signing_key keys) t)) ≡ Some (signature_of hs256 (signing_key keys) t)) signed reads)
     (subst (λ (t : List ℕ). length (signature_of hs256 (signing_key keys) t) ≡ 32) signed long)

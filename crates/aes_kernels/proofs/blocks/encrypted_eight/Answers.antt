@@ -2,7 +2,8 @@ use Rattle.std.proofs.Common.{◌≡◌, ℕ, ◌-◌, ◌<◌, List, [], map, g
 use Rattle.aes_block.specs.Aes.{aes}
 use Rattle.aes_kernels.specs.Circuit.{HasBlocks, after}
 use Rattle.aes_kernels.proofs.SBox.{eight-is}
-use Rattle.aes_kernels.proofs.States.{eight-same, first-blocks, last-blocks, next-blocks}
+use Rattle.aes_kernels.proofs.Elements.{eight-same}
+use Rattle.aes_kernels.proofs.States.{first-blocks, last-blocks, next-blocks}
 use Rattle.aes_kernels.proofs.Turning.{turned-out}
 use Rattle.aes_kernels.proofs.blocks.encrypted_eight.Goals as goal
 

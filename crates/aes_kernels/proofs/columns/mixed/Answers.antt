@@ -32,9 +32,13 @@ returns-clause-bytes c = λ lane bit within small.
     let at-r = λ (l : ℕ) (h : l < 16) (v y r : List ℕ) (e : y ≡ picked v shifted_places) (f : r ≡ picked y next_places).
     ap (bit_of l bit) f ∙ bit-picked l bit y next_places h ∙ at-y (get_or next_places l 0) (place-lt next_places tt l) v y e in
     let over : get_or opposite_places lane 0 < 16 = place-lt opposite_places tt lane in
-    mixed-at lane bit c.shifted-row_0.result c.shifted-row_1.result c.shifted-row_2.result c.shifted-row_3.result c.shifted-row_4.result c.shifted-row_5.result c.shifted-row_6.result c.shifted-row_7.result c.next-next_0.result c.next-next_1.result c.next-next_2.result c.next-next_3.result c.next-next_4.result c.next-next_5.result c.next-next_6.result c.next-next_7.result (picked c.shifted-row_0.result opposite_places) (picked c.shifted-row_1.result opposite_places) (picked c.shifted-row_2.result opposite_places) (picked c.shifted-row_3.result opposite_places) (picked c.shifted-row_4.result opposite_places) (picked c.shifted-row_5.result opposite_places) (picked c.shifted-row_6.result opposite_places) (picked c.shifted-row_7.result opposite_places) (picked c.next-next_0.result opposite_places) (picked c.next-next_1.result opposite_places) (picked c.next-next_2.result opposite_places) (picked c.next-next_3.result opposite_places) (picked c.next-next_4.result opposite_places) (picked c.next-next_5.result opposite_places) (picked c.next-next_6.result opposite_places) (picked c.next-next_7.result opposite_places)
+    mixed-at lane bit
+    (c.shifted-row_0.result ∷ c.shifted-row_1.result ∷ c.shifted-row_2.result ∷ c.shifted-row_3.result ∷ c.shifted-row_4.result ∷ c.shifted-row_5.result ∷ c.shifted-row_6.result ∷ c.shifted-row_7.result ∷ [])
+    (c.next-next_0.result ∷ c.next-next_1.result ∷ c.next-next_2.result ∷ c.next-next_3.result ∷ c.next-next_4.result ∷ c.next-next_5.result ∷ c.next-next_6.result ∷ c.next-next_7.result ∷ [])
+    (picked c.shifted-row_0.result opposite_places ∷ picked c.shifted-row_1.result opposite_places ∷ picked c.shifted-row_2.result opposite_places ∷ picked c.shifted-row_3.result opposite_places ∷ picked c.shifted-row_4.result opposite_places ∷ picked c.shifted-row_5.result opposite_places ∷ picked c.shifted-row_6.result opposite_places ∷ picked c.shifted-row_7.result opposite_places ∷ [])
+    (picked c.next-next_0.result opposite_places ∷ picked c.next-next_1.result opposite_places ∷ picked c.next-next_2.result opposite_places ∷ picked c.next-next_3.result opposite_places ∷ picked c.next-next_4.result opposite_places ∷ picked c.next-next_5.result opposite_places ∷ picked c.next-next_6.result opposite_places ∷ picked c.next-next_7.result opposite_places ∷ [])
     (c.sum-pair_0.result ∷ c.sum-pair_1.result ∷ c.sum-pair_2.result ∷ c.sum-pair_3.result ∷ c.sum-pair_4.result ∷ c.sum-pair_5.result ∷ c.sum-pair_6.result ∷ c.sum-pair_7.result ∷ c.opposite-opposite_0.result ∷ c.opposite-opposite_1.result ∷ c.opposite-opposite_2.result ∷ c.opposite-opposite_3.result ∷ c.opposite-opposite_4.result ∷ c.opposite-opposite_5.result ∷ c.opposite-opposite_6.result ∷ c.opposite-opposite_7.result ∷ c.sum-rest_0.result ∷ c.sum-rest_1.result ∷ c.sum-rest_2.result ∷ c.sum-rest_3.result ∷ c.sum-rest_4.result ∷ c.sum-rest_5.result ∷ c.sum-rest_6.result ∷ c.sum-rest_7.result ∷ c.sum-doubled_1.result ∷ c.sum-doubled_3.result ∷ c.sum-doubled_4.result ∷ c.sum-mixed_0.result ∷ c.sum-mixed_1.result ∷ c.sum-mixed_2.result ∷ c.sum-mixed_3.result ∷ c.sum-mixed_4.result ∷ c.sum-mixed_5.result ∷ c.sum-mixed_6.result ∷ c.sum-mixed_7.result ∷ [])
-    within (long-row_0, (long-row_1, (long-row_2, (long-row_3, (long-row_4, (long-row_5, (long-row_6, (long-row_7, (long-next_0, (long-next_1, (long-next_2, (long-next_3, (long-next_4, (long-next_5, (long-next_6, (long-next_7, (refl, (refl, (refl, (refl, (refl, (refl, (refl, (refl, (refl, (refl, (refl, (refl, (refl, (refl, (refl, (refl, tt)))))))))))))))))))))))))))))))) refl
+    within refl refl refl refl (long-row_0, (long-row_1, (long-row_2, (long-row_3, (long-row_4, (long-row_5, (long-row_6, (long-row_7, (long-next_0, (long-next_1, (long-next_2, (long-next_3, (long-next_4, (long-next_5, (long-next_6, (long-next_7, (refl, (refl, (refl, (refl, (refl, (refl, (refl, (refl, (refl, (refl, (refl, (refl, (refl, (refl, (refl, (refl, tt)))))))))))))))))))))))))))))))) refl
     (c.sum-pair_0.ensures, (c.sum-pair_1.ensures, (c.sum-pair_2.ensures, (c.sum-pair_3.ensures, (c.sum-pair_4.ensures, (c.sum-pair_5.ensures, (c.sum-pair_6.ensures, (c.sum-pair_7.ensures, (opp c.shifted-row_0.result c.next-next_0.result (long-row_0 ∙ sym long-next_0) c.sum-pair_0.ensures c.opposite-opposite_0.ensures, (opp c.shifted-row_1.result c.next-next_1.result (long-row_1 ∙ sym long-next_1) c.sum-pair_1.ensures c.opposite-opposite_1.ensures, (opp c.shifted-row_2.result c.next-next_2.result (long-row_2 ∙ sym long-next_2) c.sum-pair_2.ensures c.opposite-opposite_2.ensures, (opp c.shifted-row_3.result c.next-next_3.result (long-row_3 ∙ sym long-next_3) c.sum-pair_3.ensures c.opposite-opposite_3.ensures, (opp c.shifted-row_4.result c.next-next_4.result (long-row_4 ∙ sym long-next_4) c.sum-pair_4.ensures c.opposite-opposite_4.ensures, (opp c.shifted-row_5.result c.next-next_5.result (long-row_5 ∙ sym long-next_5) c.sum-pair_5.ensures c.opposite-opposite_5.ensures, (opp c.shifted-row_6.result c.next-next_6.result (long-row_6 ∙ sym long-next_6) c.sum-pair_6.ensures c.opposite-opposite_6.ensures, (opp c.shifted-row_7.result c.next-next_7.result (long-row_7 ∙ sym long-next_7) c.sum-pair_7.ensures c.opposite-opposite_7.ensures, (c.sum-rest_0.ensures, (c.sum-rest_1.ensures, (c.sum-rest_2.ensures, (c.sum-rest_3.ensures, (c.sum-rest_4.ensures, (c.sum-rest_5.ensures, (c.sum-rest_6.ensures, (c.sum-rest_7.ensures, (c.sum-doubled_1.ensures, (c.sum-doubled_3.ensures, (c.sum-doubled_4.ensures, (c.sum-mixed_0.ensures, (c.sum-mixed_1.ensures, (c.sum-mixed_2.ensures, (c.sum-mixed_3.ensures, (c.sum-mixed_4.ensures, (c.sum-mixed_5.ensures, (c.sum-mixed_6.ensures, (c.sum-mixed_7.ensures, tt)))))))))))))))))))))))))))))))))))
     ∙ four-of
     (eight (at-y lane within (get_or x 0 []) c.shifted-row_0.result c.shifted-row_0.ensures) (at-y lane within (get_or x 1 []) c.shifted-row_1.result c.shifted-row_1.ensures) (at-y lane within (get_or x 2 []) c.shifted-row_2.result c.shifted-row_2.ensures) (at-y lane within (get_or x 3 []) c.shifted-row_3.result c.shifted-row_3.ensures) (at-y lane within (get_or x 4 []) c.shifted-row_4.result c.shifted-row_4.ensures) (at-y lane within (get_or x 5 []) c.shifted-row_5.result c.shifted-row_5.ensures) (at-y lane within (get_or x 6 []) c.shifted-row_6.result c.shifted-row_6.ensures) (at-y lane within (get_or x 7 []) c.shifted-row_7.result c.shifted-row_7.ensures))

@@ -1,11 +1,8 @@
-use Rattle.std.proofs.Common.{◌≡◌, ℕ, List, [], ◌∷◌, ap, ap₂, sym, ◌∙◌}
+use Rattle.std.proofs.Common.{ℕ, List, ap, ap₂, sym, ◌∙◌}
 use Rattle.aes_kernels.specs.Circuit.{lower2, lower4, transposed_at, upper2, upper4}
+use Rattle.aes_kernels.proofs.Elements.{eight-same}
 use Rattle.aes_kernels.proofs.SBox.{eight-is}
 use Rattle.aes_kernels.proofs.planes.transposed.Goals as goal
-
-eight : {a b c d e f g h a' b' c' d' e' f' g' h' : List ℕ} → a ≡ a' → b ≡ b' → c ≡ c' → d ≡ d' → e ≡ e' → f ≡ f' → g ≡ g' → h ≡ h'
-    → (a ∷ b ∷ c ∷ d ∷ e ∷ f ∷ g ∷ h ∷ []) ≡ (a' ∷ b' ∷ c' ∷ d' ∷ e' ∷ f' ∷ g' ∷ h' ∷ [])
-eight p q r s t u v w = cc
 
 pub returns-clause-bits : goal.returns-clause-bits
 returns-clause-bits c = λ lane within.
@@ -34,4 +31,4 @@ returns-clause-bits c = λ lane within.
     let c6 = c.swap4-3.ensures.lower lane within ∙ ap₂ lower4 b2 b6 in
     let c3 = c.swap4-4.ensures.upper lane within ∙ ap₂ upper4 b3 b7 in
     let c7 = c.swap4-4.ensures.lower lane within ∙ ap₂ lower4 b3 b7 in
-    eight c0 c1 c2 c3 c4 c5 c6 c7 ∙ ap (transposed_at lane) (sym (eight-is x c.requires.0))
+    eight-same c0 c1 c2 c3 c4 c5 c6 c7 ∙ ap (transposed_at lane) (sym (eight-is x c.requires.0))

@@ -24,8 +24,18 @@ returns-in_err-gather-clause-bytes g c =
     rw (p.1, p.2, c.in_err-gather.ensures.error) (told_both (disk_in (g.R.Reads.log c.args.folder.now)) _ _ _ c.in_ok-header.ensures.opened (rw c.in_ok-header.ensures.log at c.in_ok-read.ensures.bytes) (λ d opened read bytes is.
     let room : length (take (32796 * c.few_chunks-first.result.1) c.args.sealed.now) ≡ 32796 * c.few_chunks-first.result.1 =
     omega (arith, length-take (32796 * c.few_chunks-first.result.1) c.args.sealed.now, c.few_chunks-first.ensures.few, c.requires.sealed) in
-    let span = span_is c.args.keys.now c.in_ok-header.header d c.args.path.now c.args.slice.at c.args.slice.count c.few_chunks-first.result.1 c.in_ok-read.read c.read.new.out
-    c.have_32_bytes.ensures.enc c.requires.some opened c.few_chunks-first.ensures.first (rw c.from.ensures at c.few_chunks-first.ensures.chunks) room read is in
+    let span = span_is (record {
+      first = _;
+      many = c.few_chunks-first.result.1;
+      room = _;
+      key = c.have_32_bytes.ensures.enc;
+      some = c.requires.some;
+      opens = opened;
+      is_first = c.few_chunks-first.ensures.first;
+      meets = rw c.from.ensures at c.few_chunks-first.ensures.chunks;
+      is_room = room;
+      gave = read;
+    }) is in
     let front : length (take c.args.slice.count c.args.out.now) ≡ c.args.slice.count = omega (arith, length-take c.args.slice.count c.args.out.now, c.requires.room) in
     none_filled c.args.keys.now c.in_ok-header.header c.args.slice.at c.args.slice.count _ _ bytes front span (c.in_err-gather.ensures.damaged c.args.keys.now bytes)))
 
@@ -34,8 +44,18 @@ returns-clause-bytes g c =
     told_both (disk_in (g.R.Reads.log c.args.folder.now)) _ _ _ c.in_ok-header.ensures.opened (rw c.in_ok-header.ensures.log at c.in_ok-read.ensures.bytes) (λ d opened read bytes is.
     let room : length (take (32796 * c.few_chunks-first.result.1) c.args.sealed.now) ≡ 32796 * c.few_chunks-first.result.1 =
     omega (arith, length-take (32796 * c.few_chunks-first.result.1) c.args.sealed.now, c.few_chunks-first.ensures.few, c.requires.sealed) in
-    let span = span_is c.args.keys.now c.in_ok-header.header d c.args.path.now c.args.slice.at c.args.slice.count c.few_chunks-first.result.1 c.in_ok-read.read c.read.new.out
-    c.have_32_bytes.ensures.enc c.requires.some opened c.few_chunks-first.ensures.first (rw c.from.ensures at c.few_chunks-first.ensures.chunks) room read is in
+    let span = span_is (record {
+      first = _;
+      many = c.few_chunks-first.result.1;
+      room = _;
+      key = c.have_32_bytes.ensures.enc;
+      some = c.requires.some;
+      opens = opened;
+      is_first = c.few_chunks-first.ensures.first;
+      meets = rw c.from.ensures at c.few_chunks-first.ensures.chunks;
+      is_room = room;
+      gave = read;
+    }) is in
     let front : length (take c.args.slice.count c.args.out.now) ≡ c.args.slice.count = omega (arith, length-take c.args.slice.count c.args.out.now, c.requires.room) in
     front_filled c.args.keys.now c.in_ok-header.header c.args.slice.at c.args.slice.count _ _ bytes c.gather.new.out _ front span (c.in_ok-gather.ensures.opened c.args.keys.now bytes)
     (take_at c.gather.new.out _ c.args.slice.count (c.gather.auto.out ∙ front)))

@@ -6,5 +6,5 @@ use Rattle.gcm_mode.proofs.stream.four_masks.Goals as goal
 pub returns : goal.returns
 returns c = λ j within.
     ap (λ (masks : List (List ℕ)). get_or masks j []) c.encrypted_four.ensures
-    ∙ four_masks_are (aes c.args.key.now) c.args.nonce.now _ _ _ _ c.args.first (omega arith) c.counter_block.ensures c.counter_block-2.ensures
+    ∙ four_masks_are (aes c.args.key.now) c.args.nonce.now c.args.first (omega arith) c.counter_block.ensures c.counter_block-2.ensures
     c.counter_block-3.ensures c.counter_block-4.ensures j within

@@ -15,7 +15,7 @@ loop-i-preserved c =
     let i = c.loop-i.i in
     let t : List ℕ = c.loop-i.target in
     let u : List ℕ = put_mid (16 * i) (16 * i + 16 - 16 * i) t c.copy_from_slice-in-loop-i.new.self in
-    IsMixed-more r i (16 * i + 16 - 16 * i) (16 * (r + i) + 16 - 16 * (r + i)) c.args.source.now c.loop-i.x c.take_in.new.x c.take_in-in-loop-i.new.x t u _ c.loop-i.invariant (omega arith)
+    IsMixed-more (16 * i + 16 - 16 * i) (16 * (r + i) + 16 - 16 * (r + i)) c.loop-i.invariant (omega arith)
     (omega arith) (omega arith) c.take_in.array_long c.take_in-in-loop-i.array_long (search rules) (omega arith) (omega arith)
     c.take_in.ensures (ap (put_mid (16 * i) (16 * i + 16 - 16 * i) t) c.copy_from_slice-in-loop-i.ensures.after)
     c.take_in-in-loop-i.ensures (ap (put_mid (16 * (r + i)) (16 * (r + i) + 16 - 16 * (r + i)) u) c.copy_from_slice-in-loop-i-2.ensures.after)

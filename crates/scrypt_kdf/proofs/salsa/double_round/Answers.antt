@@ -4,4 +4,13 @@ use Rattle.scrypt_kdf.proofs.salsa.double_round.Goals as goal
 
 pub returns : goal.returns
 returns c =
-    double_round_of_sixteen c.args.x _ _ _ _ _ _ _ _ (omega arith) c.quarter.ensures c.quarter-2.ensures c.quarter-3.ensures c.quarter-4.ensures c.quarter-5.ensures c.quarter-6.ensures c.quarter-7.ensures c.quarter-8.ensures
+    double_round_of_sixteen c.args.x (omega arith) (record {
+      first = c.quarter.ensures;
+      second = c.quarter-2.ensures;
+      third = c.quarter-3.ensures;
+      fourth = c.quarter-4.ensures;
+      fifth = c.quarter-5.ensures;
+      sixth = c.quarter-6.ensures;
+      seventh = c.quarter-7.ensures;
+      eighth = c.quarter-8.ensures;
+    })

@@ -16,7 +16,7 @@ end-requires-clause-right g c =
     let asked : Asked = asked_of (plain_request c.args.request.now) c.args.now (plain_reply c.serve-reply.result) c.serve-reply.new.buffer in
     let old : SeatView Made = c.args.seat.now in
     let during : SeatView Made = c.take.new.seat in
-    let t = in_turn _ old during _ c.in_ok-turn.ensures.turn in
+    let t = in_turn c.in_ok-turn.ensures.turn in
     let is : StandsFor g.B.Start.is g.T.SharedTree.stands c.value_mut.result.now.tree during.seen =
     subst (λ x. StandsFor g.B.Start.is g.T.SharedTree.stands x.tree during.seen) (sym c.value_mut.ensures.value) t.right
     in
@@ -34,23 +34,21 @@ end-requires-clause-right g c =
 
 pub returns-clause-goes : goal.returns-clause-goes
 returns-clause-goes g c =
-    let view : g.row.E.Denot → EntropyView = entropy_in g.E.Entropy in
     let told = c.end.ensures.told in
-    let t = in_turn _ c.args.seat.now c.take.new.seat _ c.in_ok-turn.ensures.turn in
+    let t = in_turn c.in_ok-turn.ensures.turn in
     let high = subst (λ (e : g.row.E.Denot). told.0.entropy.after ≤ g.E.Entropy.faults e) c.of.ensures told.2.source.high in
-    goes_after_turn g.B.Start.is _ c.args.seat.now c.take.new.seat c.end.new.seat _ (g.E.Entropy.faults c.serve-reply.new.entropy) c.end.ensures.entry told.0 t told.1 high c.end.ensures.after
+    goes_after_turn g.B.Start.is (g.E.Entropy.faults c.serve-reply.new.entropy) t told.1 high c.end.ensures.after
 
 pub returns-clause-entry : goal.returns-clause-entry
 returns-clause-entry g c =
     let view : g.row.E.Denot → EntropyView = entropy_in g.E.Entropy in
     let asked : Asked = asked_of (plain_request c.args.request.now) c.args.now (plain_reply c.serve-reply.result) c.serve-reply.new.buffer in
     let told = c.end.ensures.told in
-    let t = in_turn _ c.args.seat.now c.take.new.seat _ c.in_ok-turn.ensures.turn in
+    let t = in_turn c.in_ok-turn.ensures.turn in
     let is : IsMadeOf g.T.SharedTree.draws asked (view c.args.entropy.now) (view c.serve-reply.new.entropy) told.0 =
     subst (λ (p : g.row.E.Denot × g.row.E.Denot). IsMadeOf g.T.SharedTree.draws asked (view p.0) (view p.1) told.0) (λ i. (c.of-before.ensures i, c.of.ensures i)) told.2
     in
-    entry_of_turn _ g.T.SharedTree.draws view c.args.seat.now c.take.new.seat c.end.new.seat _ c.args.entropy.now c.serve-reply.new.entropy asked c.end.ensures.entry told.0 t c.requires.idle.rests told.1 is c.end.ensures.after
-    c.serve-reply.ensures.faults
+    entry_of_turn t c.requires.idle.rests told.1 is c.end.ensures.after c.serve-reply.ensures.faults
 
 pub returns-clause-right : goal.returns-clause-right
 returns-clause-right g c = (

@@ -1,7 +1,7 @@
-use Rattle.std.proofs.Common.{◌<◌, ◌≤◌, ◌≡◌, length, take, arith}
+use Rattle.std.proofs.Common.{◌<◌, ◌≤◌, ◌≡◌, length, arith}
 use Rattle.std.proofs.lemmas.List.{length-set}
 use Rattle.tree_model.specs.Names.{names_in}
-use Rattle.tree_answers.proofs.Ways.{HasName-left, names_after, ends_refused, ends_whole, goes_further}
+use Rattle.tree_answers.proofs.Ways.{HasName-left, IsOnWay, names_after, ends_refused, ends_whole, goes_further}
 use Rattle.tree_answers.proofs.walking.follow.Goals as goal
 
 pub split_name-requires : goal.split_name-requires
@@ -11,23 +11,45 @@ split_name-requires c =
 
 pub returns-in-Err-clause-way : goal.returns-in-Err-clause-way
 returns-in-Err-clause-way c =
-    ends_refused c.args.tree.now c.args.from (names_in c.args.names.now.count c.args.names.now.bytes.now) c.loop-count.at c.args.names.now.count c.loop-count.count c.loop-count.bytes.now
-    c.split_name.result.0.now c.split_name.result.1.now (take c.loop-count.count c.loop-count.qids) c.in_ok-node.field-0 c.in-Err.refusal
-    c.loop-count-test.true c.loop-count.invariant.names c.split_name.ensures.name c.split_name.ensures.rest c.in_ok-node.ensures.stands c.in-Err.is c.loop-count.invariant.way
+    let way : IsOnWay c.args.tree.now c.args.from (names_in c.args.names.now.count c.args.names.now.bytes.now) c.loop-count.at
+    c.args.names.now.count c.loop-count.count c.loop-count.bytes.now c.split_name.result.0.now c.split_name.result.1.now
+    c.loop-count.qids = record {
+      split = record {
+        below = c.loop-count-test.true;
+        are = c.loop-count.invariant.names;
+        name_is = c.split_name.ensures.name;
+        rest_is = c.split_name.ensures.rest;
+      };
+      goes = c.loop-count.invariant.way;
+    } in
+    ends_refused way c.in_ok-node.ensures.stands c.in-Err.is
 
 pub loop-count-preserved : goal.loop-count-preserved
 loop-count-preserved c =
-    let N = c.args.names.now.count in
-    let k = c.loop-count.count in
-    let qids = c.loop-count.qids in
     let few : c.args.names.now.count ≤ 16 = c.requires.names.few in
     let room : length c.loop-count.qids ≡ 16 = c.loop-count.invariant.room in
     let below : c.loop-count.count < c.args.names.now.count = c.loop-count-test.true in
+    let way : IsOnWay c.args.tree.now c.args.from (names_in c.args.names.now.count c.args.names.now.bytes.now) c.loop-count.at
+    c.args.names.now.count c.loop-count.count c.loop-count.bytes.now c.split_name.result.0.now c.split_name.result.1.now
+    c.loop-count.qids = record {
+      split = record {
+        below = c.loop-count-test.true;
+        are = c.loop-count.invariant.names;
+        name_is = c.split_name.ensures.name;
+        rest_is = c.split_name.ensures.rest;
+      };
+      goes = c.loop-count.invariant.way;
+    } in
     record {
       room = omega (arith, length-set c.loop-count.qids c.loop-count.count c.qid_of.result);
-      names = names_after N k c.loop-count.bytes.now c.split_name.result.1.now below c.loop-count.invariant.names c.split_name.ensures.rest;
-      way = goes_further c.args.tree.now c.args.from (names_in N c.args.names.now.bytes.now) c.loop-count.at N k c.loop-count.bytes.now qids
-          c.requires.tree below (omega arith) c.loop-count.invariant.names c.split_name.ensures.name c.split_name.ensures.rest c.in_ok-node.ensures.stands c.in-Ok.is c.qid_of.ensures c.loop-count.invariant.way;
+      names = names_after way.split;
+      way = goes_further way (record {
+        good = c.requires.tree;
+        next = _;
+        led = c.in_ok-node.ensures.stands;
+        is = c.in-Ok.is;
+        shown = c.qid_of.ensures;
+      }) (omega arith);
     }
 
 pub returns-clause-way : goal.returns-clause-way
