@@ -1,5 +1,5 @@
 -- Opening a folder whose journal a stop may have left: which journals are damaged, and where, and what an opening owes.
-use Rattle.std.specs.Prelude.{◌≡◌, ◌⊎◌, ⊤, ℕ, ◌+◌, ◌<◌, ◌^◌, List, length, take, drop, get_or, Option, None, Some}
+use Rattle.std.specs.Prelude.{◌≡◌, ◌⊎◌, ⊤, ℕ, ◌+◌, ◌<◌, ◌^◌, List, length, take, drop, get_or, Bool, true, false, Option, None, Some}
 use Rattle.std.specs.Int.{w64, from_be_bytes}
 use Rattle.outside.specs.Disk.{Disk, file, node_at, IsFolder}
 use Rattle.outside.specs.Images.{Log, Synced, adds, now, IsImage, LeavesOnly}
@@ -8,7 +8,7 @@ use Rattle.outside.specs.Unsynced.{IsSynced}
 use Rattle.deeds.specs.Grammar.{IsBadAt, spelled_deeds}
 use Rattle.chunk_journal.specs.declared.fault.JournalErr.{JournalErr}
 use Rattle.chunk_journal.specs.declared.fault.JournalErr.TheVariants.{Device, JournalDamaged, Memory}
-use Rattle.chunk_journal.specs.Journal.{journal_file, new_file, HoldsBatch, RecoversTo, Recovered, IsAlike, IsQuiet, IsFound, IsRepeatable, IsReopenable, StaysRecovered, StaysTidy}
+use Rattle.chunk_journal.specs.Journal.{journal_file, new_file, HoldsBatch, IsClosed, RecoversTo, Recovered, IsAlike, IsQuiet, IsFound, IsRepeatable, IsReopenable, StaysRecovered, StaysTidy}
 
 -- ---- the bytes of a journal whose gate is open
 
@@ -115,6 +115,16 @@ pub record HasOpened (old new : Log) : Type 0 where
 -- applied up to the first call whose condition fails.
 abbrev pub IsLeftApplied : Log → Log → Type 0
 IsLeftApplied old new = (HasFolder (now old) → ⊥) → Recovered (now old) (now new)
+
+-- a batch is there to be done, or there is none
+abbrev pub HasOpenBatch : Bool → Disk → Type 0
+HasOpenBatch true disk = (deeds : List PlainDeed) × HoldsBatch disk deeds
+HasOpenBatch false disk = IsClosed disk
+
+-- what is found before anything is done: no folder is in the places of the journal's files, and there is such a batch or none
+pub record IsFoundOpen (held : Bool) (disk : Disk) : Type 0 where
+  pub no_folder : HasFolder disk → ⊥
+  pub batch : HasOpenBatch held disk
 
 -- ---- what is read on the way
 

@@ -13,6 +13,8 @@
 //! gate, with a sync after each. The first journal is made at `served.journal.new` and moved to its place. Opening does what is
 //! left of an open gate's batch, or says at which byte the journal is damaged.
 //!
+//! A folder that is only to be read is asked by `needs_recovery` whether there is such a batch.
+//!
 //! The changes that a run which is killed leaves unsynced name no path but those that `loose_paths` gives.
 //!
 //! Laws: `recovering_is_undamaged`, `undamaged_recovers`, `recovering_is_unique`, `opening_stays_found`, `journals_stay_undamaged`
@@ -42,6 +44,7 @@ ghost use Rattle.chunk_journal.specs.Flushed.{IsFirm, IsFlushedWhole};
 pub use fault::{Device, JournalErr};
 pub use journal::Journal;
 pub use loose::loose_paths;
+pub use recovery::needs_recovery;
 
 /// What recovers to a disk, with no folder where the first journal is made, isn't damaged: so no stop of a commit or of an
 /// opening leaves a damaged journal. It does nothing.

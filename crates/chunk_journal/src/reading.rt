@@ -30,6 +30,7 @@ pub fn journal_len<D: Reads>(
     ensures found { IfOk result (λ len. Told (D.log folder.old) (λ log. HasLen len (now log))) }
     ensures damaged { IfErr result (λ error. IfDamaged error (λ at. Told (D.log folder.old) (λ log. HasFolder (now log) × (at ≡ 0)))) }
     ensures log { D.log folder.new ≡ D.log folder.old }
+    ensures changes { D.changes folder.new ≡ D.changes folder.old }
     ensures cause { HasCause (D.faults folder.old) (D.faults folder.new) (IsErrOf result JournalErr.Device) }
 {
     if let Some(Kind::Dir) = folder.kind(beside)? {
@@ -66,6 +67,7 @@ fn batch_len<D: Reads>(
     ensures damaged { IfErr result (λ error. IfDamaged error (λ at. Told (D.log folder.old) (λ log. IsBadBehindGate (now log) at))) }
     ensures unheld { IfErr result (λ error. IfDamaged error (λ at. Told (D.log folder.old) (λ log. IsUnheld (now log)))) }
     ensures log { D.log folder.new ≡ D.log folder.old }
+    ensures changes { D.changes folder.new ≡ D.changes folder.old }
     ensures cause { HasCause (D.faults folder.old) (D.faults folder.new) (IsErrOf result JournalErr.Device) }
 {
     let mut head = [0; HEAD_LEN];
@@ -95,6 +97,7 @@ fn held_batch<D: Reads>(
     ensures damaged { IfErr result (λ error. IfDamaged error (λ at. Told (D.log folder.old) (λ log. IsBadBehindGate (now log) at))) }
     ensures unheld { IfErr result (λ error. IfDamaged error (λ at. Told (D.log folder.old) (λ log. IsUnheld (now log)))) }
     ensures log { D.log folder.new ≡ D.log folder.old }
+    ensures changes { D.changes folder.new ≡ D.changes folder.old }
     ensures cause { HasCause (D.faults folder.old) (D.faults folder.new) (IsErrOf result JournalErr.Device) }
 {
     let mut bytes = vec![in alloc; 0; len as usize]?;
@@ -124,6 +127,7 @@ pub fn open_batch<D: Reads>(
     ensures damaged { IfErr result (λ error. IfDamaged error (λ at. Told (D.log folder.old) (λ log. IsDamagedAt (now log) at))) }
     ensures unheld { IfErr result (λ error. IfDamaged error (λ at. Told (D.log folder.old) (λ log. HasFolder (now log) ⊎ IsUnheld (now log)))) }
     ensures log { D.log folder.new ≡ D.log folder.old }
+    ensures changes { D.changes folder.new ≡ D.changes folder.old }
     ensures cause { HasCause (D.faults folder.old) (D.faults folder.new) (IsErrOf result JournalErr.Device) }
 {
     let Some(len) = journal_len(folder, journal, beside)? else {

@@ -1,4 +1,4 @@
-ghost use Rattle.std.specs.Prelude.{◌≡◌, ◌≢◌, ◌⊎◌, ◌+◌, ◌∷◌, [], ℕ, OnOk, OnErr, IfErr, IsErr, IsErrOf, length, take};
+ghost use Rattle.std.specs.Prelude.{◌≡◌, ◌≢◌, ◌⊎◌, ◌+◌, ◌∷◌, [], ℕ, OnOk, OnErr, IfOk, IfErr, IsErr, IsErrOf, length, take};
 ghost use Rattle.outside.specs.Calls.{HasCause, Told, Changes};
 ghost use Rattle.outside.specs.Disk.{Disk, Path, node_at};
 ghost use Rattle.outside.specs.Changes.{Write};
@@ -10,13 +10,13 @@ ghost use Rattle.deeds.specs.Grammar.{IsBatch, spelled_deeds};
 ghost use Rattle.deeds.specs.Plain.{plains};
 ghost use Rattle.chunk_journal.specs.Journal.{journal_file, new_file, IsAlike, IsQuiet, IsRepeatable, IsFound, StaysRecovered};
 ghost use Rattle.chunk_journal.specs.Stages.{LeavesParts};
-ghost use Rattle.chunk_journal.specs.Opening.{HasFolder, IsUnfitAt, IsDamagedAt, LeavesFolder, IfDamaged, IsLeftApplied, IsOpening, StaysOpening, HasOpened};
+ghost use Rattle.chunk_journal.specs.Opening.{HasFolder, IsUnfitAt, IsDamagedAt, IsFoundOpen, LeavesFolder, IfDamaged, IsLeftApplied, IsOpening, StaysOpening, HasOpened};
 
 use crate::fault::{Device, JournalErr};
 use crate::reading::{BATCH, journal_len, open_batch};
 use crate::steps::{CLOSED, GATE, write_synced};
 use deeds::{Deed, DeedErr, do_batch, journal_path, len_before, new_path};
-use outside::Folder;
+use outside::{Folder, Reads};
 use std::alloc::Global;
 use vault_path::VaultPath;
 
@@ -121,4 +121,17 @@ pub fn recover<D: Folder>(alloc: Global, folder: &mut D) -> Result<(), JournalEr
     };
     redo(folder, &journal, &beside, &deeds)?;
     Ok(())
+}
+
+/// Whether a stop left a batch behind an open gate, which an opening would do. The journal is read as it is found, and nothing is changed. An error is one of
+/// `Journal::open`, but that no deed is tried.
+pub fn needs_recovery<D: Reads>(alloc: Global, folder: &mut D) -> Result<bool, JournalErr>
+    ensures found { IfOk result (λ held. Told (D.log folder.old) (λ log. IsFoundOpen held (now log))) }
+    ensures damaged { IfErr result (λ error. IfDamaged error (λ at. Told (D.log folder.old) (λ log. IsDamagedAt (now log) at))) }
+    ensures log { D.log folder.new ≡ D.log folder.old }
+    ensures changes { D.changes folder.new ≡ D.changes folder.old }
+    ensures cause { HasCause (D.faults folder.old) (D.faults folder.new) (IsErrOf result JournalErr.Device) }
+{
+    let found = open_batch(alloc, folder, &journal_path(), &new_path())?;
+    Ok(found.is_some())
 }

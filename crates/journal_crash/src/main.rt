@@ -136,8 +136,8 @@ fn newest<D: Reads>(folder: &mut D) -> Result<u64, CrashErr> {
 fn opened<'a>(
     rt: &'a HostRuntime,
     place: &str,
-) -> Result<Journal<HostFolder<StdCalls<&'a HostRuntime>>>, CrashErr> {
-    let folder = HostFolder::untold(StdCalls::new(rt), rt.alloc(), place)?;
+) -> Result<Journal<HostFolder<StdCalls<&'a HostRuntime, &'a HostRuntime>>>, CrashErr> {
+    let folder = HostFolder::untold(StdCalls::new(rt, rt), rt.alloc(), place)?;
     match Journal::open(rt.alloc(), folder) {
         Ok(journal) => Ok(journal),
         Err(refused) => Err(CrashErr::Journal(refused.cause)),
@@ -146,7 +146,7 @@ fn opened<'a>(
 
 // Commits a batch that names no path twice.
 fn commit<'a>(
-    journal: &mut Journal<HostFolder<StdCalls<&'a HostRuntime>>>,
+    journal: &mut Journal<HostFolder<StdCalls<&'a HostRuntime, &'a HostRuntime>>>,
     deeds: &[Deed],
 ) -> Result<(), CrashErr>
     requires { IsBatch (plains deeds.now) }
