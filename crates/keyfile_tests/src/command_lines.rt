@@ -1,6 +1,9 @@
 use std::alloc::{AllocError, Global};
 use std::test::Fail;
-use vault_words::{Job, WordsErr, places, read_words};
+use vault_words::{
+    Job, Making, Serving, Topic, VERSION, Verbosity, WordsErr, complaint, help_text, read_words,
+    vaultd,
+};
 
 // Words with a space between each two.
 fn words(alloc: Global, line: &str) -> Result<Vec<String>, AllocError> {
@@ -12,25 +15,40 @@ fn words(alloc: Global, line: &str) -> Result<Vec<String>, AllocError> {
     Ok(words)
 }
 
-const FIRST: Job<'static> = Job::Serve {
+const PLAIN: Serving<'static> = Serving {
     dir: "v",
     address: "-",
-    sessions: 1,
-    at_once: 1,
-    raw_key: true,
-};
-
-const PLAIN: Job<'static> = Job::Serve {
-    dir: "v",
-    address: "-",
-    sessions: 1,
+    sessions: None,
     at_once: 8,
     raw_key: false,
+    read_only: false,
+    passfile: None,
+    idle: 0,
+    verbosity: Verbosity::Usual,
+};
+
+const FIRST: Serving<'static> = Serving {
+    sessions: Some(1),
+    at_once: 1,
+    raw_key: true,
+    ..PLAIN
+};
+
+const WHOLE: Serving<'static> = Serving {
+    dir: "-v",
+    address: "127.0.0.1:564",
+    sessions: Some(1_000_000),
+    at_once: 64,
+    raw_key: true,
+    read_only: true,
+    passfile: Some("-"),
+    idle: 1_000_000,
+    verbosity: Verbosity::VeryVerbose,
 };
 
 #[test]
-fn each_job_has_its_words(rt: HostRuntime) -> Result<(), Fail> {
-    for (line, job) in [
+fn each_serving_has_its_words(rt: HostRuntime) -> Result<(), Fail> {
+    for (line, serving) in [
         (
             "serve v --listen - --sessions 1 --at-once 1 --raw-key",
             FIRST,
@@ -39,20 +57,77 @@ fn each_job_has_its_words(rt: HostRuntime) -> Result<(), Fail> {
             "serve --raw-key --at-once=1 --sessions=1 --listen=- v",
             FIRST,
         ),
-        ("serve v --listen - --sessions 1", PLAIN),
-        ("serve --listen - --sessions 1 -- v", PLAIN),
+        ("serve v --listen -", PLAIN),
+        ("serve --listen - --at-once 8 --idle 0 -- v", PLAIN),
         (
-            "serve --sessions 1000000 --listen 127.0.0.1:564 --at-once 64 -- -v",
-            Job::Serve {
-                dir: "-v",
-                address: "127.0.0.1:564",
-                sessions: 1_000_000,
-                at_once: 64,
-                raw_key: false,
+            "serve --sessions 1000000 --listen 127.0.0.1:564 --at-once 64 --raw-key --read-only --passfile - --idle 1000000 -vv -- -v",
+            WHOLE,
+        ),
+        (
+            "serve v --listen - -q",
+            Serving {
+                verbosity: Verbosity::Quiet,
+                ..PLAIN
             },
         ),
-        ("make v", Job::Make { dir: "v" }),
-        ("make -- --listen", Job::Make { dir: "--listen" }),
+        (
+            "serve v --listen - --quiet --read-only",
+            Serving {
+                verbosity: Verbosity::Quiet,
+                read_only: true,
+                ..PLAIN
+            },
+        ),
+        (
+            "serve -v v --listen -",
+            Serving {
+                verbosity: Verbosity::Verbose,
+                ..PLAIN
+            },
+        ),
+        (
+            "serve v --verbose --listen - -vv",
+            Serving {
+                verbosity: Verbosity::VeryVerbose,
+                ..PLAIN
+            },
+        ),
+        (
+            "serve v --listen - --passfile=a=b",
+            Serving {
+                passfile: Some("a=b"),
+                ..PLAIN
+            },
+        ),
+    ] {
+        let words = words(rt.alloc(), line)?;
+        assert_eq!(rt;
+            read_words(rt.alloc(), &words),
+            Ok(Job::Serve(serving)),
+            "{line}"
+        );
+        assert!(rt; complaint(rt.alloc(), &words)?.is_none(), "{line}");
+    }
+    Ok(())
+}
+
+#[test]
+fn each_job_has_its_words(rt: HostRuntime) -> Result<(), Fail> {
+    for (line, job) in [
+        (
+            "make v",
+            Job::Make(Making {
+                dir: "v",
+                passfile: None,
+            }),
+        ),
+        (
+            "make --passfile f -- --listen",
+            Job::Make(Making {
+                dir: "--listen",
+                passfile: Some("f"),
+            }),
+        ),
         (
             "demo --seed 18446744073709551615 --clients 64 --requests 100000",
             Job::Demo {
@@ -69,12 +144,101 @@ fn each_job_has_its_words(rt: HostRuntime) -> Result<(), Fail> {
                 requests: 0,
             },
         ),
-        ("--help", Job::Help),
-        ("serve --help", Job::Help),
-        ("--version", Job::Version),
+        ("sync unix:a", Job::Sync { address: "unix:a" }),
+        ("help", Job::Help(Topic::Program)),
+        ("help serve", Job::Help(Topic::Serve)),
+        ("help make", Job::Help(Topic::Make)),
+        ("help demo", Job::Help(Topic::Demo)),
+        ("help sync", Job::Help(Topic::Sync)),
+        ("serve v -h", Job::Help(Topic::Serve)),
+        ("--help serve", Job::Help(Topic::Program)),
+        ("-V", Job::Version),
     ] {
         let words = words(rt.alloc(), line)?;
         assert_eq!(rt; read_words(rt.alloc(), &words), Ok(job), "{line}");
+        assert!(rt; complaint(rt.alloc(), &words)?.is_none(), "{line}");
+    }
+    Ok(())
+}
+
+// What clap itself answers these words with.
+fn answer(alloc: Global, words: &[String]) -> Result<Option<String>, AllocError> {
+    match vaultd(alloc)?.try_get_matches_from(words) {
+        Ok(_) => Ok(None),
+        Err(error) => Ok(Some(format!(in alloc; "{error}")?)),
+    }
+}
+
+#[test]
+fn texts_are_claps(rt: HostRuntime) -> Result<(), Fail> {
+    for (line, topic) in [
+        ("--help", Topic::Program),
+        ("-h", Topic::Program),
+        ("serve --help", Topic::Serve),
+        ("make --help", Topic::Make),
+        ("demo --help", Topic::Demo),
+        ("sync --help", Topic::Sync),
+    ] {
+        let words = words(rt.alloc(), line)?;
+        let answer = answer(rt.alloc(), &words)?;
+        assert_eq!(rt; answer.as_deref(), Some(help_text(topic)), "{line}");
+        assert_eq!(rt;
+            read_words(rt.alloc(), &words),
+            Ok(Job::Help(topic)),
+            "{line}"
+        );
+    }
+    let words = words(rt.alloc(), "--version")?;
+    let answer = answer(rt.alloc(), &words)?;
+    assert_eq!(rt; answer.as_deref(), Some(VERSION));
+    assert_eq!(rt; read_words(rt.alloc(), &words), Ok(Job::Version));
+    Ok(())
+}
+
+#[test]
+fn complaints_name_the_word(rt: HostRuntime) -> Result<(), Fail> {
+    for (line, wanted) in [
+        (
+            "serv v",
+            "error: unrecognized subcommand 'serv'\n\n  tip: a similar subcommand exists: 'serve'\n\nUsage: vaultd <COMMAND>\n",
+        ),
+        (
+            "serve v --listn -",
+            "error: unexpected argument '--listn' found\n\n  tip: a similar argument exists: '--listen'\n\nUsage: vaultd serve --listen <ADDR> <DIR>\n",
+        ),
+        (
+            "serve v",
+            "error: the following required arguments were not provided:\n  --listen <ADDR>\n\nUsage: vaultd serve --listen <ADDR> <DIR>\n",
+        ),
+        (
+            "serve v --listen - --at-once 65",
+            "error: invalid value '65' for '--at-once <M>': 1 to 64\n",
+        ),
+        (
+            "serve v --listen - --sessions 01 --idle -",
+            "error: invalid value '01' for '--sessions <N>': 1 to 1000000\n",
+        ),
+        (
+            "serve v --listen - --idle=1000001 -qv",
+            "error: invalid value '1000001' for '--idle <SECONDS>': 0 to 1000000\n",
+        ),
+        (
+            "demo --seed 0 --clients 0 --requests 0",
+            "error: invalid value '0' for '--clients <M>': 1 to 64\n",
+        ),
+        (
+            "serve v --listen - -qv",
+            "error: the argument '--quiet' cannot be used with '--verbose...'\n",
+        ),
+        (
+            "help serv",
+            "error: unrecognized subcommand 'serv'\n\nUsage: vaultd help [COMMAND]\n",
+        ),
+    ] {
+        let words = words(rt.alloc(), line)?;
+        let told = complaint(rt.alloc(), &words)?;
+        let wanted = format!(in rt.alloc(); "{wanted}\nFor more information, try '--help'.\n")?;
+        assert_eq!(rt; told.as_deref(), Some(wanted.as_str()), "{line}");
     }
     Ok(())
 }
@@ -85,10 +249,9 @@ fn other_words_are_refused(rt: HostRuntime) -> Result<(), Fail> {
         "",
         "serve",
         "serve v",
-        "help",
         "copy v",
-        "serve v --listen -",
         "serve v --sessions 1",
+        "serve v --sessions 1 --listen",
         "serve --listen - --sessions 1",
         "serve v w --listen - --sessions 1",
         "serve v --listen - --sessions 0",
@@ -105,6 +268,13 @@ fn other_words_are_refused(rt: HostRuntime) -> Result<(), Fail> {
         "serve v --listen - --sessions 1 --raw-key --raw-key",
         "serve v --listen - --sessions 1 --raw-key=1",
         "serve v --listen - --sessions 1 --raw",
+        "serve v --listen - --idle 1000001",
+        "serve v --listen - --idle -1",
+        "serve v --listen - --idle",
+        "serve v --listen - -q -v",
+        "serve v --listen - -qvv",
+        "serve v --listen - -qq",
+        "serve v --listen - --passfile",
         "serve -v --listen - --sessions 1",
         "make",
         "make v w",
@@ -115,6 +285,13 @@ fn other_words_are_refused(rt: HostRuntime) -> Result<(), Fail> {
         "demo --seed 18446744073709551616 --clients 1 --requests 0",
         "demo --seed 0 --clients 1",
         "demo v --seed 0 --clients 1 --requests 0",
+        "sync",
+        "sync a b",
+        "sync --listen a",
+        "help help",
+        "help serv",
+        "help serve make",
+        "help --help",
     ] {
         let words = words(rt.alloc(), line)?;
         assert_eq!(rt;
@@ -122,29 +299,7 @@ fn other_words_are_refused(rt: HostRuntime) -> Result<(), Fail> {
             Err(WordsErr::Refused),
             "{line}"
         );
-    }
-    Ok(())
-}
-
-#[test]
-fn places_are_those_of_the_job(rt: HostRuntime) -> Result<(), Fail> {
-    for (line, dir, address, at_once) in [
-        (
-            "serve v --listen 10.0.0.1:564 --sessions 1 --at-once 3",
-            "v",
-            "10.0.0.1:564",
-            3,
-        ),
-        ("make v", "v", "", 1),
-        ("demo --seed 0 --clients 9 --requests 0", "", "", 1),
-        ("--help", "", "", 1),
-        ("serve v", "", "", 1),
-    ] {
-        let words = words(rt.alloc(), line)?;
-        let places = places(rt.alloc(), &words)?;
-        assert!(rt; places.dir == dir, "{line}");
-        assert!(rt; places.address == address, "{line}");
-        assert_eq!(rt; places.at_once, at_once, "{line}");
+        assert!(rt; complaint(rt.alloc(), &words)?.is_some(), "{line}");
     }
     Ok(())
 }

@@ -1,12 +1,12 @@
 -- Words ask for one thing, as the kinds of an error agree on a request.
-use Rattle.std.proofs.Common.{◌≡◌, ◌⊎◌, true, List, [], Some, inl, inr, refl, subst}
+use Rattle.std.proofs.Common.{◌≡◌, ◌⊎◌, true, List, [], inl, inr, refl, ap, subst}
 use Rattle.clap.specs.Simple.{built}
-use Rattle.clap.specs.Words.{IsAmong, Text, fault_of, subcommand_of}
+use Rattle.clap.specs.Words.{IsAmong, Text, fault_of}
 use Rattle.clap.specs.Kinds.{Kinds}
 use Rattle.clap.specs.declared.error.kind.ErrorKind.{ErrorKind}
 use Rattle.clap.specs.declared.error.kind.ErrorKind.TheVariants as kind
 use Rattle.vault_words.specs.Command.{vaultd}
-use Rattle.vault_words.specs.Jobs.{AsksFor, IsRefused, Job, demo, help, job_in, make, serve, version}
+use Rattle.vault_words.specs.Jobs.{AsksFor, IsRefused, IsTaken, Job, demo, help, make, serve, sync, topic_at, version}
 use Rattle.vault_words.proofs.OneKind.{OneKind, one_kind-fault_of}
 
 vaultd_disables_help : (built vaultd).top.disable_help_subcommand ≡ true
@@ -23,16 +23,17 @@ none_among k kinds none among = subst (IsAmong k) none among
 -- what words ask for is help, the version, or a job of words that clap takes
 abbrev Asked : List Text → Job → Type 0
 Asked words job =
-    ((job ≡ help) × IsAmong kind.DisplayHelp (fault_of vaultd words))
-    ⊎ (((job ≡ version) × IsAmong kind.DisplayVersion (fault_of vaultd words))
-    ⊎ ((fault_of vaultd words ≡ []) × (job_in (subcommand_of vaultd words) ≡ Some job)))
+    ((job ≡ help (topic_at words)) × IsAmong kind.DisplayHelp (fault_of vaultd words))
+    ⊎ (((job ≡ version) × IsAmong kind.DisplayVersion (fault_of vaultd words)) ⊎ IsTaken job words)
 
 asked : (words : List Text) (job : Job) → AsksFor job words → Asked words job
-asked words help h = inl (refl, h)
+asked words (help t) (inl h) = inl (ap help h.1, h.0)
+asked words (help t) (inr h) = inr (inr h)
 asked words version h = inr (inl (refl, h))
 asked words (serve s) h = inr (inr h)
-asked words (make dir) h = inr (inr h)
+asked words (make m) h = inr (inr h)
 asked words (demo d) h = inr (inr h)
+asked words (sync address) h = inr (inr h)
 
 -- help and the version are not both among the kinds
 not_both : (words : List Text) → IsAmong kind.DisplayHelp (fault_of vaultd words) → IsAmong kind.DisplayVersion (fault_of vaultd words) → ⊥

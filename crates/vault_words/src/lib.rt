@@ -2,20 +2,25 @@
 //!
 //! ```
 //! let job = read_words(alloc, &words)?; // make v
-//! assert!(job == Job::Make { dir: "v" });
+//! assert!(job == Job::Make(Making { dir: "v", passfile: None }));
 //! ```
 //!
-//! `serve DIR --listen ADDR --sessions N [--at-once M] [--raw-key]`, `make DIR` and `demo --seed S --clients M --requests R`, with
-//! options in any order, `--listen=-` too, and a DIR that begins with a hyphen after `--`. A number is decimal digits without a sign
-//! and a leading zero. `--help` and `--version` are jobs too.
+//! `serve DIR --listen ADDR [--sessions N] [--at-once M] [--raw-key] [--read-only] [--passfile FILE] [--idle SECONDS] [-q|-v]`,
+//! `make DIR [--passfile FILE]`, `demo --seed S --clients M --requests R` and `sync ADDR`, with options in any order, `--listen=-`
+//! too, and a DIR that begins with a hyphen after `--`. A number is decimal digits without a sign and a leading zero. `--help`, of the
+//! program and of each command, `help COMMAND` and `--version` are jobs too. `complaint` says what is wrong with other words.
 #![tactic(auto)]
 
+mod bounds;
 mod command;
+mod complaints;
 mod job;
 mod laws;
 mod number;
-mod starting;
+mod texts;
 
-pub use job::{Job, Places, USAGE, VERSION, WordsErr, read_words};
+pub use command::vaultd;
+pub use complaints::complaint;
+pub use job::{Job, Making, Serving, Topic, Verbosity, WordsErr, read_words};
 pub use laws::{texts_are_the_definitions, words_ask_for_one_thing};
-pub use starting::places;
+pub use texts::{DEMO_HELP, HELP, MAKE_HELP, SERVE_HELP, SYNC_HELP, VERSION, help_text};

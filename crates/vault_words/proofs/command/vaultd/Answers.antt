@@ -8,5 +8,5 @@ pub returns : goal.returns
 unfolding vaultd
 returns c =
     IfOk-weaker c.subcommand.result _ _
-    (λ command adds. adds.shape c.in_ok-demo.ensures.local ∙ ap₂ with_subcommand c.in_ok-command.ensures (ap (λ (a : App). a.top) c.in_ok-demo.ensures.app))
+    (λ command adds. adds.shape c.in_ok-help.ensures.local ∙ ap₂ with_subcommand c.in_ok-command.ensures (ap (λ (a : App). a.top) c.in_ok-help.ensures.app))
     c.subcommand.ensures

@@ -6,5 +6,5 @@ use Rattle.vault_words.proofs.command.with_serve.Goals as goal
 pub returns : goal.returns
 returns c =
     IfOk-weaker c.subcommand.result _ _
-    (λ command adds. adds.shape c.in_ok-serve.ensures.local ∙ ap₂ with_subcommand c.bare.ensures (ap (λ (a : App). a.top) c.in_ok-serve.ensures.app))
+    (λ command adds. adds.shape c.in_ok-serve.ensures.local ∙ ap₂ with_subcommand c.in_ok-command.ensures (ap (λ (a : App). a.top) c.in_ok-serve.ensures.app))
     c.subcommand.ensures
