@@ -91,12 +91,11 @@ pub live_contents : (s : Sealing) (d : Disk) (live : HeldTree) (claims : List (L
 live_contents s d live claims contents stands = (contents_are_held s d stands.tree live contents stands.is stands.holds).0 stands.are
 
 -- and are there if a vault is at rest, once what waits is done
-pub rest_contents : (log : Option Log) (waiting : List PlainDeed) (keys keys' : KeyPair) (live live' : HeldTree) (claims : List (List ℕ × ℕ)) → keys ≡ keys' → live ≡ live' → Told log (IsAtRestOver (sealing_of keys') live' claims waiting)
+pub rest_contents : (log : Option Log) (waiting : List PlainDeed) (keys : KeyPair) (live : HeldTree) (claims : List (List ℕ × ℕ)) → Told log (IsAtRestOver (sealing_of keys) live claims waiting)
     → Told (disk_in (option_map (laid_log waiting) log)) (HasContents (sealing_of keys) live)
-rest_contents None waiting keys keys' live live' claims same_keys same_live rest = tt
-rest_contents (Some log) waiting keys keys' live live' claims same_keys same_live rest =
-    subst (λ (k : KeyPair). HasContents (sealing_of k) live (laid waiting (now log))) (sym same_keys) (subst (λ (l : HeldTree). HasContents (sealing_of keys') l (laid waiting (now log))) (sym same_live)
-    (record { contents = rest.contents; are = live_contents (sealing_of keys') (laid waiting (now log)) live' claims rest.contents rest.stands }))
+rest_contents None waiting keys live claims rest = tt
+rest_contents (Some log) waiting keys live claims rest =
+    record { contents = rest.contents; are = live_contents (sealing_of keys) (laid waiting (now log)) live claims rest.contents rest.stands }
 
 -- ---- sizes
 

@@ -13,3 +13,5 @@ pub mod Serving
 pub mod Loads
 pub mod Flushes
 pub mod Closing
+pub mod Refusing
+pub mod Viewing

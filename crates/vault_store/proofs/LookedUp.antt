@@ -1,16 +1,16 @@
 -- Replies to walks and lists.
-use Rattle.std.proofs.Common.{◌≡◌, ◌≢◌, ℕ, List, [], Option, IsSome, IfOk, OnErr, Result, Ok, Err, refl, sym, ◌∙◌, None}
+use Rattle.std.proofs.Common.{◌≡◌, ◌≢◌, ℕ, List, [], Option, IsSome, IfOk, OnErr, Result, Ok, Err, refl, sym, ◌∙◌}
 use Rattle.std.specs.Result.{result_unwrap_or}
 use Rattle.std.specs.declared.alloc.AllocError.{AllocError}
 use Rattle.outside.specs.Disk.{Disk}
-use Rattle.outside.specs.Views.{FolderView, EntropyView}
+use Rattle.outside.specs.Views.{FolderView}
 use Rattle.vault_keys.specs.Keys.{KeyPair}
 use Rattle.tree_model.specs.declared.refusal.Refusal.TheVariants as refusals
 use Rattle.tree_model.specs.declared.reply.Reply.{Reply}
 use Rattle.tree_model.specs.declared.reply.Reply.TheVariants as replies
 use Rattle.tree_model.specs.Rows.{Content}
-use Rattle.tree_model.specs.Asked.{walk, list, plain_reply, bytes_put, IsReplyTo, HasCount, KeepsRest, PlainRequest}
-use Rattle.tree_model.specs.Step.{refuses, says, step, IsReading}
+use Rattle.tree_model.specs.Asked.{walk, list, plain_reply, bytes_put, IsReplyTo, HasCount, KeepsRest}
+use Rattle.tree_model.specs.Step.{refuses, says, step}
 use Rattle.tree_model.proofs.Steps.{step_walk, walk_not_removed}
 use Rattle.tree_loading.specs.Format.{sealing_of}
 use Rattle.live_tree.specs.Held.{HeldTree, live_row, live_rows, node_of}
@@ -18,16 +18,7 @@ use Rattle.tree_answers.specs.Answers.{AreSizes, IsOwn, IsStepOf, IsSizedStepOf,
 use Rattle.tree_answers.proofs.Rows.{row_there, some_is}
 use Rattle.node_changes.specs.Changed.{StandsOn}
 use Rattle.vault_store.proofs.Presence.{list_not_removed}
-use Rattle.vault_store.proofs.Lookups.{IsRead, or_lacks_memory, plain_read, sized_read, reading_keeps, IsUnplaced, looked_up}
-use Rattle.outside.specs.Calls.{Told}
-use Rattle.deeds.specs.Deeds.{PlainDeed}
-use Rattle.node_changes.specs.declared.tree.VaultTree.{VaultTree}
-use Rattle.file_changes.specs.Waiting.{IsAtRestOver}
-use Rattle.vault_store.specs.Open.{view_of}
-use Rattle.vault_store.specs.Outcome.{IsOutcome}
-use Rattle.vault_store.specs.Reading.{IsUnsynced}
-use Rattle.vault_store.proofs.Rests.{rest_waits}
-use Rattle.vault_store.proofs.Waiting.{over, reading_loose, still_outcome}
+use Rattle.vault_store.proofs.Lookups.{IsRead, or_lacks_memory, plain_read, sized_read, reading_keeps}
 
 module _ (keys : KeyPair) (live : HeldTree) (claims : List (List ℕ × ℕ)) (folder : FolderView) where
   -- ---- walks
@@ -91,14 +82,3 @@ module _ (keys : KeyPair) (live : HeldTree) (claims : List (List ℕ × ℕ)) (f
   list_read n most after made reply buffer buffer' or sizes is form rest own count same there =
       or_lacks_memory keys live claims folder folder (list n after most) made reply buffer buffer' or same tt (list_there made n most after there)
       (listed_ok n most after buffer buffer' sizes made is form rest own count)
-
--- ---- all lookups
-
--- the outcome of a known request whose node is looked at in memory alone, over a vault at rest
-pub looked_outcome : (tree : VaultTree) {waiting : List PlainDeed} {entries : ℕ} {folder : FolderView} {source : EntropyView} {live : HeldTree} {request : PlainRequest} (known : PlainRequest) {second : ℕ} {reply : Reply} {buffer buffer' : List ℕ}
-    → Told folder.log (IsAtRestOver (sealing_of tree.keys) tree.live tree.claims waiting) → live ≡ tree.live → request ≡ known → IsReading request → IsUnsynced request → IsUnplaced known
-    → IsRead tree.keys live tree.claims (over waiting folder) (over waiting folder) known reply buffer buffer'
-    → IsOutcome (view_of tree waiting entries None) (view_of tree waiting entries None) folder folder source source request second (Ok reply) buffer buffer'
-looked_outcome tree {waiting = waiting} {entries = entries} {folder = folder} {source = source} {live = live} {request = request} known {second = second} {reply = reply} {buffer = buffer} {buffer' = buffer'} rest here same reads unsynced unplaced is =
-    still_outcome (view_of tree waiting entries None) (view_of tree waiting entries None) folder folder source source request second (rest_waits (sealing_of tree.keys) tree.live tree.claims waiting folder.log rest) reply buffer buffer'
-    (reading_loose request (plain_reply reply) reads unsynced) (looked_up tree.keys live tree.live tree.claims entries (over waiting folder) source request known second reply buffer buffer' here same unplaced is)

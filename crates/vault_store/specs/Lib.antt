@@ -7,3 +7,4 @@ pub mod Outcome
 pub mod Quiet
 pub mod Reading
 pub mod Sizes
+pub mod ReadOnly

@@ -19,7 +19,7 @@ use content_reader::ContentReader;
 use file_changes::FileChanges;
 use live_tree::LiveTree;
 use node_changes::VaultTree;
-use outside::{Entropy, Folder, Refused};
+use outside::{Entropy, Folder, Reads, Refused};
 use pending_files::Pending;
 use std::alloc::Global;
 use std::marker::Model;
@@ -168,23 +168,24 @@ impl<D: Folder> Vault<D> {
     }
 }
 
-// The tree of what a folder holds, as it is loaded.
-fn load_tree<D: Folder>(
+/// The tree of what a folder holds, as it is loaded.
+pub(crate) fn load_tree<R: Reads>(
     alloc: Global,
-    journal: &mut Journal<D>,
+    from: &mut R,
     keys: &VaultKeys,
     threshold: u32,
     now: u32,
 ) -> Result<VaultTree, OpenErr>
     requires { (1 ≤ threshold) × (threshold ≤ max_threshold) }
-    ensures loaded { IfOk result (IsLoadedTree keys.now now threshold (D.log journal.old)) }
-    ensures log { D.log journal.new ≡ D.log journal.old }
+    ensures loaded { IfOk result (IsLoadedTree keys.now now threshold (R.log from.old)) }
+    ensures log { R.log from.new ≡ R.log from.old }
+    ensures changes { R.changes from.new ≡ R.changes from.old }
     ensures damaged { (at : ℕ) → IsErrOf result (open_errs.JournalDamaged at) → ⊥ }
-    ensures too_many { (n : ℕ) → IsErrOf result (open_errs.TooMany n) → HasTooMany keys.now (disk_in (D.log journal.old)) n }
-    ensures no_root { IsErrOf result open_errs.NoRoot → Told (disk_in (D.log journal.old)) (λ d. ¬ (IsFolder d (root_folder keys.now))) }
-    ensures cause { HasCause (D.faults journal.old) (D.faults journal.new) (IsErrOf result open_errs.Device) }
+    ensures too_many { (n : ℕ) → IsErrOf result (open_errs.TooMany n) → HasTooMany keys.now (disk_in (R.log from.old)) n }
+    ensures no_root { IsErrOf result open_errs.NoRoot → Told (disk_in (R.log from.old)) (λ d. ¬ (IsFolder d (root_folder keys.now))) }
+    ensures cause { HasCause (R.faults from.old) (R.faults from.new) (IsErrOf result open_errs.Device) }
 {
-    let tree = load(alloc, journal, keys, threshold)?;
+    let tree = load(alloc, from, keys, threshold)?;
     let live = LiveTree::from_tree(alloc, tree, now)?;
     Ok(VaultTree::new(alloc, keys, threshold, live)?)
 }

@@ -1,4 +1,4 @@
-ghost use Rattle.std.specs.Prelude.{◌≡◌, ◌≤◌, ℕ, List, Some, Ok, length, IfOk, IfErr};
+ghost use Rattle.std.specs.Prelude.{◌≡◌, ◌≤◌, ℕ, List, [], Some, None, Ok, length, IfOk, IfErr};
 ghost use Rattle.std.specs.Option.{option_copied};
 ghost use Rattle.std.specs.Result.{result_unwrap_or};
 ghost use Rattle.outside.specs.Calls.{Told};
@@ -10,7 +10,7 @@ ghost use Rattle.tree_model.specs.declared.refusal.Refusal.TheVariants as refusa
 ghost use Rattle.tree_model.specs.declared.reply.Reply.TheVariants as replies;
 ghost use Rattle.tree_model.specs.Step.{IsReading};
 ghost use Rattle.live_tree.specs.Held.{node_of};
-ghost use Rattle.vault_store.specs.Open.{IsResting, running};
+ghost use Rattle.vault_store.specs.Open.{IsResting, running, view_of};
 ghost use Rattle.vault_store.specs.Reading.{HasContents, IsHostOf, IsUnsynced, read_fault};
 ghost use Rattle.vault_store.specs.Outcome.{HasAnswered};
 ghost use Rattle.vault_store.specs.Quiet.{IsStill};
@@ -21,8 +21,9 @@ use clear_tree::What;
 use content_reader::{ContentReader, ReadErr, SealedFile, Slice};
 use file_chunks::clear_len;
 use live_tree::LiveTree;
+use node_changes::VaultTree;
 use outside::{Folder, Reads};
-use std::alloc::AllocError;
+use std::alloc::{AllocError, Global};
 use tree_answers::{list, look, open_node, stat_of, walk};
 use tree_model::{Refusal, Reply, Request};
 use vault_keys::VaultKeys;
@@ -40,42 +41,57 @@ impl<D: Folder> Vault<D> {
         ensures tree { self.new.tree ≡ self.old.tree }
         ensures faults { D.faults self.old.folder ≤ D.faults self.new.folder }
     {
-        have_sizes(self.tree.keys());
-        let tree = self.tree.live();
-        match request {
-            Request::Look { node } => look(tree, *node),
-            Request::Walk { node, names } => or_lacks_memory(walk(self.alloc, tree, *node, names)),
-            Request::OpenNode { node, mode } => open_node(tree, *node, *mode),
-            Request::Read { node, at, count } => {
-                let slice = Slice {
-                    at: *at,
-                    count: *count,
-                };
-                read(
-                    &mut self.back,
-                    self.tree.keys(),
-                    tree,
-                    &mut self.reader,
-                    *node,
-                    slice,
-                    buffer,
-                )
-            }
-            Request::List { node, after, count } => or_lacks_memory(list(
-                self.alloc,
-                tree,
-                *node,
-                bytes_of(*after),
-                *count,
-                buffer,
-            )),
-            Request::StatOf { node } => stat_of(tree, *node, buffer),
-            Request::Sync { .. }
-            | Request::Write { .. }
-            | Request::Create { .. }
-            | Request::Remove { .. }
-            | Request::Change { .. } => { unreachable!() }
+        look_up(
+            self.alloc,
+            &mut self.back,
+            &self.tree,
+            &mut self.reader,
+            request,
+            buffer,
+        )
+    }
+}
+
+/// The reply to a request that changes nothing and is no sync, from a tree in memory and the sealed files of a folder. Only `Walk` and `List` take memory.
+pub(crate) fn look_up<R: Reads>(
+    alloc: Global,
+    folder: &mut R,
+    tree: &VaultTree,
+    reader: &mut ContentReader,
+    request: &Request<'_>,
+    buffer: &mut [u8],
+) -> Reply
+    requires form { CanAsk request.now (length buffer.old) }
+    requires reads { IsReading (plain_request request.now) }
+    requires unsynced { IsUnsynced (plain_request request.now) }
+    requires contents { Told (disk_in (R.log folder.old)) (HasContents (sealing_of tree.now.keys) tree.now.live) }
+    ensures still { (entries second : ℕ) (source : EntropyView) → IsStill (view_of tree.now [] entries None) (view_of tree.now [] entries None)
+        (folder_in R.Reads folder.old) (folder_in R.Reads folder.new)
+        source source (plain_request request.now) second result buffer.old buffer.new }
+    ensures changes { R.changes folder.new ≡ R.changes folder.old }
+{
+    have_sizes(tree.keys());
+    let live = tree.live();
+    match request {
+        Request::Look { node } => look(live, *node),
+        Request::Walk { node, names } => or_lacks_memory(walk(alloc, live, *node, names)),
+        Request::OpenNode { node, mode } => open_node(live, *node, *mode),
+        Request::Read { node, at, count } => {
+            let slice = Slice {
+                at: *at,
+                count: *count,
+            };
+            read(folder, tree.keys(), live, reader, *node, slice, buffer)
         }
+        Request::List { node, after, count } => {
+            or_lacks_memory(list(alloc, live, *node, bytes_of(*after), *count, buffer))
+        }
+        Request::StatOf { node } => stat_of(live, *node, buffer),
+        Request::Sync { .. }
+        | Request::Write { .. }
+        | Request::Create { .. }
+        | Request::Remove { .. }
+        | Request::Change { .. } => { unreachable!() }
     }
 }
 
@@ -92,9 +108,10 @@ fn read<R: Reads>(
     requires few { slice.count ≤ count_limit }
     requires room { slice.count ≤ length buffer.old }
     requires contents { Told (disk_in (R.log folder.old)) (HasContents (sealing_of keys.now) tree.now) }
-    ensures { (claims : List (List ℕ × ℕ)) (entries second : ℕ) (source : EntropyView) → IsStill (running keys.now tree.now claims entries) (running keys.now tree.now claims entries)
+    ensures still { (claims : List (List ℕ × ℕ)) (entries second : ℕ) (source : EntropyView) → IsStill (running keys.now tree.now claims entries) (running keys.now tree.now claims entries)
         (folder_in R.Reads folder.old) (folder_in R.Reads folder.new)
         source source (read_request node slice.at slice.count) second result buffer.old buffer.new }
+    ensures changes { R.changes folder.new ≡ R.changes folder.old }
 {
     let host = match sealed_file(tree, node) {
         Ok(host) => host,

@@ -54,7 +54,7 @@ returns-in-Ok-load_tree-clause-rest g c =
     let back = c.new-in-Ok-load_tree.result in
     rests_idle (sealing_of tree.keys) tree.live tree.claims back.waiting (g.D.Reads.log back.folder) c.new-in-Ok-load_tree.ensures.waiting
     (subst (λ (d : g.row.D.Denot). Told (g.D.Reads.log d) (IsAtRest (sealing_of tree.keys) tree.live tree.claims)) (sym c.new-in-Ok-load_tree.ensures.folder)
-    (loaded_rests (g.D.Reads.log c.args.folder) (g.D.Reads.log c.in-Ok-open.journal) (g.D.Reads.log c.load_tree.new.journal) c.args.keys.now c.args.now c.args.threshold tree
+    (loaded_rests (g.D.Reads.log c.args.folder) (g.D.Reads.log c.in-Ok-open.journal) (g.D.Reads.log c.load_tree.new.from) c.args.keys.now c.args.now c.args.threshold tree
     c.in-Ok-open.ensures.opened c.in-Ok-load_tree.ensures.log c.in-Ok-load_tree.ensures.loaded))
 
 pub returns-in-Err-load_tree-clause-refused : goal.returns-in-Err-load_tree-clause-refused

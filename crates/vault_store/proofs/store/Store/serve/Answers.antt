@@ -1,8 +1,6 @@
 use Rattle.std.proofs.Common.{◌≡◌, ℕ, min, suc, List, Some, ap, subst, ◌∙◌, add-one}
 use Rattle.outside.specs.Views.{FolderView, entropy_in, folder_in}
-use Rattle.tree_model.specs.declared.refusal.Refusal.TheVariants as refusals
 use Rattle.tree_model.specs.declared.reply.Reply.{Reply}
-use Rattle.tree_model.specs.declared.reply.Reply.TheVariants as replies
 use Rattle.tree_model.specs.Asked.{plain_request}
 use Rattle.store_laws.specs.Store.{StoreView, bounded, number_limit}
 use Rattle.vault_store.specs.declared.store.Store.TheInside.{Inside}
