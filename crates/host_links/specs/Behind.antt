@@ -1,5 +1,5 @@
 -- What of the runtime is behind an object.
-use Rattle.std.specs.Prelude.{Option}
+use Rattle.std.specs.Prelude.{Bool, Option}
 use Rattle.host_links.specs.declared.ends.Untold.{Untold}
 use Rattle.host_sockets.specs.declared.standard.Output.{Output}
 use Rattle.host_sockets.specs.declared.socket.Socket.{Socket}
@@ -7,14 +7,19 @@ use Rattle.host_links.specs.declared.stream.StdSource.{StdSource}
 use Rattle.host_links.specs.declared.stream.StdSink.{StdSink}
 use Rattle.host_links.specs.declared.link.StreamLink.{StreamLink}
 use Rattle.host_links.specs.declared.listen.HostListen.{HostListen}
+use Rattle.host_links.specs.declared.socket.SocketLink.{SocketLink}
 use Rattle.host_links.specs.declared.socket.SocketListen.{SocketListen}
 
+-- the reader that doesn't tell
+abbrev pub untold_reader : {I : Type 0} → Untold I → I
+untold_reader untold = untold.reader
+
 -- the reader of a source
-abbrev pub source_reader : {I : Type 0} → StdSource I → I
+abbrev pub source_reader : {I L : Type 0} → StdSource I L → I
 source_reader source = source.input
 
 -- the writer of a sink
-abbrev pub sink_writer : {O : Type 0} → StdSink O → O
+abbrev pub sink_writer : {O L : Type 0} → StdSink O L → O
 sink_writer sink = sink.output
 
 -- the reader and the writer of a link
@@ -25,9 +30,13 @@ abbrev pub link_writer : {I O : Type 0} → StreamLink I O → O
 link_writer link = link.output
 
 -- the link that is to come, if it hasn't come yet
-abbrev pub link_to_come : {R I : Type 0} → HostListen R I → Option (StreamLink (Untold I) (Output R))
+abbrev pub link_to_come : {R L I : Type 0} → HostListen R L I → Option (StreamLink (Untold I) (Output R))
 link_to_come listen = listen.link
 
 -- the socket at which a listener is
-abbrev pub socket_of : {R : Type 0} → SocketListen R → Socket
+abbrev pub socket_of : {R L : Type 0} → SocketListen R L → Socket
 socket_of listen = listen.socket.now
+
+-- a client from which no byte came for too long
+abbrev pub is_idle : SocketLink → Bool
+is_idle link = link.is_idle

@@ -1,3 +1,4 @@
 pub mod Addresses
 pub mod Behind
+pub mod Secrets
 pub mod Untold

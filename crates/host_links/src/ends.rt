@@ -1,7 +1,7 @@
 //! The readers and writers that links, sources and sinks are over. By its type such an end tells its bytes, as bytes in memory do,
 //! or it doesn't: a reader of which nothing is known may be known later, which a link must not.
 
-ghost use Rattle.std.specs.Prelude.{IsSome, IsTrue, Bool, true, false, refl};
+ghost use Rattle.std.specs.Prelude.{◌≡◌, IsSome, IsTrue, Bool, true, false, refl};
 ghost use Rattle.host_links.specs.Untold.{never};
 
 use host_sockets::Output;
@@ -43,7 +43,11 @@ pub struct Untold<I> {
 }
 
 impl<I> Untold<I> {
-    pub(crate) fn new(reader: I) -> Untold<I> {
+    ghost use Rattle.host_links.specs.Behind.{untold_reader};
+
+    pub(crate) fn new(reader: I) -> Untold<I>
+        ensures { untold_reader result ≡ reader }
+    {
         Untold { reader }
     }
 }

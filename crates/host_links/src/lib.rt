@@ -13,18 +13,24 @@
 //!
 //! Clients over TCP or a Unix socket connect to a `Socket`, which several `SocketListen` share, one for each
 //! worker.
+//!
+//! Each fault is told to a logger once: of the secret's source, of the report's sink and of accepting a client as an error, and how a client ended as a line
+//! that is for who asks for more, with the requests that were answered and the bytes that went each way. No line has a byte of what was read or written.
 #![tactic(auto)]
 
 mod address;
 mod ends;
 mod link;
 mod listen;
+mod secret;
 mod socket;
 mod stream;
+mod traffic;
 
 pub use address::{address_named, host_at_port_0};
 pub use ends::{Incoming, Outgoing, Untold};
 pub use link::{HostLink, StreamLink};
 pub use listen::HostListen;
+pub use secret::SecretSource;
 pub use socket::{SocketLink, SocketListen};
-pub use stream::{NullSink, StdSink, StdSource};
+pub use stream::{LastLine, StdSink, StdSource};

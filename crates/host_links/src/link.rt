@@ -4,6 +4,7 @@ ghost use Rattle.outside.specs.Calls.{HasCause, KeepsFrom, TakesFront, Told};
 ghost use Rattle.host_links.specs.Behind.{link_reader, link_writer};
 
 use crate::ends::{Incoming, Outgoing, Untold};
+use crate::traffic::{Peer, Traffic};
 use host_sockets::{Output, input};
 use host_streams::{counted, read_some, write_some};
 use outside::{Failed, Link};
@@ -14,6 +15,7 @@ use std::io::Input;
 pub struct StreamLink<I, O> {
     input: I,
     output: O,
+    traffic: Traffic,
     read_faults: u64,
     write_faults: u64,
 }
@@ -43,9 +45,14 @@ impl<I: Incoming, O: Outgoing> StreamLink<I, O> {
         StreamLink {
             input,
             output,
+            traffic: Traffic::of(Peer::Streams),
             read_faults: 0,
             write_faults: 0,
         }
+    }
+
+    pub(crate) fn traffic(&self) -> &Traffic {
+        &self.traffic
     }
 
     /// The reader, with what is left in it, and the writer, with what it has taken.
@@ -81,11 +88,13 @@ impl<I: Incoming, O: Outgoing> Link for StreamLink<I, O> {
         ensures reader_end { result ≡ Ok 0 → 0 < length out.old → IsAtEnd (I.Read.remaining (link_reader self.new)) }
     {
         let answer = read_some(&mut self.input, out);
+        self.traffic.saw_read(out.len(), &answer);
         counted(&mut self.read_faults, answer)
     }
 
     fn write(&mut self, piece: &[u8]) -> Result<usize, Failed> {
         let answer = write_some(&mut self.output, piece);
+        self.traffic.saw_write(&answer);
         counted(&mut self.write_faults, answer)
     }
 }

@@ -1,3 +1,6 @@
+use std::fmt;
+use std::fmt::{Display, Formatter};
+
 /// Where clients are to connect.
 #[derive(Drop)]
 pub enum Address {
@@ -5,4 +8,13 @@ pub enum Address {
     Path(String),
     /// `HOST:PORT`, or `[ADDRESS]:PORT` of IPv6.
     Host(String),
+}
+
+impl Display for Address {
+    fn fmt<W: fmt::Write>(&self, f: &mut Formatter<W>) -> fmt::Result {
+        match self {
+            Address::Path(path) => write!(f, "unix:{path}"),
+            Address::Host(host) => write!(f, "{host}"),
+        }
+    }
 }

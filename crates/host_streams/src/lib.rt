@@ -1,15 +1,17 @@
-//! One read or write of any reader or writer of std, tried again where a signal cuts it short, and the count of those that failed.
+//! One read or write of any reader or writer of std, tried again where a signal cuts it short, the count of those that failed, and telling why.
 //!
 //! ```
-//! let answer = read_some(&mut reader, &mut buffer);
+//! let answer = told(&log, "read of the secret", read_some(&mut reader, &mut buffer));
 //! let count = counted(&mut faults, answer)?; // a failure, only after the count rose
 //! ```
 //!
-//! As much is told of what comes and goes as the reader or the writer tells.
+//! As much is told to proofs of what comes and goes as the reader or the writer tells. No clause says what a logger is told.
 #![tactic(auto)]
 
 mod count;
+mod telling;
 mod transfer;
 
 pub use count::{counted, raised};
+pub use telling::{TARGET, told};
 pub use transfer::{read_full, read_one, read_some, write_some};

@@ -24,13 +24,14 @@ fn read_once<I: Read>(input: &mut I, out: &mut [u8]) -> io::Result<usize>
     Err(Error::from(ErrorKind::TimedOut))
 }
 
-/// Reads some bytes, at most `out` has room for, and says how many. The rest of `out` is as it was.
+/// Reads some bytes, at most `out` has room for, and says how many. The rest of `out` is as it was, and all of it after a failure.
 pub fn read_some<I: Read>(input: &mut I, out: &mut [u8]) -> io::Result<usize>
     ensures count { IfOk result (λ n. n ≤ length out.old) }
     ensures rest { IfOk result (λ n. KeepsFrom n out.old out.new) }
     ensures bytes { IfOk result (λ n. Consumes (I.remaining input.old) (I.remaining input.new) (take n out.new)) }
     ensures end { result ≡ Ok 0 → 0 < length out.old → IsAtEnd (I.remaining input.new) }
     ensures failed { OnErr result (Keeps (I.remaining input.old) (I.remaining input.new)) }
+    ensures kept { OnErr result (out.new ≡ out.old) }
 {
     let mut chunk = [0u8; CHUNK];
     let most = out.len().min(CHUNK);

@@ -5,11 +5,11 @@ use Rattle.outside_real.specs.declared.clock.HostClock.{HostClock}
 use Rattle.outside_real.specs.declared.entropy.OsEntropy.{OsEntropy}
 
 -- the runtime whose files they open
-abbrev pub files_of : {R : Type 0} → StdCalls R → R
+abbrev pub files_of : {R L : Type 0} → StdCalls R L → R
 files_of calls = calls.rt
 
 -- the random device, once it is open
-abbrev pub device_of : {R F D : Type 0} → OsEntropy R F D → Option F
+abbrev pub device_of : {R L F D : Type 0} → OsEntropy R L F D → Option F
 device_of entropy = entropy.device
 
 -- the runtime whose clock it is

@@ -3,7 +3,8 @@ ghost use Rattle.std.specs.Io.KnownBytes.{Consumes};
 ghost use Rattle.outside.specs.Calls.{HasCause};
 ghost use Rattle.outside_real.specs.Behind.{device_of};
 
-use host_streams::counted;
+use host_streams::{counted, told};
+use log::Log;
 use outside::{Entropy, Failed};
 use std::fs::File;
 use std::io;
@@ -12,21 +13,23 @@ use std::rt::Files;
 
 /// The system's random bytes, from `/dev/urandom`, which is opened by the first draw.
 #[derive(Drop)]
-pub struct OsEntropy<R: Files> {
+pub struct OsEntropy<R: Files, L> {
     rt: R,
+    log: L,
     device: Option<R::File>,
     faults: u64,
 }
 
-impl<R: Files> OsEntropy<R> {
-    /// The system's random bytes. Nothing is drawn yet.
-    pub fn new(rt: R) -> OsEntropy<R>
+impl<R: Files, L: Log> OsEntropy<R, L> {
+    /// The system's random bytes, whose faults are told to a logger. Nothing is drawn yet.
+    pub fn new(rt: R, log: L) -> OsEntropy<R, L>
     where
         R: Drop,
-        ensures { ⟦<OsEntropy<R> as Entropy>⟧.faults result ≡ 0 }
+        ensures { ⟦<OsEntropy<R, L> as Entropy>⟧.faults result ≡ 0 }
     {
         OsEntropy {
             rt,
+            log,
             device: None,
             faults: 0,
         }
@@ -48,19 +51,20 @@ impl<R: Files> OsEntropy<R> {
     }
 }
 
-impl<R: Files> Entropy for OsEntropy<R> {
+impl<R: Files, L: Log> Entropy for OsEntropy<R, L> {
     ghost drawn = { λ _. None };
 
     ghost faults = { λ entropy. entropy.faults };
 
     fn fill(&mut self, out: &mut [u8]) -> Result<(), Failed>
-        ensures cause { HasCause (⟦<OsEntropy<R> as Entropy>⟧.faults self.old) (⟦<OsEntropy<R> as Entropy>⟧.faults self.new) (IsErr result) }
+        ensures cause { HasCause (⟦<OsEntropy<R, L> as Entropy>⟧.faults self.old) (⟦<OsEntropy<R, L> as Entropy>⟧.faults self.new) (IsErr result) }
 
         // All that is drawn comes from the device, which stays open from the first draw on.
         ensures device { OnOk result ((before : R.File) × (after : R.File) × IfSome (device_of self.old) (λ device. device ≡ before)
             × (device_of self.new ≡ Some after) × Consumes (R.File.remaining before) (R.File.remaining after) out.new) }
     {
         let answer = self.draw(out);
+        let answer = told(&self.log, "read of /dev/urandom", answer);
         counted(&mut self.faults, answer)
     }
 }

@@ -1,7 +1,6 @@
-ghost use Rattle.std.specs.Prelude.{◌≡◌, ◌↔◌, IsTrue};
+ghost use Rattle.std.specs.Prelude.{◌↔◌, IsTrue};
 ghost use Rattle.outside_real.specs.Errors.{IsMissing, IsMisfit};
 
-use outside::FolderErr;
 use std::io;
 use std::io::ErrorKind;
 
@@ -12,8 +11,8 @@ pub(crate) fn is_missing(error: &io::Error) -> bool
     matches!(error.kind(), ErrorKind::NotFound | ErrorKind::NotADirectory)
 }
 
-// The host finds that the path isn't what the call needs.
-fn is_misfit(error: &io::Error) -> bool
+/// The path isn't what the call needs.
+pub(crate) fn is_misfit(error: &io::Error) -> bool
     ensures { IsTrue result ↔ IsMisfit error.now }
 {
     is_missing(error)
@@ -21,24 +20,4 @@ fn is_misfit(error: &io::Error) -> bool
             error.kind(),
             ErrorKind::IsADirectory | ErrorKind::DirectoryNotEmpty
         )
-}
-
-/// Why a call failed that changes nothing.
-pub(crate) fn failed(_error: io::Error) -> FolderErr
-    ensures { result ≡ FolderErr.Failed }
-{
-    FolderErr::Failed
-}
-
-/// Why a change failed: the path isn't what it needs, or the host failed.
-pub(crate) fn change_error(error: io::Error) -> FolderErr
-    ensures unfit { IsMisfit error → result ≡ FolderErr.Unfit }
-    ensures failed { ¬ IsMisfit error → result ≡ FolderErr.Failed }
-    ensures no_memory { result ≡ FolderErr.Memory → ⊥ }
-{
-    if is_misfit(&error) {
-        FolderErr::Unfit
-    } else {
-        FolderErr::Failed
-    }
 }

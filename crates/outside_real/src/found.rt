@@ -1,14 +1,12 @@
-ghost use Rattle.std.specs.Prelude.{◌≡◌, ◌↔◌, ℕ, IsTrue, IsOkUnless};
+ghost use Rattle.std.specs.Prelude.{◌≡◌, ◌↔◌};
 ghost use Rattle.std.specs.Fs.{IsDir, IsFile, file_type, metadata_len};
-ghost use Rattle.outside_real.specs.Errors.{IsMissing};
 
-use crate::errors::{failed, is_missing};
+use crate::errors::is_missing;
 use host_calls::{Found, Inode};
-use outside::FolderErr;
-use std::fs;
 use std::fs::Metadata;
 use std::os::unix::fs::MetadataExt;
 use std::rt::Files;
+use std::{fs, io};
 
 /// What the metadata of a path, or of an open file, is that of.
 pub(crate) fn found_of(metadata: &Metadata) -> Found
@@ -30,9 +28,7 @@ pub(crate) fn found_of(metadata: &Metadata) -> Found
 }
 
 /// What the host has at a path. A link at its end is followed only if it is that of the folder itself.
-pub(crate) fn found_at(rt: &impl Files, text: &str, is_top: bool) -> Result<Found, FolderErr>
-    ensures { IsOkUnless result FolderErr.Failed }
-{
+pub(crate) fn found_at(rt: &impl Files, text: &str, is_top: bool) -> io::Result<Found> {
     let answer = if is_top {
         fs::metadata(rt, text)
     } else {
@@ -41,6 +37,6 @@ pub(crate) fn found_at(rt: &impl Files, text: &str, is_top: bool) -> Result<Foun
     match answer {
         Ok(metadata) => Ok(found_of(&metadata)),
         Err(e) if is_missing(&e) => Ok(Found::Nothing),
-        Err(e) => Err(failed(e)),
+        Err(e) => Err(e),
     }
 }

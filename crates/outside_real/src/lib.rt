@@ -1,13 +1,13 @@
 //! The real host: the calls by which a folder of it is read and changed, its random bytes and its clock. What of them is trusted, and nothing else.
 //!
 //! ```
-//! let mut host = StdCalls::new(&rt);
+//! let mut host = StdCalls::new(&rt, &log);
 //! host.create("/srv/vault/a", b"some bytes")?; // a new file, of mode 0600
 //! let folder = host.stat("/srv/vault", true)?;
 //! host.fsync("/srv/vault", folder)?; // its name is on the disk
 //! ```
 //!
-//! No clause can say what a host's call does, so none of these objects tells anything. Proved of their functions is the shape: they are safe and end,
+//! No clause can say what a host's call does, so none of these objects tells proofs anything. Proved of their functions is the shape: they are safe and end,
 //! counts of bytes stay within the buffers and the rest of a buffer is as it was, what only looks or flushes fails by `Failed` alone (a listing by `Memory`
 //! too) and a change never by `Memory`, and random bytes fail only once their count of faults rose, which saturates at 2^64 - 1. Believed is that each call
 //! of `StdCalls` does what its clauses in `host_calls` say of a story, which are the words of the system's manual:
@@ -33,13 +33,18 @@
 //!   dropped, or the program ends.
 //! - `did`, `broke`, `synced`: they do nothing.
 //! - ENOENT, ENOTDIR, EISDIR and ENOTEMPTY mean that the path isn't what the change needs and that nothing changed. A call that a signal cuts short is made again.
+//! - `secret_file`: one stat(2), open(2), fstat(2). What is opened is the file that was seen, whose mode gives nothing to the group or to others; a folder, a
+//!   FIFO or a device isn't opened.
 //! - `OsEntropy`: `/dev/urandom` gives bytes that nobody can foresee. It is opened by the first draw.
 //! - `HostClock`: the seconds since 1970 are right; if they can't be told it says 0.
 //!
+//! Each fault of the host is told to a logger once, as an error: the call, the path and the host's own words. A change that doesn't fit, and a path at which
+//! nothing is, are no faults. A folder on a file system that has no locks is a warning.
+//!
 //! And that nobody else changes the folder meanwhile. If another process does, no file outside of it is cut or written by way of a link at the end of a path:
 //! what is opened is compared (device, number, kind) with what was seen before a byte is read or written, a new file is made only if there is nothing, and no
-//! file is cut by opening. These stay open, as std has neither `openat` nor flags for `open`: a file that is swapped for a FIFO just before a read or a flush makes
-//! that call wait for a writer; a folder on the way that is swapped for a link is followed; a rename or a removal takes what has the name by then.
+//! file is cut by opening. These stay open, as std has neither `openat` nor flags for `open`: a file that is swapped for a FIFO just before a read, a flush or the
+//! opening of a secret makes that call wait for a writer; a folder on the way that is swapped for a link is followed; a rename or a removal takes what has the name by then.
 #![tactic(auto)]
 
 mod calls;
@@ -47,9 +52,9 @@ mod clock;
 mod entropy;
 mod errors;
 mod found;
-mod lock;
 mod opened;
 
 pub use calls::StdCalls;
 pub use clock::HostClock;
 pub use entropy::OsEntropy;
+pub use opened::{SecretFileErr, secret_file};

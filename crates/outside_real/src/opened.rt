@@ -1,26 +1,45 @@
-ghost use Rattle.std.specs.Prelude.{◌≤◌, length, IfOk};
+ghost use Rattle.std.specs.Prelude.{◌≤◌, ◌<◌, ◌↔◌, length, IfOk, IsTrue, bit_and};
+ghost use Rattle.std.specs.Fs.{metadata_mode};
+ghost use Rattle.outside_real.specs.declared.opened.TheConstants.{OTHERS};
 ghost use Rattle.outside.specs.Calls.{KeepsFrom};
 
 use crate::found::found_of;
 use host_calls::{Found, Inode, is_same};
 use host_streams::read_full;
-use std::fs::{OpenFile, OpenOptions};
-use std::io;
-use std::io::{Error, ErrorKind, Seek, SeekFrom, Write};
-use std::os::unix::fs::OpenOptionsExt;
+use std::fs::{Metadata, OpenFile, OpenOptions};
+use std::io::{Seek, SeekFrom, Write};
+use std::os::unix::fs::{MetadataExt, OpenOptionsExt};
 use std::rt::Files;
+use std::{fs, io};
+use thiserror::Error;
 
 // A new file is read and written by its owner alone, as far as the host's mask lets it be.
 const FILE_MODE: u32 = 0o600;
 
+// What the group and others may do with a file.
+const OTHERS: u32 = 0o077;
+
+/// Why a secret's file isn't opened.
+#[derive(Debug, Drop, Error)]
+pub enum SecretFileErr {
+    /// Its mode gives something to the group or to others.
+    #[error("others can read it; chmod 600 leaves it to its owner")]
+    Exposed,
+    /// A folder, a FIFO, a device or the like is there.
+    #[error("it is no file")]
+    NotAFile,
+    /// The host failed.
+    #[error("{0}")]
+    Failed(#[from] io::Error),
+}
+
 // Opens what was seen at a path. It fails if something else is there now. Nothing is cut by opening.
 fn open_seen<R: Files>(rt: &R, text: &str, how: &OpenOptions, seen: Found) -> io::Result<R::File> {
     let file = how.open(rt, text)?;
-    if is_same(seen, found_of(&file.metadata()?)) {
-        Ok(file)
-    } else {
-        Err(Error::from(ErrorKind::Other))
+    if !is_same(seen, found_of(&file.metadata()?)) {
+        return Err(io::Error::other("something else is there now"));
     }
+    Ok(file)
 }
 
 fn to_read() -> OpenOptions {
@@ -88,4 +107,23 @@ pub(crate) fn set_len<R: Files>(rt: &R, text: &str, seen: Inode, len: u64) -> io
 
 pub(crate) fn fsync<R: Files>(rt: &R, text: &str, seen: Found) -> io::Result<()> {
     open_seen(rt, text, &to_read(), seen)?.sync_all()
+}
+
+// Whether its mode gives something to the group or to others.
+fn is_exposed(metadata: &Metadata) -> bool
+    ensures { IsTrue result ↔ (0 < bit_and (metadata_mode metadata.now) OTHERS) }
+{
+    metadata.mode() & OTHERS > 0
+}
+
+/// Opens a file that has a secret, if its owner alone can read it. Nothing else is opened; a link at the end of the path is followed.
+pub fn secret_file<R: Files>(rt: &R, path: &str) -> Result<R::File, SecretFileErr> {
+    let metadata = fs::metadata(rt, path)?;
+    if !metadata.is_file() {
+        return Err(SecretFileErr::NotAFile);
+    }
+    if is_exposed(&metadata) {
+        return Err(SecretFileErr::Exposed);
+    }
+    Ok(open_seen(rt, path, &to_read(), found_of(&metadata))?)
 }

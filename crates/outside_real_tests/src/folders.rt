@@ -1,6 +1,9 @@
 //! A folder below `/tmp`, for each test its own.
 
+use host_calls::{Found, HostCalls};
 use host_folder::HostFolder;
+use log::sink::{Discard, Memory};
+use log::{Level, Logged};
 use outside::{Folder, FolderErr, Kind, Reads};
 use outside_real::StdCalls;
 use std::os::unix::fs::{MetadataExt, symlink};
@@ -25,7 +28,7 @@ fn path_of(names: &[&[u8]]) -> Result<VaultPath, Fail> {
 fn fill(
     rt: &HostRuntime,
     place: &str,
-    folder: &mut HostFolder<StdCalls<&HostRuntime>>,
+    folder: &mut HostFolder<StdCalls<&HostRuntime, Discard>>,
 ) -> Result<(), Fail> {
     fs::create_dir(rt, place)?;
     folder.make_dir(&path_of(&[b"d"])?)?;
@@ -36,7 +39,7 @@ fn fill(
 }
 
 // The bytes of `d/f`, and after them what `out` had.
-fn bytes_of_f(folder: &mut HostFolder<StdCalls<&HostRuntime>>) -> Result<[u8; 6], Fail> {
+fn bytes_of_f(folder: &mut HostFolder<StdCalls<&HostRuntime, Discard>>) -> Result<[u8; 6], Fail> {
     let mut out = *b"------";
     folder.read(&path_of(&[b"d", b"f"])?, 0, &mut out)?;
     Ok(out)
@@ -45,7 +48,7 @@ fn bytes_of_f(folder: &mut HostFolder<StdCalls<&HostRuntime>>) -> Result<[u8; 6]
 #[test]
 fn kinds_and_modes_come_back(rt: HostRuntime) -> Result<(), Fail> {
     let place = place(&rt, "kinds")?;
-    let mut folder = HostFolder::untold(StdCalls::new(&rt), rt.alloc(), place.as_str())?;
+    let mut folder = HostFolder::untold(StdCalls::new(&rt, Discard), rt.alloc(), place.as_str())?;
     fill(&rt, place.as_str(), &mut folder)?;
     let rows: [(&[&[u8]], Option<Kind>); 6] = [
         (&[], Some(Kind::Dir)),
@@ -70,7 +73,7 @@ fn kinds_and_modes_come_back(rt: HostRuntime) -> Result<(), Fail> {
 #[test]
 fn changes_come_back(rt: HostRuntime) -> Result<(), Fail> {
     let place = place(&rt, "changes")?;
-    let mut folder = HostFolder::untold(StdCalls::new(&rt), rt.alloc(), place.as_str())?;
+    let mut folder = HostFolder::untold(StdCalls::new(&rt, Discard), rt.alloc(), place.as_str())?;
     fill(&rt, place.as_str(), &mut folder)?;
     let dir = path_of(&[b"d"])?;
     let file = path_of(&[b"d", b"f"])?;
@@ -103,7 +106,7 @@ fn changes_come_back(rt: HostRuntime) -> Result<(), Fail> {
 #[test]
 fn what_does_not_fit_is_refused(rt: HostRuntime) -> Result<(), Fail> {
     let place = place(&rt, "unfit")?;
-    let mut folder = HostFolder::untold(StdCalls::new(&rt), rt.alloc(), place.as_str())?;
+    let mut folder = HostFolder::untold(StdCalls::new(&rt, Discard), rt.alloc(), place.as_str())?;
     fill(&rt, place.as_str(), &mut folder)?;
     let file = path_of(&[b"d", b"f"])?;
     let unfit = Err(FolderErr::Unfit);
@@ -129,7 +132,7 @@ fn what_does_not_fit_is_refused(rt: HostRuntime) -> Result<(), Fail> {
 
 #[test]
 fn no_device_is_opened(rt: HostRuntime) -> Result<(), Fail> {
-    let mut folder = HostFolder::untold(StdCalls::new(&rt), rt.alloc(), "/dev")?;
+    let mut folder = HostFolder::untold(StdCalls::new(&rt, Discard), rt.alloc(), "/dev")?;
     let null = path_of(&[b"null"])?;
     assert_eq!(rt; folder.kind(&null), Ok(None));
     assert_eq!(rt; folder.read(&null, 0, &mut [0; 2]), Err(FolderErr::Unfit));
@@ -141,12 +144,45 @@ fn no_device_is_opened(rt: HostRuntime) -> Result<(), Fail> {
 fn nothing_is_told_of_a_folder_that_is_missing(rt: HostRuntime) -> Result<(), Fail> {
     let missing = place(&rt, "missing")?;
     for place in [missing.as_str(), ""] {
-        let mut folder = HostFolder::untold(StdCalls::new(&rt), rt.alloc(), place)?;
+        let mut folder = HostFolder::untold(StdCalls::new(&rt, Discard), rt.alloc(), place)?;
         for names in [[].as_slice(), &[b"tmp".as_slice()]] {
             let path = path_of(names)?;
             assert_eq!(rt; folder.kind(&path), Err(FolderErr::Failed), "{names:?}");
             assert!(rt; folder.list(rt.alloc(), &path).is_err(), "{names:?}");
         }
     }
+    Ok(())
+}
+
+// What the system says of EEXIST, EINVAL and ENOENT. A path at which nothing is, and one that a change doesn't fit, are no faults.
+#[test]
+fn each_fault_is_told_once(rt: HostRuntime) -> Result<(), Fail> {
+    let place = place(&rt, "told")?;
+    fs::create_dir(&rt, place.as_str())?;
+    let inside = format!(in rt.alloc(); "{place}/x")?;
+    let log = Logged::new(&rt, Level::Error, Memory::new(rt.alloc()));
+    let mut calls = StdCalls::new(&rt, &log);
+    assert!(rt; matches!(calls.stat(inside.as_str(), false), Ok(Found::Nothing)));
+    assert_eq!(rt; calls.unlink(inside.as_str()), Err(FolderErr::Unfit));
+    assert_eq!(rt; calls.mkdir(place.as_str()), Err(FolderErr::Failed));
+    assert_eq!(rt;
+        calls.rename(place.as_str(), inside.as_str()),
+        Err(FolderErr::Failed)
+    );
+    assert!(rt; calls.list(rt.alloc(), inside.as_str()).is_err());
+    drop(calls);
+    let (_, lines) = log.into_parts();
+    let lines = lines.into_lines();
+    let want = [
+        format!(in rt.alloc(); "[ERROR vaultd] mkdir of {place}: File exists (os error 17)")?,
+        format!(in rt.alloc();
+            "[ERROR vaultd] rename of {place} to {inside}: Invalid argument (os error 22)"
+        )?,
+        format!(in rt.alloc();
+            "[ERROR vaultd] list of {inside}: No such file or directory (os error 2)"
+        )?,
+    ];
+    assert!(rt; lines.as_slice() == want.as_slice());
+    fs::remove_dir(&rt, place.as_str())?;
     Ok(())
 }

@@ -10,4 +10,6 @@ mod objects;
 #[cfg(test)]
 mod script;
 #[cfg(test)]
+mod secrets;
+#[cfg(test)]
 mod sockets;

@@ -1,6 +1,7 @@
 //! A folder's lock, taken twice.
 
 use host_calls::{HostCalls, Locking, Sharing};
+use log::sink::Discard;
 use outside_real::StdCalls;
 use std::test::Fail;
 use std::{fs, process};
@@ -34,17 +35,17 @@ fn a_lock_is_taken_alone_or_shared(rt: HostRuntime) -> Result<(), Fail> {
         (Sharing::Shared, Sharing::Shared, Came::Taken),
     ];
     for (first, second, want) in rows {
-        let held = StdCalls::new(&rt).lock(place.as_str(), first);
+        let held = StdCalls::new(&rt, Discard).lock(place.as_str(), first);
         assert_eq!(rt; outcome_of(&held), Came::Taken);
-        let other = StdCalls::new(&rt).lock(place.as_str(), second);
+        let other = StdCalls::new(&rt, Discard).lock(place.as_str(), second);
         assert_eq!(rt; outcome_of(&other), want, "{first:?} {second:?}");
         drop(held);
         drop(other);
-        let next = StdCalls::new(&rt).lock(place.as_str(), second);
+        let next = StdCalls::new(&rt, Discard).lock(place.as_str(), second);
         assert_eq!(rt; outcome_of(&next), Came::Taken);
     }
     fs::remove_dir(&rt, place.as_str())?;
-    let gone = StdCalls::new(&rt).lock(place.as_str(), Sharing::Alone);
+    let gone = StdCalls::new(&rt, Discard).lock(place.as_str(), Sharing::Alone);
     assert_eq!(rt; outcome_of(&gone), Came::Unknown);
     Ok(())
 }
