@@ -1,5 +1,5 @@
-//! Tests of the messages, sessions and links, by frames written out by hand from their layouts in section 5 of the Plan 9 manual; and of workers'
-//! sessions over one tree, in threads.
+//! Tests of the messages, sessions and links, and of a client that asks for a sync, by frames written out by hand from their layouts in section 5
+//! of the Plan 9 manual; and of workers' sessions over one tree, in threads.
 //!
 //! ```
 //! rt test
@@ -34,6 +34,8 @@ mod rounds;
 mod sessions;
 #[cfg(test)]
 mod sizes;
+#[cfg(test)]
+mod syncs;
 #[cfg(test)]
 mod talks;
 #[cfg(test)]

@@ -28,8 +28,8 @@ fn calls(alloc: Global, call: Option<u64>) -> Result<Vec<u64>, AllocError> {
     }
 }
 
-// A client that sends these bytes. A call moves at most `step` bytes, and the calls of these numbers fail.
-fn connect(
+/// A link that gives these bytes. A call moves at most `step` bytes, and the calls of these numbers fail.
+pub fn connect(
     alloc: Global,
     input: &[u8],
     step: usize,

@@ -1,0 +1,5 @@
+pub mod Links
+pub mod Messages
+pub mod Fields
+pub mod Answers
+pub mod Talks

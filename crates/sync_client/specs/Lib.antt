@@ -1,0 +1,4 @@
+pub mod Messages
+pub mod Replies
+pub mod Talk
+pub mod Steps
