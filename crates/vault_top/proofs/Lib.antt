@@ -7,7 +7,9 @@ pub mod Opened
 pub mod Begun
 pub mod Left
 pub mod Handed
+pub mod SharedViews
 pub mod Reasons
+pub mod Readings
 mod RightlyTaken
 pub mod Asked
 pub mod Numbers
@@ -17,9 +19,11 @@ pub mod SoundMaking
 pub mod Demonstrations
 pub mod SoundDemo
 pub mod SoundWords
+mod SteppedReadings
 pub mod SoundServing
 pub mod SoundStatus
 pub mod NewVaults
 pub mod Stopped
 pub mod Undamaged
+pub mod Unchanged
 pub mod Killed

@@ -1,11 +1,12 @@
 -- The endings that serving comes to.
-use Rattle.std.proofs.Common.{◌≡◌, ℕ, ◌≤◌, List, [], ◌∷◌, ◌++◌, length, codes, get_or, drop, refl, sym, ap, subst, ◌∙◌, inl, inr, Result, IfOk, arith}
+use Rattle.std.proofs.Common.{◌≡◌, ℕ, ◌≤◌, List, [], ◌∷◌, ◌++◌, length, codes, get_or, drop, refl, sym, ap, subst, ◌∙◌, inl, inr, Result, Ok, IfOk, arith}
 use Rattle.outside.specs.Calls.{Rose, Changes}
 use Rattle.session_server.specs.declared.ending.SessionEnd.{SessionEnd}
 use Rattle.vault_top.specs.Report.{line, sessions_line, TakesPart}
 use Rattle.vault_top.specs.Span.{SinkView, Views}
-use Rattle.vault_top.specs.Ending.{Ending, no_memory_to_serve, served, listener_fault, closing_fault, serving, report_of, status_of, cut_status_of, IsReported}
+use Rattle.vault_top.specs.Ending.{Ending, Reading, whole, a_listener_failed, not_reported, not_shared, only_read, no_memory_to_serve, served, listener_fault, closing_fault, serving, report_of, status_of, cut_status_of, IsReported}
 use Rattle.vault_top.specs.Serving.{HasOutcome, HasServed, AreCounted, MayEnd, HasLastLine, unreported}
+use Rattle.vault_top.specs.Viewing.{HasReadOutcome, HasViewed, MayRead}
 use Rattle.session_server.specs.declared.counts.SessionCounts.{SessionCounts}
 use Rattle.session_server.specs.Ends.{AreCounts}
 use Rattle.session_server.specs.Shares.{all_ends}
@@ -17,6 +18,7 @@ use Rattle.vault_keys.specs.Keys.{KeyPair}
 use Rattle.outside.specs.declared.stream.Failed.{Failed}
 use Rattle.vault_top.specs.declared.task.Service.{Service}
 use Rattle.vault_top.specs.declared.serving.HandedBack.{HandedBack}
+use Rattle.vault_top.specs.declared.viewing.ReadBack.{ReadBack}
 use Rattle.vault_top.specs.declared.serving.Outcome.{Outcome}
 use Rattle.vault_top.specs.declared.serving.Outcome.TheVariants.{Served, ListenerFault, FolderFault, NoMemory}
 use Rattle.vault_top.proofs.Written.{written_then, written_not, written_as}
@@ -88,3 +90,46 @@ reports_first ends outcome before after status failed same h =
 pub first_item : {X : Type 0} (xs others : List X) (x : X) → 1 ≤ length xs → x ≡ get_or xs 0 x → others ≡ drop 1 xs → xs ≡ x ∷ others
 first_item [] others x few e o = absurd (omega arith)
 first_item (y ∷ ys) others x few e o = ap (λ z. z ∷ ys) (sym e) ∙ ap (λ zs. x ∷ zs) (sym o)
+
+-- ---- of a vault that is only read
+
+-- what was counted of it: an outcome of one that was closed well
+counted_reading : (counts : Result SessionCounts Failed) (all ends : List SessionEnd) (outcome : Outcome) → HasReadOutcome counts outcome → IfOk counts (λ c. AreCounts c all) → all ≡ ends → AreCounted ends outcome
+counted_reading counts all ends (Served c) h = counted_as counts (Ok tt) all ends (Served c) (h, refl)
+counted_reading counts all ends ListenerFault h = counted_as counts (Ok tt) all ends ListenerFault (h, refl)
+counted_reading counts all ends FolderFault h = absurd h
+counted_reading counts all ends NoMemory h = absurd h
+
+pub counted_readers : {D N C E K : Type 0} {start : Rows → Origin → Type 0} {since : FolderView → KeyPair → Rows → Type 0} {views : Views D N C E K} {service : Service} {workers workers' : List (Worker N E K)} {ends : List SessionEnd} {back : ReadBack D}
+    → HasViewed start since views service workers workers' ends back → AreCounted ends back.outcome
+counted_readers {ends = ends} {back = back} (inl h) = counted_reading h.counts (all_ends h.joined.shares) ends back.outcome h.outcome h.joined.counted h.ended
+counted_readers {ends = ends} (inr h) = subst (λ (o : Outcome). AreCounted ends o) (sym h.outcome) tt
+
+-- serving it was reported by an ending of a vault that was only read, which has the report and the status of the other
+pub record ReadReports (ends : List SessionEnd) (outcome : Outcome) (before after : SinkView) (status : ℕ) : Type 0 where
+  pub reading : Reading
+  pub may : MayRead ends outcome reading
+  pub reported : IsReported (record { before = before; after = after }) (only_read reading) status
+
+-- the folder of one never failed at the end
+never_broken : {D N C E K : Type 0} {start : Rows → Origin → Type 0} {since : FolderView → KeyPair → Rows → Type 0} {views : Views D N C E K} {service : Service} {workers workers' : List (Worker N E K)} {ends : List SessionEnd} {back : ReadBack D}
+    → HasViewed start since views service workers workers' ends back → back.outcome ≡ FolderFault → ⊥
+never_broken (inl h) is = subst (λ (o : Outcome). HasReadOutcome h.counts o) is h.outcome
+never_broken (inr h) is = let e : NoMemory ≡ FolderFault = sym h.outcome ∙ is in cc
+
+module _ (ends : List SessionEnd) (before after : SinkView) (status : ℕ) where
+  abbrev IsReportedAs : Ending → Type 0
+  IsReportedAs ending = IsReported (record { before = before; after = after }) ending status
+
+  reads_as : (outcome : Outcome) → (outcome ≡ FolderFault → ⊥) → Reports ends outcome before after status → ReadReports ends outcome before after status
+  reads_as (Served counts) whole_folder r = elim r.may [
+    | inl is ↦ record { reading = whole ends; may = inl refl; reported = subst IsReportedAs is r.reported }
+    | inr is ↦ record { reading = not_reported ends; may = inr refl; reported = subst IsReportedAs is r.reported }
+  ]
+  reads_as ListenerFault whole_folder r = record { reading = a_listener_failed ends; may = refl; reported = subst IsReportedAs r.may r.reported }
+  reads_as FolderFault whole_folder r = absurd (whole_folder refl)
+  reads_as NoMemory whole_folder r = record { reading = not_shared; may = refl; reported = subst IsReportedAs r.may r.reported }
+
+pub read_reports : {D N C E K : Type 0} {start : Rows → Origin → Type 0} {since : FolderView → KeyPair → Rows → Type 0} {views : Views D N C E K} {service : Service} {workers workers' : List (Worker N E K)} {ends : List SessionEnd} {back : ReadBack D}
+    {before after : SinkView} {status : ℕ} → HasViewed start since views service workers workers' ends back → Reports ends back.outcome before after status → ReadReports ends back.outcome before after status
+read_reports {ends = ends} {back = back} {before = before} {after = after} {status = status} h = reads_as ends before after status back.outcome (never_broken h)

@@ -1,5 +1,5 @@
 -- Why the program ends as it does.
-use Rattle.std.proofs.Common.{◌≡◌, ◌⊎◌, ℕ, suc, ◌≤◌, List, [], ◌∷◌, length, min, Option, Some, None, IsSome, IsNone, Result, IsOk, IsErr, refl, sym, ap, subst, ◌∙◌, inl, inr, arith}
+use Rattle.std.proofs.Common.{◌≡◌, ◌⊎◌, ℕ, suc, ◌≤◌, true, false, List, [], ◌∷◌, length, min, Option, Some, None, IsSome, IsNone, Result, IsOk, IsErr, refl, sym, ap, subst, ◌∙◌, inl, inr, arith}
 use Rattle.std.specs.Prelude.{IfSome}
 use Rattle.outside.specs.declared.stream.Failed.{Failed}
 use Rattle.outside.specs.Calls.{Changes, Rose, Told}
@@ -7,7 +7,7 @@ use Rattle.outside.specs.Images.{Log, now}
 use Rattle.outside.specs.Views.{FolderView}
 use Rattle.vault_keys.specs.Keys.{KeyPair}
 use Rattle.tree_model.specs.Rows.{Rows}
-use Rattle.tree_model.specs.History.{Entry, Origin, tally_at, tally_of}
+use Rattle.tree_model.specs.History.{Entry, Origin, tally_of}
 use Rattle.session_server.specs.declared.ending.SessionEnd.{SessionEnd}
 use Rattle.session_server.specs.declared.counts.SessionCounts.{SessionCounts}
 use Rattle.session_server.specs.Workers.{MayStop, ListenerFailed, SomeFailed}
@@ -22,12 +22,12 @@ use Rattle.vault_store.specs.Open.{ClosedVault, OpenVault}
 use Rattle.vault_words.specs.Jobs.{Serving, serve}
 use Rattle.vault_top.specs.declared.cause.Cause.{Cause}
 use Rattle.vault_top.specs.declared.cause.Cause.TheVariants.{Words, Memory}
-use Rattle.vault_top.specs.Words.{Ask, AreRefused, kind_of}
+use Rattle.vault_top.specs.Words.{Ask, AreRefused, kind_of, sessions_of, sharers}
 use Rattle.vault_top.specs.Tasks.{IsServiceOf}
 use Rattle.vault_top.specs.Span.{Course, SourceView, SinkView, Views, WorkerSpan, Span, worker_spans, given_of, span_of}
-use Rattle.vault_top.specs.Served.{AreShares, IsClosing, IsHandedBack}
+use Rattle.vault_top.specs.Served.{AreShares, IsClosing, IsHandedBack, Share}
 use Rattle.vault_top.specs.Sharing.{IsSharedStore, AreBeginnings, IsBegun, IsAlone}
-use Rattle.vault_top.specs.Opening.{IsUnlocked, IsUnopened, IsUnlockedStore}
+use Rattle.vault_top.specs.Opening.{IsUnlocked, IsUnopened, IsUnread, IsUnlockedStore}
 use Rattle.vault_top.specs.Ending.{Ending, refused, no_memory_to_serve, served, listener_fault, closing_fault, no_memory_to_report, AreIdle, IsUntouched, IsServed, IsServedTo, IsClosedWell, IsUnshared, Never, HasReason, IsReported, IsStoreLeft, HasRun}
 use Rattle.vault_top.specs.Serving.{HasOutcome, HasServedAll, HasServed, HasServedVault, IsUnasked, MayEnd}
 use Rattle.vault_top.specs.declared.program.Ended.{Ended}
@@ -37,7 +37,7 @@ use Rattle.vault_top.specs.declared.serving.Outcome.TheVariants.{Served, Listene
 use Rattle.vault_top.specs.declared.task.Service.{Service}
 use Rattle.vault_top.proofs.Handed.{seen_closing}
 use Rattle.vault_top.proofs.Left.{Leaves, closed_since, closed_stands, failed_closed, left_by, left_closed, none_failed, stops_nowhere, whole_closed}
-use Rattle.vault_top.proofs.Callers.{faults_stay, all_drawn, all_timed, callers_at, faults_at, spans_count, before_same, none_past}
+use Rattle.vault_top.proofs.Callers.{have_asked, spans_count}
 use Rattle.vault_top.proofs.Shares.{shares_as, may_stop, on_error}
 
 -- ---- workers that did nothing
@@ -47,6 +47,11 @@ idle views [] = tt
 idle views (worker ∷ workers) = ((refl, refl, refl), idle views workers)
 
 -- ---- a vault that was served
+
+-- what was found clear under the keys that were unlocked
+pub found_clear : {kind : SecretKind} {found : FolderView} {secret : SourceView} {second : Option ℕ} {start : FolderView} {keys : KeyPair} {rows : Rows} (begun : IsBegun kind found secret second start keys rows)
+    → Told found.log (λ log. IsFoundClear begun.vault.keys (now log) begun.unlocked rows)
+found_clear {found = found} {rows = rows} begun = subst (λ (keys : KeyPair). Told found.log (λ log. IsFoundClear keys (now log) begun.unlocked rows)) (sym begun.keys_are) begun.clear
 
 -- where a store's history begins is the folder as it was found, under the keys that were unlocked
 module _ {D : Type 0} {since : FolderView → KeyPair → Rows → Type 0} {view : D → FolderView} {kind : SecretKind} {secret : SourceView} {second : Option ℕ} {found : FolderView} {store : OpenVault D} {rows : Rows} {origin : Origin} {entries : List Entry}
@@ -62,9 +67,6 @@ module _ {D : Type 0} {since : FolderView → KeyPair → Rows → Type 0} {view
 
   later : found.faults ≤ (view store.folder).faults
   later = subst (λ (v : FolderView). v.faults ≤ (view store.folder).faults) begun.folder_is right.faults
-
-  clear : Told found.log (λ log. IsFoundClear begun.vault.keys (now log) begun.unlocked rows)
-  clear = subst (λ (keys : KeyPair). Told found.log (λ log. IsFoundClear keys (now log) begun.unlocked rows)) (sym begun.keys_are) begun.clear
 
   -- of a vault that was closed
   module _ {kept : D} {closed : ClosedVault} (how : IsClosing view store.store store.folder closed kept) where
@@ -130,14 +132,12 @@ module _ {D N C E K : Type 0} {start : Rows → Origin → Type 0} {since : Fold
       let begins = beginning.starts.only h.rows h.origin h.begins in
       let begun = begun_as in
       let left = leaves_closed joined.right begun h.closing in
-      let spans = worker_spans views workers workers' in
-      let many : length spans ≡ length workers = spans_count views workers workers' joined.count in
-      let many' : length (worker_spans views workers workers) ≡ length workers = spans_count views workers workers refl in
+      let own = have_asked views begins.entropy_faults joined in
       record {
         vault = begun.vault;
         unlocked = record { gave = begun.gave; line = beginning.line };
         shares = joined.shares;
-        are = shares_as views.link (MayStop h.counts) P service.sessions (min service.at_once (length workers)) 0 spans joined.shares only joined.are;
+        are = shares_as views.link (MayStop h.counts) P service.sessions (min service.at_once (length workers)) 0 (worker_spans views workers workers') joined.shares only joined.are;
         history = record {
           rows = h.rows;
           origin = h.origin;
@@ -145,25 +145,14 @@ module _ {D N C E K : Type 0} {start : Rows → Origin → Type 0} {since : Fold
           caused = left.caused;
           legal = left.legal;
           placed = left.placed;
-          callers = λ j. callers_at h.origin joined.entries j 0 j spans joined.shares (omega arith) joined.callers (λ i past. joined.no_others i (omega arith));
-          drawn = all_drawn h.origin joined.entries 0 0 spans joined.shares refl joined.callers;
-          timed = all_timed h.origin joined.entries views.link (MayStop h.counts) service.sessions (min service.at_once (length workers)) 0 0 spans joined.shares refl joined.are joined.callers;
+          callers = own.callers;
+          drawn = own.drawn;
+          timed = own.timed;
           in_time = joined.in_time;
-          since = record {
-            folder = (let e = begins.folder_faults in omega arith);
-            entropy = λ j. (let e = ap (λ (faults : ℕ → ℕ). faults j) begins.entropy_faults in let b = before_same views workers workers' j joined.count in omega arith);
-            moment = begins.moment;
-          };
-          up_to = record {
-            folder = left.faults;
-            entropy = λ j. faults_at h.origin joined.entries j 0 j spans joined.shares (omega arith) joined.callers (λ i past.
-                let stays = faults_stay i (tally_at h.origin) joined.entries (joined.no_others i (omega arith)) in
-                let e = ap (λ (faults : ℕ → ℕ). faults i) begins.entropy_faults in
-                let none = none_past (worker_spans views workers workers) i (omega arith) in omega arith);
-            moment = left.moment;
-          };
+          since = record { folder = (let e = begins.folder_faults in omega arith); entropy = own.since; moment = begins.moment };
+          up_to = record { folder = left.faults; entropy = own.up_to; moment = left.moment };
           unlocked = begun.unlocked;
-          clear = clear joined.right begun;
+          clear = found_clear begun;
           second = begun.at_second;
           opened = left.opened;
           handed_back = handed joined.right begun h.closing (closed_is ∙ h.closed_is);
@@ -189,7 +178,7 @@ module _ {D N C E K : Type 0} {start : Rows → Origin → Type 0} {since : Fold
 
 -- ---- a run
 
-run_as : {D N C E K : Type 0} {views : Views D N C E K} {words : List (List ℕ)} {secret : Course SourceView} {second : Option ℕ} {folder : D} {a b a' b' : List (Worker N E K)} {sink : Course SinkView} {ended : Ended D}
+pub run_as : {D N C E K : Type 0} {views : Views D N C E K} {words : List (List ℕ)} {secret : Course SourceView} {second : Option ℕ} {folder : D} {a b a' b' : List (Worker N E K)} {sink : Course SinkView} {ended : Ended D}
     → a ≡ b → a' ≡ b' → HasRun views words secret second folder b b' sink ended → HasRun views words secret second folder a a' sink ended
 run_as e f h = rw (e, f) h
 
@@ -206,36 +195,52 @@ some_left ends ListenerFault ending counts committed store closed h e is = some_
 some_left ends FolderFault ending counts committed store closed h e is = some_in ending (closing_fault ends) store closed e (λ some. some) is
 some_left ends NoMemory ending counts committed store closed h e is = absurd h
 
--- a vault was opened for a service, as the words say
-pub record OpenedFor {D N C E K : Type 0} (start : Rows → Origin → Type 0) (since : FolderView → KeyPair → Rows → Type 0) (views : Views D N C E K) (words : List (List ℕ)) (secret : Course SourceView) (second : Option ℕ) (folder : D) (service : Service) (workers : List (Worker N E K)) : Type 0 where
+-- the words ask for a service, which begins
+pub record AskedFor {D N C E K : Type 0} (start : Rows → Origin → Type 0) (since : FolderView → KeyPair → Rows → Type 0) (views : Views D N C E K) (words : List (List ℕ)) (secret : Course SourceView) (second : Option ℕ) (folder : D) (service : Service) (workers : List (Worker N E K)) : Type 0 where
   pub serving : Serving
-  pub asked : Ask words (serve serving)
+  pub words_are : Ask words (serve serving)
   pub same : IsServiceOf serving service
   pub beginning : Beginning start since views secret second folder service workers
+
+module _ {D N C E K : Type 0} {start : Rows → Origin → Type 0} {since : FolderView → KeyPair → Rows → Type 0} {views : Views D N C E K} {words : List (List ℕ)} {secret : Course SourceView} {second : Option ℕ} {folder : D} {service : Service}
+    {workers : List (Worker N E K)} (asked : AskedFor start since views words secret second folder service workers) where
+  -- by the kind of secret that the words name
+  pub unlocked_as : (kept : D) (vault : UnlockedVault) → IsUnlocked (given_of views.folder secret second folder kept) service.kind vault → IsUnlocked (given_of views.folder secret second folder kept) (kind_of asked.serving) vault
+  unlocked_as kept vault = subst (λ (k : SecretKind). IsUnlocked (given_of views.folder secret second folder kept) k vault) asked.same.kind
+
+  -- so many sessions as the words say, and so many workers that share them
+  pub shared_as : (workers' : List (Worker N E K)) (P : WorkerSpan C → Type 0) (shares : List (Share C)) → length workers' ≡ length workers
+      → AreShares views.link P service.sessions (min service.at_once (length workers)) 0 (worker_spans views workers workers') shares
+      → AreShares views.link P (sessions_of asked.serving) (sharers asked.serving (length (worker_spans views workers workers'))) 0 (worker_spans views workers workers') shares
+  shared_as workers' P shares count =
+      let many : length (worker_spans views workers workers') ≡ length workers = spans_count views workers workers' count in
+      subst (λ (p : ℕ × ℕ). AreShares views.link P p.0 p.1 0 (worker_spans views workers workers') shares) (λ i. (asked.same.sessions i, min (asked.same.at_once i) (sym many i)))
+
+-- a vault was opened for a service, as the words say
+pub record OpenedFor {D N C E K : Type 0} (start : Rows → Origin → Type 0) (since : FolderView → KeyPair → Rows → Type 0) (views : Views D N C E K) (words : List (List ℕ)) (secret : Course SourceView) (second : Option ℕ) (folder : D) (service : Service) (workers : List (Worker N E K)) : Type 0 where
+  pub asked : AskedFor start since views words secret second folder service workers
+  pub writes : asked.serving.read_only ≡ false
   pub store : OpenVault D
   pub unlocked : IsUnlockedStore views.folder (given_of views.folder secret second folder folder) service.kind folder store
 
 module _ {D N C E K : Type 0} {start : Rows → Origin → Type 0} {since : FolderView → KeyPair → Rows → Type 0} {views : Views D N C E K} {words : List (List ℕ)} {secret : Course SourceView} {second : Option ℕ} {folder : D} {service : Service}
     {workers : List (Worker N E K)} (opened : OpenedFor start since views words secret second folder service workers) where
-  open opened use {serving, asked, same, beginning, unlocked}
-
-  -- by the kind of secret that the words name
-  unlocked_as : (kept : D) (vault : UnlockedVault) → IsUnlocked (given_of views.folder secret second folder kept) service.kind vault → IsUnlocked (given_of views.folder secret second folder kept) (kind_of serving) vault
-  unlocked_as kept vault = subst (λ (k : SecretKind). IsUnlocked (given_of views.folder secret second folder kept) k vault) same.kind
+  open opened use {asked, unlocked, writes}
 
   -- there was no memory to serve, and the folder is left
   unshared_kept : {kept : D} (closed : Option ClosedVault) → IsUnasked views.folder start since kept → IsUnshared (span_of views words secret second folder kept workers workers closed)
   unshared_kept {kept} closed h =
-      let begun = beginning.alone.only h.shared.start h.store.keys h.rows h.shared.begins in
+      let begun = asked.beginning.alone.only h.shared.start h.store.keys h.rows h.shared.begins in
       record {
-        serving = serving;
-        words = asked;
+        serving = asked.serving;
+        words = asked.words_are;
+        writes = writes;
         vault = begun.vault;
-        unlocked = unlocked_as kept begun.vault (record { gave = begun.gave; line = beginning.line });
+        unlocked = unlocked_as asked kept begun.vault (record { gave = begun.gave; line = asked.beginning.line });
         rows = h.rows;
         origin = h.origin;
         opened = begun.unlocked;
-        clear = clear h.shared begun;
+        clear = found_clear begun;
         second = begun.at_second;
         stops = (leaves h.shared begun).stops;
         later = later h.shared begun;
@@ -247,10 +252,11 @@ module _ {D N C E K : Type 0} {start : Rows → Origin → Type 0} {since : Fold
   unshared_lost closed =
       let origin : Origin = record { folder_faults = 0; entropy_faults = λ j. 0; moment = suc (moment_of (views.folder folder).log) } in
       record {
-        serving = serving;
-        words = asked;
+        serving = asked.serving;
+        words = asked.words_are;
+        writes = writes;
         vault = unlocked.vault;
-        unlocked = unlocked_as folder unlocked.vault unlocked.unlocked;
+        unlocked = unlocked_as asked folder unlocked.vault unlocked.unlocked;
         rows = unlocked.opened.rows;
         origin = origin;
         opened = unlocked.now;
@@ -275,7 +281,7 @@ module _ {D N C E K : Type 0} {start : Rows → Origin → Type 0} {since : Fold
   run_unshared {ended = ended} {ending = ending} None h is left gone reported = record {
     ending = ending;
     kept = folder;
-    folder_is = inr (left, is);
+    folder_is = inr (left, inl is);
     store_is = none_left ending ended.store is gone;
     count = refl;
     reason = rw is (unshared_lost ended.store);
@@ -287,17 +293,16 @@ module _ {D N C E K : Type 0} {start : Rows → Origin → Type 0} {since : Fold
     served_of : {closed : Option ClosedVault} → closed ≡ back.store → (P : WorkerSpan C → Type 0) → ((worker : WorkerSpan C) → MayStop h.counts worker → P worker)
         → IsServed views (span_of views words secret second folder h.folder workers workers' closed) P ends
     served_of closed_is P only =
-        let spans = worker_spans views workers workers' in
-        let many : length spans ≡ length workers = spans_count views workers workers' h.joined.count in
-        let to = served_to beginning h words closed_is P only in
+        let to = served_to asked.beginning h words closed_is P only in
         record {
-          serving = serving;
-          words = asked;
+          serving = asked.serving;
+          words = asked.words_are;
+          writes = writes;
           sessions = record {
             vault = to.vault;
-            unlocked = unlocked_as h.folder to.vault to.unlocked;
+            unlocked = unlocked_as asked h.folder to.vault to.unlocked;
             shares = to.shares;
-            are = subst (λ (p : ℕ × ℕ). AreShares views.link P p.0 p.1 0 spans to.shares) (λ i. (same.sessions i, min (same.at_once i) (sym many i))) to.are;
+            are = shared_as asked workers' P to.shares h.joined.count to.are;
             history = to.history;
             ended = to.ended;
           };
@@ -308,15 +313,15 @@ module _ {D N C E K : Type 0} {start : Rows → Origin → Type 0} {since : Fold
     unfolding served_of served_to handed
     reason_of closed_is (Served c) ending is (inl e) = rw e (
       served_of closed_is Never (λ worker stop. subst (λ (r : Result SessionCounts Failed). MayStop r worker) is.0 stop),
-      record { closed = is.1; running = none_in beginning h is.1; on_disk = whole_in beginning h is.1 },
+      record { closed = is.1; running = none_in asked.beginning h is.1; on_disk = whole_in asked.beginning h is.1 },
     )
-    reason_of closed_is (Served c) ending is (inr e) = rw e (served_of closed_is ListenerFailed (may_stop h.counts), record { closed = is.1; running = none_in beginning h is.1; on_disk = whole_in beginning h is.1 })
+    reason_of closed_is (Served c) ending is (inr e) = rw e (served_of closed_is ListenerFailed (may_stop h.counts), record { closed = is.1; running = none_in asked.beginning h is.1; on_disk = whole_in asked.beginning h is.1 })
     reason_of closed_is ListenerFault ending is e = rw e (
       served_of closed_is ListenerFailed (may_stop h.counts),
       on_error h.counts (SomeFailed (worker_spans views workers workers')) is.0 h.joined.failed,
-      record { closed = is.1; running = none_in beginning h is.1; on_disk = whole_in beginning h is.1 },
+      record { closed = is.1; running = none_in asked.beginning h is.1; on_disk = whole_in asked.beginning h is.1 },
     )
-    reason_of closed_is FolderFault ending is e = rw e (served_of closed_is ListenerFailed (may_stop h.counts), record { failed = is; cause = failed_in beginning h is })
+    reason_of closed_is FolderFault ending is e = rw e (served_of closed_is ListenerFailed (may_stop h.counts), record { failed = is; cause = failed_in asked.beginning h is })
     reason_of closed_is NoMemory ending is e = absurd is
 
   run_of : {workers' : List (Worker N E K)} {sink : Course SinkView} {ended : Ended D} (h : HasServedVault start since views service workers workers' sink ended) → HasServed start since views service workers workers' h.ends h.back
@@ -347,7 +352,8 @@ pub record RefusedFor {D N C E K : Type 0} (views : Views D N C E K) (words : Li
   pub same : IsServiceOf serving service
   pub folder_is : ended.folder ≡ Some kept
   pub store_is : IsNone ended.store
-  pub unopened : IsUnopened (given_of views.folder secret second folder kept) service.kind cause
+  pub unopened : ((serving.read_only ≡ false) × IsUnopened (given_of views.folder secret second folder kept) service.kind cause)
+      ⊎ ((serving.read_only ≡ true) × IsUnread (given_of views.folder secret second folder kept) service.kind cause)
   pub reported : IsReported sink (refused cause) ended.status
 
 pub run_unserved : {D N C E K : Type 0} {views : Views D N C E K} {words : List (List ℕ)} {secret : Course SourceView} {second : Option ℕ}
@@ -362,8 +368,8 @@ run_unserved {views = views} {secret = secret} {second = second} {folder = folde
   reason = inr (inl (record {
     serving = why.serving;
     words = why.asked;
-    unopened = subst (λ (k : SecretKind). IsUnopened (given_of views.folder secret second folder why.kept) k why.cause)
-        why.same.kind why.unopened;
+    unopened = subst (λ (k : SecretKind). ((why.serving.read_only ≡ false) × IsUnopened (given_of views.folder secret second folder why.kept) k why.cause)
+        ⊎ ((why.serving.read_only ≡ true) × IsUnread (given_of views.folder secret second folder why.kept) k why.cause)) why.same.kind why.unopened;
     idle = idle views workers;
   }));
   reported = why.reported;

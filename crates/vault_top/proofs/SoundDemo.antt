@@ -5,7 +5,7 @@ use Rattle.vault_top.specs.declared.cause.Cause.TheVariants.{Memory}
 use Rattle.vault_words.specs.Jobs.{Demonstration, Job, serve, make, demo, help, version, AsksFor}
 use Rattle.vault_top.specs.Words.{Ask}
 use Rattle.vault_top.specs.Span.{Views, Span}
-use Rattle.vault_top.specs.Ending.{Ending, refused, usage_said, version_said, made, no_memory_to_serve, served, listener_fault, closing_fault, no_memory_to_report, demonstrated, IsRefused, HasReason}
+use Rattle.vault_top.specs.Ending.{Ending, refused, help_said, version_said, made, no_memory_to_serve, served, listener_fault, closing_fault, no_memory_to_report, only_read, whole, a_listener_failed, not_reported, not_shared, demonstrated, IsRefused, HasReason}
 use Rattle.vault_top.specs.Sound.{IsHeldOrFull}
 use Rattle.vault_top.proofs.Asked.{one_job, not_refused}
 
@@ -20,16 +20,20 @@ module _ {C : Type 0} (span : Span C) (d : Demonstration) (asked : Ask span.word
     | inr memory ↦ memory
   ]
   refused_held cause (inr (inl h)) = let e : serve h.serving ≡ demo d = one (serve h.serving) h.words.asks in absurd cc
-  refused_held cause (inr (inr h)) = let e : make h.dir ≡ demo d = one (make h.dir) h.words.asks in absurd cc
+  refused_held cause (inr (inr h)) = let e : make h.making ≡ demo d = one (make h.making) h.words.asks in absurd cc
 
   pub held : {D N E K : Type 0} (views : Views D N C E K) (ending : Ending) → HasReason views span ending → IsHeldOrFull ending
   held views (refused cause) h = refused_held cause h
-  held views usage_said h = let e : help ≡ demo d = one help h.0.asks in absurd cc
+  held views (help_said topic) h = let e : help topic ≡ demo d = one (help topic) h.0.asks in absurd cc
   held views version_said h = let e : version ≡ demo d = one version h.0.asks in absurd cc
-  held views made h = let e : make h.dir ≡ demo d = one (make h.dir) h.words.asks in absurd cc
+  held views made h = let e : make h.making ≡ demo d = one (make h.making) h.words.asks in absurd cc
   held views no_memory_to_serve h = let e : serve h.serving ≡ demo d = one (serve h.serving) h.words.asks in absurd cc
   held views (served ends) h = let e : serve h.0.serving ≡ demo d = one (serve h.0.serving) h.0.words.asks in absurd cc
   held views (listener_fault ends) h = let e : serve h.0.serving ≡ demo d = one (serve h.0.serving) h.0.words.asks in absurd cc
   held views (closing_fault ends) h = let e : serve h.0.serving ≡ demo d = one (serve h.0.serving) h.0.words.asks in absurd cc
   held views (no_memory_to_report ends) h = let e : serve h.0.serving ≡ demo d = one (serve h.0.serving) h.0.words.asks in absurd cc
+  held views (only_read (whole ends)) h = let e : serve h.serving ≡ demo d = one (serve h.serving) h.words.asks in absurd cc
+  held views (only_read (a_listener_failed ends)) h = let e : serve h.0.serving ≡ demo d = one (serve h.0.serving) h.0.words.asks in absurd cc
+  held views (only_read (not_reported ends)) h = let e : serve h.serving ≡ demo d = one (serve h.serving) h.words.asks in absurd cc
+  held views (only_read not_shared) h = let e : serve h.serving ≡ demo d = one (serve h.serving) h.words.asks in absurd cc
   held views (demonstrated text) h = tt

@@ -18,7 +18,7 @@ use Rattle.vault_top.specs.declared.cause.Cause.{Cause}
 use Rattle.vault_top.specs.declared.cause.Cause.TheVariants.{Memory}
 use Rattle.vault_top.specs.Span.{Course, Views, WorkerSpan, Span, Given}
 use Rattle.vault_top.specs.Making.{HasNoPassword, HasRisen, IsNotMade}
-use Rattle.vault_top.specs.Ending.{Ending, refused, usage_said, version_said, made, no_memory_to_serve, served, listener_fault, closing_fault, no_memory_to_report, demonstrated, DrawsAlone, IsRefused, HasReason}
+use Rattle.vault_top.specs.Ending.{Ending, refused, help_said, version_said, made, no_memory_to_serve, served, listener_fault, closing_fault, no_memory_to_report, only_read, whole, a_listener_failed, not_reported, not_shared, demonstrated, DrawsAlone, IsRefused, HasReason}
 use Rattle.vault_top.specs.Sound.{IsSoundToMake, IsFaultless, IsMadeOrFull, SomeRandomFailed}
 use Rattle.vault_top.proofs.Asked.{one_job, not_refused}
 
@@ -59,31 +59,39 @@ not_made_sound given cause (first ∷ others) sound empty secret folder random d
 
 refused_sound : {C : Type 0} (span : Span C) (cause : Cause) → IsSoundToMake span → IsFaultless span → (SomeRandomFailed span.workers → ⊥) → IsRefused span cause → cause ≡ Memory
 refused_sound span cause is faultless random (inl h) = elim h.why [
-  | inl bad ↦ absurd (not_refused span.words (make is.dir) is.words bad.1)
+  | inl bad ↦ absurd (not_refused span.words (make is.making) is.words bad.1)
   | inr memory ↦ memory
 ]
 refused_sound span cause is faultless random (inr (inl h)) =
-    let e : serve h.serving ≡ make is.dir = one_job span.words (make is.dir) (serve h.serving) is.words h.words.asks in absurd cc
+    let e : serve h.serving ≡ make is.making = one_job span.words (make is.making) (serve h.serving) is.words h.words.asks in absurd cc
 refused_sound span cause is faultless random (inr (inr h)) =
     not_made_sound span.given cause span.workers is.secret is.empty faultless.secret faultless.folder random h.drawn
 
 pub sound_to_make : {D N C E K : Type 0} (views : Views D N C E K) (span : Span C) (ending : Ending) → IsSoundToMake span → IsFaultless span → (SomeRandomFailed span.workers → ⊥)
     → HasReason views span ending → IsMadeOrFull ending
 sound_to_make views span (refused cause) is faultless random h = refused_sound span cause is faultless random h
-sound_to_make views span usage_said is faultless random h =
-    let e : help ≡ make is.dir = one_job span.words (make is.dir) help is.words h.0.asks in absurd cc
+sound_to_make views span (help_said topic) is faultless random h =
+    let e : help topic ≡ make is.making = one_job span.words (make is.making) (help topic) is.words h.0.asks in absurd cc
 sound_to_make views span version_said is faultless random h =
-    let e : version ≡ make is.dir = one_job span.words (make is.dir) version is.words h.0.asks in absurd cc
+    let e : version ≡ make is.making = one_job span.words (make is.making) version is.words h.0.asks in absurd cc
 sound_to_make views span made is faultless random h = tt
 sound_to_make views span no_memory_to_serve is faultless random h =
-    let e : serve h.serving ≡ make is.dir = one_job span.words (make is.dir) (serve h.serving) is.words h.words.asks in absurd cc
+    let e : serve h.serving ≡ make is.making = one_job span.words (make is.making) (serve h.serving) is.words h.words.asks in absurd cc
 sound_to_make views span (served ends) is faultless random h =
-    let e : serve h.0.serving ≡ make is.dir = one_job span.words (make is.dir) (serve h.0.serving) is.words h.0.words.asks in absurd cc
+    let e : serve h.0.serving ≡ make is.making = one_job span.words (make is.making) (serve h.0.serving) is.words h.0.words.asks in absurd cc
 sound_to_make views span (listener_fault ends) is faultless random h =
-    let e : serve h.0.serving ≡ make is.dir = one_job span.words (make is.dir) (serve h.0.serving) is.words h.0.words.asks in absurd cc
+    let e : serve h.0.serving ≡ make is.making = one_job span.words (make is.making) (serve h.0.serving) is.words h.0.words.asks in absurd cc
 sound_to_make views span (closing_fault ends) is faultless random h =
-    let e : serve h.0.serving ≡ make is.dir = one_job span.words (make is.dir) (serve h.0.serving) is.words h.0.words.asks in absurd cc
+    let e : serve h.0.serving ≡ make is.making = one_job span.words (make is.making) (serve h.0.serving) is.words h.0.words.asks in absurd cc
 sound_to_make views span (no_memory_to_report ends) is faultless random h =
-    let e : serve h.0.serving ≡ make is.dir = one_job span.words (make is.dir) (serve h.0.serving) is.words h.0.words.asks in absurd cc
+    let e : serve h.0.serving ≡ make is.making = one_job span.words (make is.making) (serve h.0.serving) is.words h.0.words.asks in absurd cc
+sound_to_make views span (only_read (whole ends)) is faultless random h =
+    let e : serve h.serving ≡ make is.making = one_job span.words (make is.making) (serve h.serving) is.words h.words.asks in absurd cc
+sound_to_make views span (only_read (a_listener_failed ends)) is faultless random h =
+    let e : serve h.0.serving ≡ make is.making = one_job span.words (make is.making) (serve h.0.serving) is.words h.0.words.asks in absurd cc
+sound_to_make views span (only_read (not_reported ends)) is faultless random h =
+    let e : serve h.serving ≡ make is.making = one_job span.words (make is.making) (serve h.serving) is.words h.words.asks in absurd cc
+sound_to_make views span (only_read not_shared) is faultless random h =
+    let e : serve h.serving ≡ make is.making = one_job span.words (make is.making) (serve h.serving) is.words h.words.asks in absurd cc
 sound_to_make views span (demonstrated text) is faultless random h =
-    let e : demo h.demonstration ≡ make is.dir = one_job span.words (make is.dir) (demo h.demonstration) is.words h.words.asks in absurd cc
+    let e : demo h.demonstration ≡ make is.making = one_job span.words (make is.making) (demo h.demonstration) is.words h.words.asks in absurd cc

@@ -6,7 +6,7 @@ use Rattle.outside.specs.Images.{Log}
 use Rattle.outside.specs.Views.{LinkView}
 use Rattle.vault_keys.specs.Keys.{KeyPair}
 use Rattle.tree_model.specs.Asked.{Asked}
-use Rattle.tree_model.specs.History.{Entry, Tally, next, after, tally_at, IsCaused, AreCaused, IsLegal}
+use Rattle.tree_model.specs.History.{Entry, Origin, Tally, next, after, tally_at, tally_of, IsCaused, AreCaused, IsLegal, IsUpTo}
 use Rattle.tree_model.specs.Laws.{AreFaultless, AreStepped}
 use Rattle.tree_model.proofs.Faultless.{are_stepped}
 use Rattle.session_server.specs.declared.ending.SessionEnd.{SessionEnd}
@@ -15,13 +15,16 @@ use Rattle.session_server.specs.Served.{ServedLink, TalkedOn, TalkedOnEach}
 use Rattle.session_server.specs.Whole.{IsServedWhole}
 use Rattle.session_server.proofs.Whole.{served_whole}
 use Rattle.vault_top.specs.Span.{Views, WorkerSpan, Span}
-use Rattle.vault_top.specs.Served.{Share, AreShares, HasHistory, entropy_before, entropy_after}
-use Rattle.vault_top.specs.Words.{sharers}
-use Rattle.vault_top.specs.Ending.{Ending, refused, usage_said, version_said, made, no_memory_to_serve, served, listener_fault, closing_fault, no_memory_to_report, demonstrated, IsDemonstration, HasReason, ListenerFailed, Never}
+use Rattle.vault_store.specs.ReadOnly.{AreViewed}
+use Rattle.vault_top.specs.Served.{Share, AreShares, HasHistory, IsSince, end_of, entropy_before, entropy_after}
+use Rattle.vault_top.specs.ReadOnly.{HasReadings}
+use Rattle.vault_top.specs.Words.{sessions_of, sharers}
+use Rattle.vault_top.specs.Ending.{Ending, refused, help_said, version_said, made, no_memory_to_serve, served, listener_fault, closing_fault, no_memory_to_report, only_read, whole, a_listener_failed, not_reported, not_shared, demonstrated, IsDemonstration, HasReason, ListenerFailed, Never}
 use Rattle.vault_top.specs.Demonstrated.{own_views}
-use Rattle.vault_top.specs.Sound.{IsFaultless, SomeRandomFailed, IsDoneOrFull, IsServedOut, IsServedSoundly, held_span, IsHeldSoundly, HasServedSoundly}
+use Rattle.vault_top.specs.Sound.{IsFaultless, SomeRandomFailed, IsDoneOrFull, IsServedOut, IsServedSoundly, IsReadSoundly, held_span, IsHeldSoundly, HasServedSoundly}
 use Rattle.vault_top.proofs.Faults.{faults_rise, rose_within}
 use Rattle.vault_top.proofs.RightlyTaken.{rightly_taken}
+use Rattle.vault_top.proofs.SteppedReadings.{readings_stepped}
 
 -- ---- counts of random sources
 
@@ -77,17 +80,23 @@ module _ (low high : ℕ) (first last : ℕ → ℕ) (still : Rose low high → 
             (λ j. let known = since j in let goes_on = source_next j tally entry caused.0 in omega (arith, known, goes_on)) to up,
       )
 
-legal_told : (log : Option Log) (P : Type 0) → IsSome log → Told log (λ l. P) → P
-legal_told None P told is = absurd cc
-legal_told (Some l) P told is = is
+-- nor do they in the entries of a run
+quiet_entries : {C : Type 0} (span : Span C) (origin : Origin) (entries : List Entry) → AreCaused (tally_at origin) entries → IsSince span origin → IsUpTo (end_of span) (tally_of origin entries)
+    → (Rose span.given.folder.before.faults span.given.folder.after.faults → ⊥) → (SomeRandomFailed span.workers → ⊥) → AreFaultless entries
+quiet_entries span origin entries caused since up_to still none =
+    are_faultless span.given.folder.before.faults span.given.folder.after.faults (entropy_before span.workers) (entropy_after span.workers) still (quiet_sources span.workers none)
+    (tally_at origin) entries caused since.folder since.entropy up_to.folder up_to.entropy
+
+told_alone : (log : Option Log) (P : Type 0) → IsSome log → Told log (λ l. P) → P
+told_alone None P told is = absurd cc
+told_alone (Some l) P told is = is
 
 steps : {C : Type 0} (span : Span C) (keys : KeyPair) (shares : List (Share C)) (history : HasHistory span keys shares) → IsSome span.given.folder.before.log
     → (Rose span.given.folder.before.faults span.given.folder.after.faults → ⊥) → (SomeRandomFailed span.workers → ⊥) → AreStepped history.rows history.origin history.entries
 steps span keys shares history told still none =
     are_stepped history.rows history.origin history.entries
-    (legal_told span.given.folder.before.log (IsLegal history.rows history.origin history.entries) told history.legal)
-    (are_faultless span.given.folder.before.faults span.given.folder.after.faults (entropy_before span.workers) (entropy_after span.workers) still (quiet_sources span.workers none)
-    (tally_at history.origin) history.entries history.caused history.since.folder history.since.entropy history.up_to.folder history.up_to.entropy)
+    (told_alone span.given.folder.before.log (IsLegal history.rows history.origin history.entries) told history.legal)
+    (quiet_entries span history.origin history.entries history.caused history.since history.up_to still none)
 
 -- ---- sessions
 
@@ -127,6 +136,18 @@ served_soundly view span keys MayStop sessions sharing shares history are told s
   sessions = shares_served_out view MayStop sessions sharing 0 span.workers shares are;
 }
 
+-- ---- a vault that was only read
+
+read_soundly : {C : Type 0} (view : C → LinkView) (span : Span C) (keys : KeyPair) (MayStop : WorkerSpan C → Type 0) (sessions sharing : ℕ) (shares : List (Share C)) (readings : HasReadings span keys shares)
+    → AreShares view MayStop sessions sharing 0 span.workers shares → IsSome span.given.folder.before.log
+    → (Rose span.given.folder.before.faults span.given.folder.after.faults → ⊥) → (SomeRandomFailed span.workers → ⊥) → IsReadSoundly view readings
+read_soundly view span keys MayStop sessions sharing shares readings are told still none = record {
+  stepped = readings_stepped readings.rows (tally_at readings.origin) readings.entries refl readings.caused
+      (quiet_entries span readings.origin readings.entries readings.caused readings.since readings.up_to still none)
+      (told_alone span.given.folder.before.log (AreViewed readings.rows readings.entries) told readings.viewed);
+  sessions = shares_served_out view MayStop sessions sharing 0 span.workers shares are;
+}
+
 -- ---- a demonstration, whose own folder tells
 
 pub held_soundly : {C : Type 0} (span : Span C) (text : List ℕ) (is : IsDemonstration span text) → IsHeldSoundly span text is
@@ -140,16 +161,22 @@ held_soundly span text is = λ steady.
 pub has_served_soundly : {D N C E K : Type 0} (views : Views D N C E K) (span : Span C) (ending : Ending) (reason : HasReason views span ending) → IsSome span.given.folder.before.log → IsFaultless span
     → (SomeRandomFailed span.workers → ⊥) → HasServedSoundly views span ending reason
 has_served_soundly views span (refused cause) reason told faultless random = tt
-has_served_soundly views span usage_said reason told faultless random = tt
+has_served_soundly views span (help_said topic) reason told faultless random = tt
 has_served_soundly views span version_said reason told faultless random = tt
 has_served_soundly views span made reason told faultless random = tt
 has_served_soundly views span no_memory_to_serve reason told faultless random = tt
 has_served_soundly views span (served ends) reason told faultless random =
     let is = reason.0 in
-    served_soundly views.link span is.sessions.vault.keys Never is.serving.sessions (sharers is.serving (length span.workers)) is.sessions.shares is.sessions.history is.sessions.are told faultless.folder random
+    served_soundly views.link span is.sessions.vault.keys Never (sessions_of is.serving) (sharers is.serving (length span.workers)) is.sessions.shares is.sessions.history is.sessions.are told faultless.folder random
 has_served_soundly views span (listener_fault ends) reason told faultless random = tt
 has_served_soundly views span (closing_fault ends) reason told faultless random = tt
 has_served_soundly views span (no_memory_to_report ends) reason told faultless random =
     let is = reason.0 in
-    served_soundly views.link span is.sessions.vault.keys ListenerFailed is.serving.sessions (sharers is.serving (length span.workers)) is.sessions.shares is.sessions.history is.sessions.are told faultless.folder random
+    served_soundly views.link span is.sessions.vault.keys ListenerFailed (sessions_of is.serving) (sharers is.serving (length span.workers)) is.sessions.shares is.sessions.history is.sessions.are told faultless.folder random
+has_served_soundly views span (only_read (whole ends)) reason told faultless random =
+    read_soundly views.link span reason.sessions.vault.keys Never (sessions_of reason.serving) (sharers reason.serving (length span.workers)) reason.sessions.shares reason.sessions.readings reason.sessions.are told faultless.folder random
+has_served_soundly views span (only_read (a_listener_failed ends)) reason told faultless random = tt
+has_served_soundly views span (only_read (not_reported ends)) reason told faultless random =
+    read_soundly views.link span reason.sessions.vault.keys ListenerFailed (sessions_of reason.serving) (sharers reason.serving (length span.workers)) reason.sessions.shares reason.sessions.readings reason.sessions.are told faultless.folder random
+has_served_soundly views span (only_read not_shared) reason told faultless random = tt
 has_served_soundly views span (demonstrated text) reason told faultless random = held_soundly span text reason

@@ -4,7 +4,7 @@ use Rattle.clap.specs.Words.{Text}
 use Rattle.vault_top.specs.declared.cause.Cause.{Cause}
 use Rattle.vault_top.specs.declared.cause.Cause.TheVariants.{Memory}
 use Rattle.vault_top.specs.Span.{Course, SourceView, SinkView, Views, Span, span_of}
-use Rattle.vault_top.specs.Ending.{Ending, refused, usage_said, version_said, made, no_memory_to_serve, served, listener_fault, closing_fault, no_memory_to_report, demonstrated, HasReason, status_of}
+use Rattle.vault_top.specs.Ending.{Ending, refused, help_said, version_said, made, no_memory_to_serve, served, listener_fault, closing_fault, no_memory_to_report, only_read, whole, a_listener_failed, not_reported, not_shared, demonstrated, HasReason, status_of}
 use Rattle.vault_top.specs.Sound.{IsSoundJob, IsSoundRun, IsFaultless, IsServedOrFull, IsMadeOrFull, IsHeldOrFull}
 use Rattle.shared_tree.specs.declared.workers.Worker.{Worker}
 use Rattle.vault_top.specs.declared.program.Ended.{Ended}
@@ -21,7 +21,7 @@ full cause is = inr (subst (λ (c : Cause). status_of (refused c) ≡ 5) (sym is
 
 of_serving : (ending : Ending) → IsServedOrFull ending → IsGood (status_of ending)
 of_serving (refused cause) h = full cause h
-of_serving usage_said h = absurd h
+of_serving (help_said topic) h = absurd h
 of_serving version_said h = absurd h
 of_serving made h = absurd h
 of_serving no_memory_to_serve h = inr refl
@@ -29,11 +29,15 @@ of_serving (served ends) h = inl refl
 of_serving (listener_fault ends) h = absurd h
 of_serving (closing_fault ends) h = absurd h
 of_serving (no_memory_to_report ends) h = inr refl
+of_serving (only_read (whole ends)) h = inl refl
+of_serving (only_read (a_listener_failed ends)) h = absurd h
+of_serving (only_read (not_reported ends)) h = inr refl
+of_serving (only_read not_shared) h = inr refl
 of_serving (demonstrated text) h = absurd h
 
 of_making : (ending : Ending) → IsMadeOrFull ending → IsGood (status_of ending)
 of_making (refused cause) h = full cause h
-of_making usage_said h = absurd h
+of_making (help_said topic) h = absurd h
 of_making version_said h = absurd h
 of_making made h = inl refl
 of_making no_memory_to_serve h = absurd h
@@ -41,11 +45,12 @@ of_making (served ends) h = absurd h
 of_making (listener_fault ends) h = absurd h
 of_making (closing_fault ends) h = absurd h
 of_making (no_memory_to_report ends) h = absurd h
+of_making (only_read reading) h = absurd h
 of_making (demonstrated text) h = absurd h
 
 of_holding : (ending : Ending) → IsHeldOrFull ending → IsGood (status_of ending)
 of_holding (refused cause) h = full cause h
-of_holding usage_said h = absurd h
+of_holding (help_said topic) h = absurd h
 of_holding version_said h = absurd h
 of_holding made h = absurd h
 of_holding no_memory_to_serve h = absurd h
@@ -53,6 +58,7 @@ of_holding (served ends) h = absurd h
 of_holding (listener_fault ends) h = absurd h
 of_holding (closing_fault ends) h = absurd h
 of_holding (no_memory_to_report ends) h = absurd h
+of_holding (only_read reading) h = absurd h
 of_holding (demonstrated text) h = inl refl
 
 of_job : {D N C E K : Type 0} (views : Views D N C E K) (span : Span C) (ending : Ending) → IsSoundJob span → IsFaultless span → HasReason views span ending → IsGood (status_of ending)
@@ -66,6 +72,6 @@ sound_status views words secret second folder workers workers' sink ended is =
     let span = span_of views words secret second folder is.run.kept workers workers' ended.store in
     let good = of_job views span is.run.ending is.sound is.faultless is.run.reason in
     elim is.run.reported [
-      | inl whole ↦ subst IsGood (sym whole.0) good
-      | inr part ↦ absurd (is.written part.0)
+      | inl taken ↦ subst IsGood (sym taken.0) good
+      | inr cut ↦ absurd (is.written cut.0)
     ]

@@ -7,7 +7,6 @@ use Rattle.outside.specs.Views.{FolderView}
 use Rattle.outside.proofs.Moments.{started}
 use Rattle.outside.proofs.Steady.{sound_image, sound_tree}
 use Rattle.vault_keys.specs.Keys.{KeyPair}
-use Rattle.clap.specs.Words.{Text}
 use Rattle.deeds.specs.Deeds.{LogGoesOn}
 use Rattle.chunk_journal.specs.Opening.{IsDamagedAt, IsOpenable, LeavesFolder, StaysOpening}
 use Rattle.chunk_journal.proofs.Undamaged.{leaves_openable, leaves_since, never_answered, recovering_opens}
@@ -17,13 +16,13 @@ use Rattle.crash_laws.specs.Crash.{DiskShows}
 use Rattle.crash_laws.specs.Opening.{IsSoundlyFound}
 use Rattle.crash_laws.specs.Prefix.{IsCrashPrefix, StopsRecover}
 use Rattle.store_laws.specs.Store.{IsSaidFrom, shows_under}
-use Rattle.vault_words.specs.Jobs.{make}
+use Rattle.vault_words.specs.Jobs.{Making, make}
 use Rattle.vault_top.specs.declared.cause.Cause.{Cause}
 use Rattle.vault_top.specs.Words.{Ask}
-use Rattle.vault_top.specs.Span.{Given, Span, Views}
+use Rattle.vault_top.specs.Span.{Given, IsOnlyRead, Span, Views}
 use Rattle.vault_top.specs.Served.{HasStops}
 use Rattle.vault_top.specs.Opening.{HasDamagedJournal, IsUnopened}
-use Rattle.vault_top.specs.Ending.{Ending, refused, usage_said, version_said, made, no_memory_to_serve, served, listener_fault, closing_fault, no_memory_to_report, demonstrated, HasReason, IsRefused, IsUntouched}
+use Rattle.vault_top.specs.Ending.{Ending, refused, help_said, version_said, made, no_memory_to_serve, served, listener_fault, closing_fault, no_memory_to_report, only_read, whole, a_listener_failed, not_reported, not_shared, demonstrated, HasReason, IsRefused, IsUntouched}
 use Rattle.vault_top.specs.Stopped.{IsFoundOpenable, NewVaultsAreOpenable, KeepsOpenable, StoppedVaultsAreOpenable}
 use Rattle.vault_top.proofs.Stopped.{new_recovers, new_reopens}
 use Rattle.unlocking.specs.declared.from_folder.SecretKind.{SecretKind}
@@ -74,34 +73,44 @@ module _ (keys : KeyPair) (rows : Rows) (origin : Origin) (entries : List Entry)
   opened : (before after : FolderView) → HasStops keys rows origin entries before after → KeepsOpenable before.log after.log
   opened before after stops = told_stops before.log after.log stops.grown stops.recover
 
-module _ {C : Type 0} (span : Span C) (makes_none : (dir : Text) → Ask span.words (make dir) → ⊥) where
+module _ {C : Type 0} (span : Span C) (makes_none : (making : Making) → Ask span.words (make making) → ⊥) where
   abbrev Stays : Type 0
   Stays = KeepsOpenable span.given.folder.before.log span.given.folder.after.log
 
   untouched : IsUntouched span → Stays
   untouched is = still span.given.folder.before.log span.given.folder.after.log (ap (λ (v : FolderView). v.log) is.folder)
 
+  only_read_of : IsOnlyRead span.given.folder.before span.given.folder.after → Stays
+  only_read_of read = still span.given.folder.before.log span.given.folder.after.log read.log
+
   unopened : (kind : SecretKind) (cause : Cause) → IsUnopened span.given kind cause → Stays
   unopened kind cause is = elim is.why [
-    | inl read ↦ still span.given.folder.before.log span.given.folder.after.log read.1.log
+    | inl locked ↦ only_read_of locked.1
     | inr fails ↦ not_opened span.given.folder.before.log span.given.folder.after.log fails.stays
   ]
 
   not_done : (cause : Cause) → IsRefused span cause → Stays
   not_done cause (inl asked) = untouched asked.untouched
-  not_done cause (inr (inl unserved)) = unopened _ cause unserved.unopened
-  not_done cause (inr (inr making)) = absurd (makes_none making.dir making.words)
+  not_done cause (inr (inl unserved)) = elim unserved.unopened [
+    | inl writes ↦ unopened _ cause writes.1
+    | inr reads ↦ only_read_of reads.1.read
+  ]
+  not_done cause (inr (inr making)) = absurd (makes_none making.making making.words)
 
   pub stays_by : {D N E K : Type 0} (views : Views D N C E K) (ending : Ending) → HasReason views span ending → Stays
   stays_by views (refused cause) reason = not_done cause reason
-  stays_by views usage_said reason = untouched reason.1
+  stays_by views (help_said topic) reason = untouched reason.1
   stays_by views version_said reason = untouched reason.1
-  stays_by views made reason = absurd (makes_none reason.dir reason.words)
+  stays_by views made reason = absurd (makes_none reason.making reason.words)
   stays_by views no_memory_to_serve reason = opened reason.vault.keys reason.rows reason.origin [] _ _ reason.stops
   stays_by views (served ends) reason = let h = reason.0.sessions.history in opened _ h.rows h.origin h.entries _ _ h.stops
   stays_by views (listener_fault ends) reason = let h = reason.0.sessions.history in opened _ h.rows h.origin h.entries _ _ h.stops
   stays_by views (closing_fault ends) reason = let h = reason.0.sessions.history in opened _ h.rows h.origin h.entries _ _ h.stops
   stays_by views (no_memory_to_report ends) reason = let h = reason.0.sessions.history in opened _ h.rows h.origin h.entries _ _ h.stops
+  stays_by views (only_read (whole ends)) reason = only_read_of reason.sessions.readings.read
+  stays_by views (only_read (a_listener_failed ends)) reason = only_read_of reason.0.sessions.readings.read
+  stays_by views (only_read (not_reported ends)) reason = only_read_of reason.sessions.readings.read
+  stays_by views (only_read not_shared) reason = only_read_of reason.read
   stays_by views (demonstrated text) reason = untouched reason.untouched
 
 -- ---- what the next run answers

@@ -10,7 +10,7 @@ use Rattle.unlocking.specs.declared.refusal.Refusal.TheVariants as refusals
 use Rattle.vault_make.specs.declared.error.MakeErr.{MakeErr}
 use Rattle.vault_make.specs.declared.error.MakeErr.TheVariants as make_errs
 use Rattle.vault_top.specs.declared.cause.Cause.{Cause}
-use Rattle.vault_top.specs.declared.cause.Cause.TheVariants.{Words, Secret, KeyFiles, TooManyNodes, NoRoot, JournalDamaged, NotEmpty, FolderFault, SecretFault, RandomFault, Memory}
+use Rattle.vault_top.specs.declared.cause.Cause.TheVariants.{Words, Secret, KeyFiles, TooManyNodes, NoRoot, JournalDamaged, JournalOpen, NotEmpty, FolderFault, SecretFault, RandomFault, Memory}
 
 -- the line of the report, without its LF
 abbrev pub text_of : Cause → List ℕ
@@ -20,6 +20,7 @@ text_of (KeyFiles error) = keys.error_text error
 text_of TooManyNodes = codes "vault refused: too many nodes"
 text_of NoRoot = codes "vault refused: no root"
 text_of (JournalDamaged at) = codes "journal damaged at " ++ decimal at
+text_of JournalOpen = codes "journal open"
 text_of (NotEmpty name) = codes "not empty: " ++ name
 text_of FolderFault = codes "device fault: folder"
 text_of SecretFault = codes "device fault: secret"
@@ -34,6 +35,7 @@ status_of (KeyFiles error) = keys.status_of error
 status_of TooManyNodes = 3
 status_of NoRoot = 3
 status_of (JournalDamaged at) = 6
+status_of JournalOpen = 15
 status_of (NotEmpty name) = 8
 status_of FolderFault = 4
 status_of SecretFault = 4

@@ -15,3 +15,5 @@ pub mod Writing
 pub mod Serving
 pub mod Sound
 pub mod Stopped
+pub mod ReadOnly
+pub mod Viewing

@@ -18,6 +18,9 @@ use Rattle.crash_laws.specs.Opening.{IsSoundlyFound, OpeningRecovers}
 use Rattle.store_laws.specs.Store.{shows_under}
 use Rattle.store_laws.specs.Ends.{IsOpened}
 use Rattle.vault_store.specs.Open.{OpenVault}
+use Rattle.vault_store.specs.ReadOnly.{HasOpenedToRead, HasRefusedToRead, ReadOnlyVault}
+use Rattle.vault_store.specs.declared.read_only.ReadOnlyErr.{ReadOnlyErr}
+use Rattle.vault_store.specs.declared.read_only.ReadOnlyErr.TheVariants.{JournalOpen, NotOpened}
 use Rattle.vault_store.specs.declared.opening.OpenErr.{OpenErr}
 use Rattle.vault_store.specs.declared.opening.OpenErr.TheVariants as open_errs
 use Rattle.vault_top.specs.Causes.{of_refusal}
@@ -66,6 +69,11 @@ of_opening (open_errs.TooMany n) = causes.TooManyNodes
 of_opening open_errs.NoRoot = causes.NoRoot
 of_opening open_errs.Memory = causes.Memory
 
+-- the same of one that is only to be read, which may have a journal that is open
+abbrev pub of_reading : ReadOnlyErr → Cause
+of_reading JournalOpen = causes.JournalOpen
+of_reading (NotOpened error) = of_opening error
+
 -- the vault isn't unlocked, for this cause
 pub record FailsToUnlock (given : Given) (kind : SecretKind) (cause : Cause) : Type 0 where
   pub refusal : Refusal
@@ -87,6 +95,27 @@ pub record FailsToOpen (given : Given) (kind : SecretKind) (cause : Cause) : Typ
 pub record IsUnopened (given : Given) (kind : SecretKind) (cause : Cause) : Type 0 where
   pub why : (FailsToUnlock given kind cause × IsOnlyRead given.folder.before given.folder.after) ⊎ FailsToOpen given kind cause
   pub later : given.folder.before.faults ≤ given.folder.after.faults
+
+-- the vault is unlocked, but isn't opened to be read, for this cause
+pub record FailsToRead (given : Given) (kind : SecretKind) (cause : Cause) : Type 0 where
+  pub vault : UnlockedVault
+  pub unlocked : IsUnlocked given kind vault
+  pub error : ReadOnlyErr
+  pub is : cause ≡ of_reading error
+  pub refused : HasRefusedToRead given.folder.before given.folder.after vault.keys error
+
+-- why nothing is read from the folder, of which nothing was changed
+pub record IsUnread (given : Given) (kind : SecretKind) (cause : Cause) : Type 0 where
+  pub why : FailsToUnlock given kind cause ⊎ FailsToRead given kind cause
+  pub read : IsOnlyRead given.folder.before given.folder.after
+
+-- the vault was opened to be read at the clock's second, under the keys that were unlocked
+pub record IsUnlockedToRead {D : Type 0} (view : D → FolderView) (given : Given) (kind : SecretKind) (folder : D) (vault : ReadOnlyVault D) : Type 0 where
+  pub unlocked_vault : UnlockedVault
+  pub unlocked : IsUnlocked given kind unlocked_vault
+  pub now : ℕ
+  pub second : Told given.second (λ second. now ≡ second)
+  pub opened : HasOpenedToRead (view folder) (view vault.folder) unlocked_vault.keys now vault.tree
 
 -- the store was opened at the clock's second, under the keys and with the threshold of the unlocked vault, over the folder as unlocking left it
 pub record IsUnlockedStore {D : Type 0} (view : D → FolderView) (given : Given) (kind : SecretKind) (folder : D) (store : OpenVault D) : Type 0 where

@@ -1,6 +1,6 @@
 -- What the program is given that is sound, that nothing failed, and what it comes to. To serve, the words ask for it, and secret and disk are told, of which
 -- the one unlocks the other; to make, the words ask for it, and the secret has a password and the folder is empty, both told.
-use Rattle.std.specs.Prelude.{◌≡◌, ◌⊎◌, ℕ, List, [], ◌∷◌, take, Option, Some, Ok, IsSome, IsSomeAnd, ⊤}
+use Rattle.std.specs.Prelude.{◌≡◌, ◌⊎◌, ℕ, List, [], ◌∷◌, take, true, Option, Some, Ok, IsSome, IsSomeAnd, ⊤}
 use Rattle.std.specs.List.{AllByRecursion}
 use Rattle.outside.specs.Calls.{Rose, Told}
 use Rattle.outside.specs.Disk.{Disk, Path, IsFolder}
@@ -23,8 +23,8 @@ use Rattle.masterkey_file.specs.Password.{password_of}
 use Rattle.unlocking.specs.FromFiles.{UnlockedVault}
 use Rattle.unlocking.specs.FromFolder.{unlock_on}
 use Rattle.unlocking.specs.declared.from_folder.SecretKind.{SecretKind}
-use Rattle.vault_words.specs.Jobs.{Serving, Demonstration, serve, make, demo}
-use Rattle.chunk_journal.specs.Journal.{IsAlike, RecoversTo}
+use Rattle.vault_words.specs.Jobs.{Making, Serving, Demonstration, serve, make, demo}
+use Rattle.chunk_journal.specs.Journal.{IsAlike, IsClosed, RecoversTo}
 use Rattle.chunk_journal.specs.Opening.{IsDamagedAt, LeavesFolder}
 use Rattle.vault_make.specs.Vault.{IsEmpty}
 use Rattle.tree_loading.specs.Clear.{HasTooMany, root_folder}
@@ -32,9 +32,10 @@ use Rattle.vault_top.specs.declared.cause.Cause.TheVariants.{Words, Memory}
 use Rattle.vault_top.specs.Words.{Ask, kind_of}
 use Rattle.vault_top.specs.Span.{Course, SourceView, SinkView, Views, WorkerSpan, Span, span_of}
 use Rattle.vault_top.specs.Served.{Share, HasHistory}
+use Rattle.vault_top.specs.ReadOnly.{AreSteppedReadings, HasReadings}
 use Rattle.outside_mem.specs.Links.{Ends}
 use Rattle.vault_top.specs.Demonstrated.{own_span, own_views}
-use Rattle.vault_top.specs.Ending.{Ending, refused, usage_said, version_said, made, no_memory_to_serve, served, listener_fault, closing_fault, no_memory_to_report, demonstrated, SomeFailed, IsDemonstration, HasReason, HasRun}
+use Rattle.vault_top.specs.Ending.{Ending, refused, help_said, version_said, made, no_memory_to_serve, served, listener_fault, closing_fault, no_memory_to_report, only_read, whole, a_listener_failed, not_reported, not_shared, demonstrated, SomeFailed, IsDemonstration, HasReason, HasRun}
 use Rattle.shared_tree.specs.declared.workers.Worker.{Worker}
 use Rattle.vault_top.specs.declared.program.Ended.{Ended}
 
@@ -52,6 +53,8 @@ pub record IsSound {C : Type 0} (span : Span C) : Type 0 where
   pub words : Ask span.words (serve serving)
   pub vault : IsSomeAnd span.given.secret.before.left (λ secret.
       IsSomeAnd (disk_in span.given.folder.before.log) (IsVaultFor (kind_of serving) secret))
+  -- what is only to be read has nothing to be done first
+  pub closed : serving.read_only ≡ true → IsSomeAnd (disk_in span.given.folder.before.log) IsClosed
 
 -- no count of faults rose
 pub record IsFaultless {C : Type 0} (span : Span C) : Type 0 where
@@ -62,7 +65,7 @@ pub record IsFaultless {C : Type 0} (span : Span C) : Type 0 where
 -- the vault was served, or memory ran out
 abbrev pub IsServedOrFull : Ending → Type 0
 IsServedOrFull (refused cause) = cause ≡ Memory
-IsServedOrFull usage_said = ⊥
+IsServedOrFull (help_said topic) = ⊥
 IsServedOrFull version_said = ⊥
 IsServedOrFull made = ⊥
 IsServedOrFull no_memory_to_serve = ⊤
@@ -70,13 +73,17 @@ IsServedOrFull (served ends) = ⊤
 IsServedOrFull (listener_fault ends) = ⊥
 IsServedOrFull (closing_fault ends) = ⊥
 IsServedOrFull (no_memory_to_report ends) = ⊤
+IsServedOrFull (only_read (whole ends)) = ⊤
+IsServedOrFull (only_read (a_listener_failed ends)) = ⊥
+IsServedOrFull (only_read (not_reported ends)) = ⊤
+IsServedOrFull (only_read not_shared) = ⊤
 IsServedOrFull (demonstrated text) = ⊥
 
 -- ---- making
 
 pub record IsSoundToMake {C : Type 0} (span : Span C) : Type 0 where
-  pub dir : Text
-  pub words : Ask span.words (make dir)
+  pub making : Making
+  pub words : Ask span.words (make making)
   pub secret : IsSomeAnd span.given.secret.before.left (λ secret. IsSome (password_of secret))
   pub empty : IsSomeAnd span.given.folder.before.log (λ log. IsEmpty (now log))
 
@@ -88,7 +95,7 @@ SomeRandomFailed (worker ∷ workers) = Rose worker.entropy.before.faults worker
 -- the vault was made, or memory ran out
 abbrev pub IsMadeOrFull : Ending → Type 0
 IsMadeOrFull (refused cause) = cause ≡ Memory
-IsMadeOrFull usage_said = ⊥
+IsMadeOrFull (help_said topic) = ⊥
 IsMadeOrFull version_said = ⊥
 IsMadeOrFull made = ⊤
 IsMadeOrFull no_memory_to_serve = ⊥
@@ -96,6 +103,7 @@ IsMadeOrFull (served ends) = ⊥
 IsMadeOrFull (listener_fault ends) = ⊥
 IsMadeOrFull (closing_fault ends) = ⊥
 IsMadeOrFull (no_memory_to_report ends) = ⊥
+IsMadeOrFull (only_read reading) = ⊥
 IsMadeOrFull (demonstrated text) = ⊥
 
 -- ---- demonstrating
@@ -103,7 +111,7 @@ IsMadeOrFull (demonstrated text) = ⊥
 -- a demonstration was held, or memory ran out
 abbrev pub IsHeldOrFull : Ending → Type 0
 IsHeldOrFull (refused cause) = cause ≡ Memory
-IsHeldOrFull usage_said = ⊥
+IsHeldOrFull (help_said topic) = ⊥
 IsHeldOrFull version_said = ⊥
 IsHeldOrFull made = ⊥
 IsHeldOrFull no_memory_to_serve = ⊥
@@ -111,6 +119,7 @@ IsHeldOrFull (served ends) = ⊥
 IsHeldOrFull (listener_fault ends) = ⊥
 IsHeldOrFull (closing_fault ends) = ⊥
 IsHeldOrFull (no_memory_to_report ends) = ⊥
+IsHeldOrFull (only_read reading) = ⊥
 IsHeldOrFull (demonstrated text) = ⊤
 
 -- ---- a whole run
@@ -131,7 +140,7 @@ pub record IsSoundRun {D N C E K : Type 0} (views : Views D N C E K) (words : Li
 -- the words were bad, or memory ran out
 abbrev pub IsBadOrFull : Ending → Type 0
 IsBadOrFull (refused cause) = (cause ≡ Words) ⊎ (cause ≡ Memory)
-IsBadOrFull usage_said = ⊥
+IsBadOrFull (help_said topic) = ⊥
 IsBadOrFull version_said = ⊥
 IsBadOrFull made = ⊥
 IsBadOrFull no_memory_to_serve = ⊥
@@ -139,6 +148,7 @@ IsBadOrFull (served ends) = ⊥
 IsBadOrFull (listener_fault ends) = ⊥
 IsBadOrFull (closing_fault ends) = ⊥
 IsBadOrFull (no_memory_to_report ends) = ⊥
+IsBadOrFull (only_read reading) = ⊥
 IsBadOrFull (demonstrated text) = ⊥
 
 -- ---- sessions and replies
@@ -168,6 +178,12 @@ pub record IsServedSoundly {C : Type 0} (view : C → LinkView) {span : Span C} 
   pub rightly : Told span.given.folder.after.log (AreRightlyTaken keys history.rows history.origin history.entries)
   pub sessions : AllByRecursion (λ share. AllByRecursion (IsServedOut view) share.links) shares
 
+-- the same of a vault that was only read: each request that changes nothing was answered as the step says, or that memory ran out where it may; and each session was
+-- served out
+pub record IsReadSoundly {C : Type 0} (view : C → LinkView) {span : Span C} {keys : KeyPair} {shares : List (Share C)} (readings : HasReadings span keys shares) : Type 0 where
+  pub stepped : AreSteppedReadings readings.rows readings.entries
+  pub sessions : AllByRecursion (λ share. AllByRecursion (IsServedOut view) share.links) shares
+
 -- no count of faults of the folder or of a random source rose
 pub record HasNoFault {C : Type 0} (span : Span C) : Type 0 where
   pub folder : Rose span.given.folder.before.faults span.given.folder.after.faults → ⊥
@@ -184,7 +200,7 @@ IsHeldSoundly span text is = HasNoFault (held_span span text is) → IsServedSou
 -- of a run that served a vault, that of a demonstration among them, whatever became of its report
 abbrev pub HasServedSoundly : {D N C E K : Type 0} (views : Views D N C E K) (span : Span C) (ending : Ending) → HasReason views span ending → Type 0
 HasServedSoundly views span (refused cause) reason = ⊤
-HasServedSoundly views span usage_said reason = ⊤
+HasServedSoundly views span (help_said topic) reason = ⊤
 HasServedSoundly views span version_said reason = ⊤
 HasServedSoundly views span made reason = ⊤
 HasServedSoundly views span no_memory_to_serve reason = ⊤
@@ -192,4 +208,8 @@ HasServedSoundly views span (served ends) reason = IsServedSoundly views.link re
 HasServedSoundly views span (listener_fault ends) reason = ⊤
 HasServedSoundly views span (closing_fault ends) reason = ⊤
 HasServedSoundly views span (no_memory_to_report ends) reason = IsServedSoundly views.link reason.0.sessions.history
+HasServedSoundly views span (only_read (whole ends)) reason = IsReadSoundly views.link reason.sessions.readings
+HasServedSoundly views span (only_read (a_listener_failed ends)) reason = ⊤
+HasServedSoundly views span (only_read (not_reported ends)) reason = IsReadSoundly views.link reason.sessions.readings
+HasServedSoundly views span (only_read not_shared) reason = ⊤
 HasServedSoundly views span (demonstrated text) reason = IsHeldSoundly span text reason

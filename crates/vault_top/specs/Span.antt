@@ -1,5 +1,5 @@
 -- What a run of the program is given and what it leaves.
-use Rattle.std.specs.Prelude.{◌≡◌, ℕ, ◌≤◌, List, Option}
+use Rattle.std.specs.Prelude.{ℕ, List, Option}
 use Rattle.outside.specs.declared.folder.Reads as reads
 use Rattle.outside.specs.declared.entropy.Entropy as entropies
 use Rattle.outside.specs.declared.link.Listener as listeners
@@ -12,6 +12,7 @@ pub use Rattle.session_server.specs.Shares.{Course, course, WorkerSpan}
 use Rattle.shared_tree.specs.Workers as workers
 use Rattle.shared_tree.specs.declared.workers.Worker.{Worker}
 use Rattle.vault_store.specs.Open.{ClosedVault}
+pub use Rattle.vault_store.specs.ReadOnly.{IsOnlyRead}
 
 -- the bytes that are left of a source, and its faults
 pub record SourceView : Type 0 where
@@ -53,8 +54,8 @@ pub record Given : Type 0 where
   pub folder : Course FolderView
   pub second : Option ℕ
 
--- the words after the program's name, what a vault is unlocked by, the workers, and the closed store that is handed back, if a vault was served, that
--- of a demonstration among them
+-- the words after the program's name, what a vault is unlocked by, the workers, and the closed store that is handed back, if a vault was served that
+-- could be changed, that of a demonstration among them
 pub record Span (C : Type 0) : Type 0 where
   pub words : List (List ℕ)
   pub given : Given
@@ -80,9 +81,3 @@ span_of views words secret second folder kept workers workers' closed = record {
   workers = worker_spans views workers workers';
   closed = closed;
 }
-
--- a folder that was only read since
-pub record IsOnlyRead (old new : FolderView) : Type 0 where
-  pub log : new.log ≡ old.log
-  pub changes : new.changes ≡ old.changes
-  pub faults : old.faults ≤ new.faults

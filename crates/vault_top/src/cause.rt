@@ -24,6 +24,8 @@ pub enum Cause {
     NoRoot,
     /// The journal that a stop left in the folder is damaged, at this place of its file in bytes.
     JournalDamaged(u64),
+    /// The journal holds a batch that a stop left and that is to be done, and the vault was only to be read.
+    JournalOpen,
     /// The folder isn't empty, in which a vault was to be made: this is its first entry, by the order of the names' bytes.
     NotEmpty(Text),
     /// The folder's count of faults rose.
@@ -87,7 +89,7 @@ impl From<MakeErr> for Cause {
 
 impl Cause {
     /// The program's exit status: 1 for the words, 2 for the secret and the password, 3 for the vault, 4 for a fault, 5 for memory,
-    /// 6 for a damaged journal, and 8 for a folder that isn't empty.
+    /// 6 for a damaged journal, 8 for a folder that isn't empty, and 15 for a journal that is open.
     pub fn status(&self) -> u8
         ensures { result ≡ status_of self.now }
     {
@@ -100,6 +102,7 @@ impl Cause {
             Cause::Memory => 5,
             Cause::JournalDamaged(_) => 6,
             Cause::NotEmpty(_) => 8,
+            Cause::JournalOpen => 15,
         }
     }
 
@@ -117,6 +120,7 @@ impl Cause {
                 head: "journal damaged at ",
                 detail: digits.format(*at).as_bytes(),
             },
+            Cause::JournalOpen => whole("journal open"),
             Cause::NotEmpty(name) => Line {
                 head: "not empty: ",
                 detail: name.as_bytes(),

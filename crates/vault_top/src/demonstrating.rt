@@ -68,6 +68,7 @@ pub(crate) fn demonstrate<R: Threads + Wait + Sync>(
         kind: SecretKind::RawKeys,
         sessions: scripts.clients,
         at_once: scripts.clients,
+        read_only: false,
     };
     let kept = hold_sessions::<R, MemFolder, Brand, MemListener, SeedEntropy, MemSource, SetClock>(
         rt,

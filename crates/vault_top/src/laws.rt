@@ -1,7 +1,6 @@
-ghost use Rattle.std.specs.Prelude.{◌≡◌, ◌⊎◌, ℕ, List, Option, Some, IsSome};
+ghost use Rattle.std.specs.Prelude.{◌≡◌, ◌⊎◌, ℕ, List, true, Option, Some, IsSome};
 ghost use Rattle.outside.specs.Disk.{Disk, IsTree};
 ghost use Rattle.outside.specs.Images.{Log, now};
-ghost use Rattle.clap.specs.Words.{Text};
 ghost use Rattle.chunk_journal.specs.Opening.{IsOpenable};
 ghost use Rattle.clear_tree.specs.Laws.{root_rows};
 ghost use Rattle.tree_loading.specs.Clear.{IsClear};
@@ -9,10 +8,10 @@ ghost use Rattle.vault_make.specs.Draws.{NewSecrets};
 ghost use Rattle.vault_make.specs.Vault.{IsNewVault};
 ghost use Rattle.shared_tree.specs.declared.workers.Worker.{Worker};
 ghost use Rattle.vault_top.specs.declared.program.Ended.{Ended};
-ghost use Rattle.vault_top.specs.Span.{Course, SourceView, SinkView, Given, Views, Span};
+ghost use Rattle.vault_top.specs.Span.{Course, SourceView, SinkView, Given, Views, Span, IsOnlyRead};
 ghost use Rattle.vault_top.specs.Opening.{HasDamagedJournal};
 ghost use Rattle.vault_top.specs.Ending.{Ending, IsDemonstration, HasReason};
-ghost use Rattle.vault_words.specs.Jobs.{Demonstration, demo, make};
+ghost use Rattle.vault_words.specs.Jobs.{Demonstration, Making, Serving, demo, make, serve};
 ghost use Rattle.vault_top.specs.Words.{Ask, AreRefused};
 ghost use Rattle.vault_top.specs.Sound.{IsSound, IsSoundRun, IsSoundToMake, IsFaultless, IsServedOrFull, IsMadeOrFull, IsHeldOrFull, IsBadOrFull, SomeRandomFailed, IsHeldSoundly, HasServedSoundly};
 ghost use Rattle.vault_top.specs.Stopped.{NewVaultsAreOpenable, NewVaultsAreSound, KeepsOpenable, KilledVaultsAreFlushed, StoppedVaultsAreOpenable, StoppedVaultsAreSound, TidyLogsAreFlushed, UnopenedVaultsAreFlushed, UnopenedVaultsAreSound};
@@ -35,9 +34,9 @@ pub fn a_sound_run_ends_with_0_or_5<D: Folder, N: Listener, E: Entropy, K: Clock
 {}
 
 /// If a vault was served, the folder tells and nothing failed, each request was answered as the step says, unless a place is taken or memory runs out where
-/// it may; if no directory of the vault held foreign entries, a place that is taken is the long one of another name, or one of the identifier that was drawn
-/// for a new directory; and each session of whole messages, over a link that never failed, was done, or memory ran out before it read anything. It does
-/// nothing.
+/// it may, and of one that was served read-only each that changes nothing; if no directory of the vault held foreign entries, a place that is taken is the long
+/// one of another name, or one of the identifier that was drawn for a new directory; and each session of whole messages, over a link that never failed, was
+/// done, or memory ran out before it read anything. It does nothing.
 pub fn a_sound_run_answers_as_the_step<D: Folder, N: Listener, E: Entropy, K: Clock>()
     ensures { (views : Views D N N.Conn E K) (span : Span N.Conn) (ending : Ending) (reason : HasReason views span ending)
         → IsSome span.given.folder.before.log → IsFaultless span → (SomeRandomFailed span.workers → ⊥) → HasServedSoundly views span ending reason }
@@ -72,7 +71,7 @@ pub fn a_stopped_vault_is_soundly_found()
 /// a new one. It does nothing.
 pub fn no_stop_damages_a_journal<D: Folder, N: Listener, E: Entropy, K: Clock>()
     ensures run { (views : Views D N N.Conn E K) (span : Span N.Conn) (ending : Ending) → HasReason views span ending
-        → ((dir : Text) → Ask span.words (make dir) → ⊥) → KeepsOpenable span.given.folder.before.log span.given.folder.after.log }
+        → ((making : Making) → Ask span.words (make making) → ⊥) → KeepsOpenable span.given.folder.before.log span.given.folder.after.log }
     ensures next { (given : Given) (log : Log) (at : ℕ) → given.folder.before.log ≡ Some log → IsOpenable (now log)
         → HasDamagedJournal given at → ⊥ }
     ensures stopped { StoppedVaultsAreOpenable }
@@ -97,6 +96,13 @@ pub fn a_demonstration_is_held<D: Folder, N: Listener, E: Entropy, K: Clock>()
 /// memory runs out where it may, and each client's session was served out. What the program was given beside the words doesn't matter. It does nothing.
 pub fn a_demonstration_answers_as_the_step<N: Listener>()
     ensures { (span : Span N.Conn) (text : List ℕ) (is : IsDemonstration span text) → IsHeldSoundly span text is }
+{}
+
+/// If the words ask for a vault to be served read-only, nothing of its folder is changed, whatever the run comes to: its count of changing calls stays, and so does its
+/// log. It does nothing.
+pub fn a_read_only_run_changes_nothing<D: Folder, N: Listener, E: Entropy, K: Clock>()
+    ensures { (views : Views D N N.Conn E K) (span : Span N.Conn) (ending : Ending) (serving : Serving) → Ask span.words (serve serving) → serving.read_only ≡ true
+        → HasReason views span ending → IsOnlyRead span.given.folder.before span.given.folder.after }
 {}
 
 /// If the words are refused, the program's ending is that they are bad, or that memory ran out: so the status is 1 if and only if they

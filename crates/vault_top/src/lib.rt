@@ -13,6 +13,8 @@
 //! # Jobs
 //!
 //! Does the job that the command line names: serves a vault, makes one, holds a demonstration, or says how the program is called.
+//! A vault is served for so many sessions as the words say, or else for 4,294,967,295. Of one that is served read-only nothing in its folder is changed: its
+//! requests are answered over a folder that by its type can only be read, and a vault whose journal is open is refused.
 //!
 //! ```
 //! let ended = run(&rt, rt.alloc(), &words, folder, &mut workers, &mut secret, &mut out, &clock, &gate);
@@ -32,14 +34,16 @@ mod report;
 mod serving;
 mod task;
 mod vault;
+mod viewing;
 
 pub use cause::Cause;
 pub use laws::{
     a_demonstration_answers_as_the_step, a_demonstration_is_held, a_new_vault_is_its_root,
-    a_sound_run_answers_as_the_step, a_sound_run_ends_with_0_or_5, a_sound_vault_is_served,
-    a_stopped_vault_is_soundly_found, an_empty_folder_becomes_a_vault, no_stop_damages_a_journal,
-    refused_words_are_bad,
+    a_read_only_run_changes_nothing, a_sound_run_answers_as_the_step, a_sound_run_ends_with_0_or_5,
+    a_sound_vault_is_served, a_stopped_vault_is_soundly_found, an_empty_folder_becomes_a_vault,
+    no_stop_damages_a_journal, refused_words_are_bad,
 };
 pub use line::Line;
-pub use program::{Ended, report_no_socket, run};
+pub use program::{Ended, report_in_use, report_no_socket, run};
+pub use report::report as report_text;
 pub use shared_tree::Worker;

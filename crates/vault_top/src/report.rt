@@ -32,7 +32,7 @@ pub(crate) fn write_all<O: Sink>(out: &mut O, bytes: &[u8]) -> Result<(), Failed
 }
 
 /// Writes a text of the report, and returns the program's status: `whole`, or `cut` if the sink failed.
-pub(crate) fn report<O: Sink>(out: &mut O, text: &[u8], whole: u8, cut: u8) -> u8
+pub fn report<O: Sink>(out: &mut O, text: &[u8], whole: u8, cut: u8) -> u8
     ensures written { IsWritten (Rose (O.faults out.old) (O.faults out.new)) (O.taken out.old) (O.taken out.new) text.now whole cut result }
     ensures faults { O.faults out.old ≤ O.faults out.new }
 {

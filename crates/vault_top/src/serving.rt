@@ -104,8 +104,8 @@ where
     }
 }
 
-// How many of so many workers share the sessions.
-fn sharers(at_once: u32, workers: usize) -> usize
+/// How many of so many workers share the sessions.
+pub(crate) fn sharers(at_once: u32, workers: usize) -> usize
     ensures { result ≡ min at_once workers }
 {
     workers.min(at_once as usize)

@@ -1,22 +1,27 @@
 //! What the words after the program's name ask for.
 
 ghost use Rattle.std.specs.Prelude.{◌≡◌, MatchOption, IfOk, IfErr};
-ghost use Rattle.vault_words.specs.Read.{job_data};
+ghost use Rattle.vault_words.specs.Jobs.{serve};
+ghost use Rattle.vault_words.specs.Read.{job_data, serving_data};
 ghost use Rattle.vault_top.specs.Words.{IsOffered, kind_where, words_of};
-ghost use Rattle.vault_top.specs.Tasks.{AskTask, IsTaskOf, IsWithin, IsWordsCause};
+ghost use Rattle.vault_top.specs.Tasks.{AskTask, IsServiceOf, IsTaskOf, IsWithin, IsWordsCause};
 
 use std::alloc::Global;
 use unlocking::SecretKind;
-use vault_words::{Job, WordsErr, read_words};
+use vault_words::{Job, Serving, Topic, WordsErr, read_words};
 
-/// What is served: a vault that a secret of this kind unlocks, over the links of the workers' listeners. There are so many sessions, 1 to 1,000,000,
-/// of which so many are served at once, 1 to 64.
+/// What is served: a vault that a secret of this kind unlocks, over the links of the workers' listeners, be it only to be read. There are so many sessions,
+/// 1 to 2^32 - 1, of which so many are served at once, 1 to 64.
 #[derive(Clone, Copy, Debug, PartialEq, Eq)]
 pub(crate) struct Service {
     pub kind: SecretKind,
     pub sessions: u32,
     pub at_once: u32,
+    pub read_only: bool,
 }
+
+// How many sessions are served if the words don't say it: the most that are counted.
+const MOST_SESSIONS: u64 = u32::MAX as u64;
 
 /// What is demonstrated: the scripts of so many clients, 1 to 64, each of so many requests, drawn from this seed.
 #[derive(Clone, Copy, Debug, PartialEq, Eq)]
@@ -36,7 +41,7 @@ pub(crate) enum Task {
     /// Serves clients' scripts on a vault in memory.
     Demo(Scripts),
     /// Says how the program is called.
-    Usage,
+    Help(Topic),
     /// Says its version.
     Version,
 }
@@ -56,23 +61,13 @@ fn task_of(job: Job<'_>) -> Option<Task>
         (λ task. IsOffered (job_data job.entry) × IsTaskOf (job_data job.entry) task) }
 {
     match job {
-        Job::Serve {
-            address,
-            sessions,
-            at_once,
-            raw_key,
-            ..
-        } => {
-            if address.is_empty() {
+        Job::Serve(serving) => {
+            if serving.address.is_empty() {
                 return None;
             }
-            Some(Task::Serve(Service {
-                kind: kind_of(raw_key),
-                sessions: sessions as u32,
-                at_once: at_once as u32,
-            }))
+            Some(Task::Serve(service_of(&serving)))
         }
-        Job::Make { .. } => Some(Task::Make),
+        Job::Make(_) => Some(Task::Make),
         Job::Demo {
             seed,
             clients,
@@ -82,8 +77,21 @@ fn task_of(job: Job<'_>) -> Option<Task>
             clients: clients as u32,
             requests: requests as u32,
         })),
-        Job::Help => Some(Task::Usage),
+        Job::Sync { .. } => None,
+        Job::Help(topic) => Some(Task::Help(topic)),
         Job::Version => Some(Task::Version),
+    }
+}
+
+fn service_of(serving: &Serving<'_>) -> Service
+    requires within { IsWithin (serve (serving_data serving.now)) }
+    ensures { IsServiceOf (serving_data serving.now) result }
+{
+    Service {
+        kind: kind_of(serving.raw_key),
+        sessions: serving.sessions.unwrap_or(MOST_SESSIONS) as u32,
+        at_once: serving.at_once as u32,
+        read_only: serving.read_only,
     }
 }
 

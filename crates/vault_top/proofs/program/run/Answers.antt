@@ -1,10 +1,12 @@
-use Rattle.std.proofs.Common.{Option, refl, sym, subst, inl, inr}
+use Rattle.std.proofs.Common.{◌≡◌, false, Option, refl, sym, subst, ◌∙◌, inl, inr, rules}
 use Rattle.std.specs.Prelude.{IsSome}
 use Rattle.outside.specs.Calls.{next_of}
 use Rattle.vault_store.specs.Open.{ClosedVault}
 use Rattle.vault_top.specs.declared.cause.Cause.TheVariants.{Words, Memory}
+use Rattle.vault_top.specs.declared.task.Task.TheVariants.{Serve}
+use Rattle.vault_top.specs.Tasks.{AskTask}
 use Rattle.vault_top.specs.Words.{words_of}
-use Rattle.vault_top.specs.Ending.{usage_said, version_said, demonstrated}
+use Rattle.vault_top.specs.Ending.{help_said, version_said, demonstrated}
 use Rattle.vault_top.proofs.Written.{written_as}
 use Rattle.vault_top.proofs.Reasons.{run_untouched, run_badly_asked}
 use Rattle.vault_top.proofs.program.run.Goals as goal
@@ -15,19 +17,31 @@ serve-requires-clause-start g c κs within = record { all = λ rows origin h. h;
 pub serve-requires-clause-since : goal.serve-requires-clause-since
 serve-requires-clause-since g c κs within = record { all = λ start keys rows h. h; only = λ start keys rows h. h }
 
+pub serve_to_read-requires-clause-start : goal.serve_to_read-requires-clause-start
+serve_to_read-requires-clause-start g c κs within = record { all = λ rows origin h. h; only = λ rows origin h. h }
+
+pub serve_to_read-requires-clause-since : goal.serve_to_read-requires-clause-since
+serve_to_read-requires-clause-since g c κs within = record { all = λ start keys rows h. h; only = λ start keys rows h. h }
+
 pub returns-in-Ok-Serve : goal.returns-in-Ok-Serve
 returns-in-Ok-Serve g c =
     let asked = rw c.in-Ok-Serve.field-0-is at c.in-Ok-Serve.ensures.task in
-    record { run = c.serve.ensures (words_of c.args.words.now) asked.0 asked.1 asked.2 }
+    record { run = c.serve_to_read.ensures (words_of c.args.words.now) asked.0 asked.1 (sym asked.2.read_only ∙ c.if-service.true) asked.2 }
+
+pub returns-in-Ok-Serve-2 : goal.returns-in-Ok-Serve-2
+returns-in-Ok-Serve-2 g c =
+    let asked : AskTask (words_of c.args.words.now) (Serve c.in-Ok-Serve.service) = search rules in
+    let read_only : asked.0.read_only ≡ false = cc (asked.2.read_only, c.if-service.false) in
+    record { run = c.serve.ensures (words_of c.args.words.now) asked.0 asked.1 read_only asked.2 }
 
 pub returns-in-Ok-Make : goal.returns-in-Ok-Make
 returns-in-Ok-Make g c =
     let asked = rw c.in-Ok-Make.field-0-is at c.in-Ok-Make.ensures.task in
     record { run = c.make.ensures (words_of c.args.words.now) asked.0 (next_of (g.K.Clock.to_give c.args.clock.now)) asked.1 }
 
-pub returns-in-Ok-Usage : goal.returns-in-Ok-Usage
-returns-in-Ok-Usage g c = record {
-  run = run_untouched usage_said refl refl (λ untouched. (rw c.in-Ok-Usage.field-0-is at c.in-Ok-Usage.ensures.task, untouched)) (written_as _ _ _ _ _ 0 4 c.report.result c.as_bytes.ensures.value c.report.ensures.written);
+pub returns-in-Ok-Help : goal.returns-in-Ok-Help
+returns-in-Ok-Help g c = record {
+  run = run_untouched (help_said c.in-Ok-Help.topic) refl refl (λ untouched. (rw c.in-Ok-Help.field-0-is at c.in-Ok-Help.ensures.task, untouched)) (written_as _ _ _ _ _ 0 4 c.report.result (c.as_bytes.ensures.value ∙ c.help_text.ensures) c.report.ensures.written);
 }
 
 pub returns-in-Ok-Version : goal.returns-in-Ok-Version

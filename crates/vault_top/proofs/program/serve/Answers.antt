@@ -1,4 +1,4 @@
-use Rattle.std.proofs.Common.{refl}
+use Rattle.std.proofs.Common.{refl, inl}
 use Rattle.vault_top.proofs.Begun.{begun, begun_since}
 use Rattle.vault_top.proofs.Reasons.{run_served, run_unserved}
 use Rattle.vault_top.proofs.program.serve.Goals as goal
@@ -10,18 +10,21 @@ pub serve_vault-requires-clause-since : goal.serve_vault-requires-clause-since
 serve_vault-requires-clause-since g c κs within = begun_since c.requires.start
 
 pub returns-in-Ok : goal.returns-in-Ok
-returns-in-Ok g c = λ words serving asked same.
+returns-in-Ok g c = λ words serving asked writes same.
     run_served (record {
-      serving = serving;
-      asked = asked;
-      same = same;
-      beginning = record { starts = c.requires.start; alone = c.requires.since; line = c.in-Ok.ensures.opened.unlocked.line };
+      asked = record {
+        serving = serving;
+        words_are = asked;
+        same = same;
+        beginning = record { starts = c.requires.start; alone = c.requires.since; line = c.in-Ok.ensures.opened.unlocked.line };
+      };
+      writes = writes;
       store = c.in-Ok.store;
       unlocked = c.in-Ok.ensures.opened;
     }) c.serve_vault.ensures.served
 
 pub returns-in-Err : goal.returns-in-Err
-returns-in-Err g c = λ words serving asked same.
+returns-in-Err g c = λ words serving asked writes same.
     run_unserved (record {
       serving = serving;
       service = _;
@@ -31,6 +34,6 @@ returns-in-Err g c = λ words serving asked same.
       same = same;
       folder_is = refl;
       store_is = refl;
-      unopened = c.in-Err.ensures.unopened;
+      unopened = inl (writes, c.in-Err.ensures.unopened);
       reported = c.refuse.ensures;
     })
