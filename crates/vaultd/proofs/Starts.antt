@@ -1,17 +1,30 @@
--- The program's run at a socket, with the workers that serve its clients.
-use Rattle.std.proofs.Common.{◌≡◌, ℕ, List, subst}
+-- Runs of the program on a folder of which something is known, and with a known count of workers.
+use Rattle.std.proofs.Common.{◌≡◌, ℕ, List, sym, subst}
 use Rattle.vault_top.specs.Span.{SinkView, Views}
-use Rattle.vaultd.specs.Starting.{IsRunOf, workers_for}
+use Rattle.vaultd.specs.Starting.{IsOverStreams, IsRunOf}
+use Rattle.vaultd.specs.declared.starting.Started.{Started}
 
--- a run with as many workers as serve so many clients at once
-pub record IsRunFor {D N C E K O : Type 0} (views : Views D N C E K) (base_of : D → List ℕ) (IsNew : N → Type 0)
-    (sink_of : O → SinkView) (words : List (List ℕ)) (path : List ℕ) (at_once status : ℕ) : Type 0 where
-  pub count : ℕ
-  pub many : count ≡ workers_for at_once
-  pub run : IsRunOf views base_of IsNew sink_of words path count status
+-- a run on this folder, of which P is known
+pub run_on : {D N C E K O : Type 0} {views : Views D N C E K} {IsNew : N → Type 0} {sink_of : O → SinkView} {words : List (List ℕ)} {count status : ℕ}
+    (P : D → Type 0) (folder : D) → P folder → IsRunOf views (λ opened. opened ≡ folder) IsNew sink_of words count status
+    → IsRunOf views P IsNew sink_of words count status
+run_on P folder holds is = record {
+  folder = is.folder;
+  opened = subst P (sym is.opened) holds;
+  secret = is.secret;
+  second = is.second;
+  workers = is.workers;
+  many = is.many;
+  new = is.new;
+  workers_after = is.workers_after;
+  before = is.before;
+  after = is.after;
+  ended = is.ended;
+  run = is.run;
+  status_is = is.status_is;
+}
 
-pub run_for : {D N C E K O : Type 0} {views : Views D N C E K} {base_of : D → List ℕ} {IsNew : N → Type 0} {sink_of : O → SinkView}
-    {words : List (List ℕ)} {path : List ℕ} (at_once : ℕ) {status : ℕ} → IsRunFor views base_of IsNew sink_of words path at_once status
-    → IsRunOf views base_of IsNew sink_of words path (workers_for at_once) status
-run_for {views = views} {base_of = base_of} {IsNew = IsNew} {sink_of = sink_of} {words = words} {path = path} at_once {status = status} is =
-    subst (λ (n : ℕ). IsRunOf views base_of IsNew sink_of words path n status) is.many is.run
+pub streams_on : {D N C E K O : Type 0} {views : Views D N C E K} {IsNew : N → Type 0} {sink_of : O → SinkView} {words : List (List ℕ)} {started : Started}
+    (P : D → Type 0) (folder : D) → P folder → IsOverStreams views (λ opened. opened ≡ folder) IsNew sink_of words started
+    → IsOverStreams views P IsNew sink_of words started
+streams_on P folder holds is = record { run = run_on P folder holds is.run; removed = is.removed }

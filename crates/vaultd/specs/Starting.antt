@@ -1,5 +1,5 @@
 -- What the program makes of its words, and how it ends without a job.
-use Rattle.std.specs.Prelude.{◌≡◌, ◌⊎◌, ℕ, List, [], length, min, max, Option, None, Result, Ok, Err, option_map, true, false, codes, IfOk, IsSome, string_bytes}
+use Rattle.std.specs.Prelude.{◌≡◌, ◌⊎◌, ℕ, List, [], ◌++◌, length, min, max, Option, None, Result, Ok, Err, option_map, Bool, true, false, not, codes, IfOk, IsSome, string_bytes, ⊤}
 use Rattle.std.specs.List.{AllByRecursion}
 use Rattle.host_sockets.specs.Bound.{address_of, file_of, is_bound}
 use Rattle.host_sockets.specs.declared.socket.Socket.{Socket}
@@ -7,33 +7,51 @@ use Rattle.host_folder.specs.Holding.{Holding}
 use Rattle.host_links.specs.Addresses.{IsNamedBy}
 use Rattle.host_links.specs.Behind.{link_to_come}
 use Rattle.host_links.specs.declared.listen.HostListen.{HostListen}
-use Rattle.vault_words.specs.Read.{HasPlaces}
+use Rattle.outside.specs.Calls.{Changes, Rose}
+use Rattle.outside.specs.Views.{LinkView}
+use Rattle.vault_words.specs.Jobs.{Job, Serving, serve, make, sync, AsksFor, IsRefused}
+use Rattle.sync_client.specs.Messages.{sync_messages}
+use Rattle.sync_client.specs.Talk.{HasTalked}
+use Rattle.sync_client.specs.declared.sync_err.SyncErr.{SyncErr}
+use Rattle.sync_client.specs.declared.sync_err.SyncErr.TheVariants as sync_errs
 use Rattle.vault_top.specs.declared.cause.Cause.TheVariants as causes
 use Rattle.vault_top.specs.Span.{Course, course, SourceView, SinkView, Views}
-use Rattle.vault_top.specs.Ending.{Ending, refused, status_of, HasRun, SaysNoSocket}
+use Rattle.vault_top.specs.Report.{line, TakesPart}
+use Rattle.vault_top.specs.Ending.{Ending, refused, status_of, HasRun, SaysInUse, SaysNoSocket}
 use Rattle.shared_tree.specs.declared.workers.Worker.{Worker}
 use Rattle.vault_top.specs.declared.program.Ended.{Ended}
 use Rattle.vaultd.specs.declared.error.StartErr.{StartErr}
 use Rattle.vaultd.specs.declared.error.StartErr.TheVariants.{Words, Memory}
 use Rattle.vaultd.specs.declared.starting.Started.{Started}
+use Rattle.vaultd.specs.declared.syncing.SyncEnd.{SyncEnd}
+use Rattle.vaultd.specs.declared.syncing.SyncEnd.TheVariants.{Done, Refused, Failed}
 
--- the path of a folder on disk
-abbrev pub base_of : {H : Type 0} → Holding H → List ℕ
-base_of folder = folder.base
+-- the folder at a path, as it is found: it tells nothing, though no flush failed
+abbrev pub IsAsFound : {H : Type 0} → List ℕ → Holding H → Type 0
+IsAsFound path folder = (folder.base ≡ path) × (folder.tells ≡ false) × (folder.failed ≡ false)
+
+-- the folder at a path, once what an earlier run may have left off the disk was flushed: it tells, unless a flush failed
+abbrev pub IsSettled : {H : Type 0} → List ℕ → Holding H → Type 0
+IsSettled path folder = (folder.base ≡ path) × (folder.tells ≡ not folder.failed)
+
+-- the folder at a path, by whether it is only to be read
+abbrev pub IsFolderAt : {H : Type 0} → Bool → List ℕ → Holding H → Type 0
+IsFolderAt true path folder = IsAsFound path folder
+IsFolderAt false path folder = IsSettled path folder
 
 -- a listener over the standard streams that nobody has asked yet: its one link is still to come
-abbrev pub HasLink : {R I : Type 0} → HostListen R I → Type 0
+abbrev pub HasLink : {R L I : Type 0} → HostListen R L I → Type 0
 HasLink listen = IsSome (link_to_come listen)
 
 -- a listener at a socket, of which no failure is counted
 abbrev pub IsListening : {N : Type 0} → (N → ℕ) → (N → Socket) → Socket → N → Type 0
 IsListening faults socket_of socket listen = (faults listen ≡ 0) × (socket_of listen ≡ socket)
 
--- the program was run with these words on the folder at a path, with so many workers, whose listeners were such as they are made, and with
+-- the program was run with these words on such a folder, with so many workers, whose listeners were such as they are made, and with
 -- such a sink, and the status is that run's
-pub record IsRunOf {D N C E K O : Type 0} (views : Views D N C E K) (base_of : D → List ℕ) (IsNew : N → Type 0) (sink_of : O → SinkView) (words : List (List ℕ)) (path : List ℕ) (count status : ℕ) : Type 0 where
+pub record IsRunOf {D N C E K O : Type 0} (views : Views D N C E K) (IsFolder : D → Type 0) (IsNew : N → Type 0) (sink_of : O → SinkView) (words : List (List ℕ)) (count status : ℕ) : Type 0 where
   pub folder : D
-  pub base : base_of folder ≡ path
+  pub opened : IsFolder folder
   pub secret : Course SourceView
   pub second : Option ℕ
   pub workers : List (Worker N E K)
@@ -51,14 +69,20 @@ abbrev pub workers_for : ℕ → ℕ
 workers_for at_once = max 1 (min at_once 64)
 
 -- the program was run over the standard streams, and no file was removed
-pub record IsOverStreams {D N C E K O : Type 0} (views : Views D N C E K) (base_of : D → List ℕ) (IsNew : N → Type 0) (sink_of : O → SinkView) (words : List (List ℕ)) (path : List ℕ) (started : Started) : Type 0 where
-  pub run : IsRunOf views base_of IsNew sink_of words path 1 started.status
+pub record IsOverStreams {D N C E K O : Type 0} (views : Views D N C E K) (IsFolder : D → Type 0) (IsNew : N → Type 0) (sink_of : O → SinkView) (words : List (List ℕ)) (started : Started) : Type 0 where
+  pub run : IsRunOf views IsFolder IsNew sink_of words 1 started.status
   pub removed : started.removed ≡ None
 
+-- another server has the vault: that was reported, and nothing else was done, but that the socket's file was removed, if it is bound at one
+pub record IsInUse {O : Type 0} (sink_of : O → SinkView) (file : Option (List ℕ)) (started : Started) : Type 0 where
+  pub before : O
+  pub after : O
+  pub reported : SaysInUse (course sink_of before after) started.status
+  pub removed : option_map string_bytes started.removed ≡ file
+
 -- the program was run at a socket that is bound, and then the file that this is bound at was removed, if it is bound at one, and no other
-pub record IsServedAt {D N C E K O : Type 0} (views : Views D N C E K) (base_of : D → List ℕ) (IsAt : Socket → N → Type 0) (sink_of : O → SinkView) (words : List (List ℕ)) (path : List ℕ) (at_once : ℕ) (socket : Socket) (started : Started) : Type 0 where
-  pub bound : is_bound socket ≡ true
-  pub run : IsRunOf views base_of (IsAt socket) sink_of words path (workers_for at_once) started.status
+pub record IsServedAt {D N C E K O : Type 0} (views : Views D N C E K) (IsFolder : D → Type 0) (IsAt : Socket → N → Type 0) (sink_of : O → SinkView) (words : List (List ℕ)) (at_once : ℕ) (socket : Socket) (started : Started) : Type 0 where
+  pub run : IsRunOf views IsFolder (IsAt socket) sink_of words (workers_for at_once) started.status
   pub removed : option_map string_bytes started.removed ≡ file_of socket
 
 -- a socket isn't bound: that was reported, and nothing else was done
@@ -69,31 +93,92 @@ pub record IsUnbound {O : Type 0} (sink_of : O → SinkView) (socket : Socket) (
   pub reported : SaysNoSocket (course sink_of before after) started.status
   pub removed : started.removed ≡ None
 
-abbrev pub IsRunAtSocket : {D N C E K O : Type 0} → Views D N C E K → (D → List ℕ) → (Socket → N → Type 0) → (O → SinkView) → List (List ℕ) → List ℕ → ℕ → Socket → Started → Type 0
-IsRunAtSocket views base_of IsAt sink_of words path at_once socket started =
-    IsServedAt views base_of IsAt sink_of words path at_once socket started ⊎ IsUnbound sink_of socket started
+-- a socket is bound: the vault was served there, or another server has it
+abbrev pub IsRunAtBound : {D N C E K O : Type 0} → Views D N C E K → (D → Type 0) → (Socket → N → Type 0) → (O → SinkView) → List (List ℕ) → ℕ → Socket → Started → Type 0
+IsRunAtBound views IsFolder IsAt sink_of words at_once socket started =
+    (is_bound socket ≡ true) × (IsServedAt views IsFolder IsAt sink_of words at_once socket started ⊎ IsInUse sink_of (file_of socket) started)
+
+abbrev pub IsRunAtSocket : {D N C E K O : Type 0} → Views D N C E K → (D → Type 0) → (Socket → N → Type 0) → (O → SinkView) → List (List ℕ) → ℕ → Socket → Started → Type 0
+IsRunAtSocket views IsFolder IsAt sink_of words at_once socket started =
+    IsRunAtBound views IsFolder IsAt sink_of words at_once socket started ⊎ IsUnbound sink_of socket started
 
 -- it was so at a socket at the place that an address names
-pub record IsRunAtAddress {D N C E K O : Type 0} (views : Views D N C E K) (base_of : D → List ℕ) (IsAt : Socket → N → Type 0) (sink_of : O → SinkView) (words : List (List ℕ)) (path address : List ℕ) (at_once : ℕ) (started : Started) : Type 0 where
+pub record IsRunAtAddress {D N C E K O : Type 0} (views : Views D N C E K) (IsFolder : D → Type 0) (IsAt : Socket → N → Type 0) (sink_of : O → SinkView) (words : List (List ℕ)) (address : List ℕ) (at_once : ℕ) (started : Started) : Type 0 where
   pub socket : Socket
   pub named : IsNamedBy address (address_of socket)
-  pub run : IsRunAtSocket views base_of IsAt sink_of words path at_once socket started
+  pub run : IsRunAtSocket views IsFolder IsAt sink_of words at_once socket started
 
--- the program was run with these words: with the address `-` over the standard streams, and its report went nowhere, standard output being the
--- client's then; without an address over them too, and with another at a socket, and its report went to standard output
-abbrev pub IsRunAt : {D N C M L E K Null Std : Type 0} → Views D N C E K → Views D M L E K → (D → List ℕ) → (N → Type 0) → (Socket → M → Type 0) → (Null → SinkView) → (Std → SinkView) → List (List ℕ) → List ℕ → List ℕ → ℕ → Started → Type 0
-IsRunAt streams sockets base_of IsStream IsAt null_of std_of words dir address at_once started =
-    ((address ≡ codes "-") × IsOverStreams streams base_of IsStream null_of words dir started)
-    ⊎ ((address ≡ []) × IsOverStreams streams base_of IsStream std_of words dir started)
-    ⊎ ((address ≡ codes "-" → ⊥) × (address ≡ [] → ⊥) × IsRunAtAddress sockets base_of IsAt std_of words dir address at_once started)
+-- A vault was to be served as these words say: with the address `-` over the standard streams, and its report went nowhere, standard output being the client's
+-- then; with another at a socket, and its report went to standard output; and without one over the streams, where it is refused. Only a vault that is to be
+-- changed too is settled before.
+abbrev pub IsServing : {D N C M L E K Null Std : Type 0} → Views D N C E K → Views D M L E K → (Bool → List ℕ → D → Type 0) → (N → Type 0) → (Socket → M → Type 0) → (Null → SinkView) → (Std → SinkView) → List (List ℕ) → Serving → Started → Type 0
+IsServing streams sockets IsFolder IsStream IsAt null_of std_of words s started =
+    ((s.address ≡ codes "-") × (IsOverStreams streams (IsFolder s.read_only s.dir) IsStream null_of words started ⊎ IsInUse null_of None started))
+    ⊎ ((s.address ≡ []) × IsOverStreams streams (IsFolder true s.dir) IsStream std_of words started)
+    ⊎ ((s.address ≡ codes "-" → ⊥) × (s.address ≡ [] → ⊥) × IsRunAtAddress sockets (IsFolder s.read_only s.dir) IsAt std_of words s.address s.at_once started)
 
--- The program was run with these words on the folder and at the address that they name.
-pub record IsStarted {D N C M L E K Null Std : Type 0} (streams : Views D N C E K) (sockets : Views D M L E K) (base_of : D → List ℕ) (IsStream : N → Type 0) (IsAt : Socket → M → Type 0) (null_of : Null → SinkView) (std_of : Std → SinkView) (words : List (List ℕ)) (started : Started) : Type 0 where
-  pub dir : List ℕ
-  pub address : List ℕ
-  pub at_once : ℕ
-  pub places : HasPlaces words dir address at_once
-  pub run : IsRunAt streams sockets base_of IsStream IsAt null_of std_of words dir address at_once started
+-- ---- one sync
+
+-- what became of a sync, by its talk with the server
+abbrev pub IsEndOf : {U : Type 0} → Result U SyncErr → SyncEnd → Type 0
+IsEndOf (Ok done) end = end ≡ Done
+IsEndOf (Err sync_errs.Refused) end = end ≡ Refused
+IsEndOf (Err error) end = end ≡ Failed
+
+-- a link to a server had this talk, which sends the messages of a sync
+pub record IsSyncedOver {L : Type 0} (link_of : L → LinkView) (end : SyncEnd) : Type 0 where
+  pub before : L
+  pub after : L
+  pub result : Result (Unit {0}) SyncErr
+  pub talked : HasTalked sync_messages (link_of before) (link_of after) result
+  pub is : IsEndOf result end
+
+abbrev pub sync_text : SyncEnd → List ℕ
+sync_text Done = line (codes "synced")
+sync_text Refused = line (codes "sync refused")
+sync_text Failed = line (codes "device fault: server")
+
+abbrev pub sync_status : SyncEnd → ℕ
+sync_status Done = 0
+sync_status Refused = 4
+sync_status Failed = 4
+
+-- what became of it was reported whole; or the sink failed, and took a part from the line's front
+abbrev pub SaysSync : Course SinkView → SyncEnd → ℕ → Type 0
+SaysSync sink end status =
+    ((status ≡ sync_status end) × Changes sink.before.taken sink.after.taken (λ old new. new ≡ old ++ sync_text end))
+    ⊎ (Rose sink.before.faults sink.after.faults × (status ≡ 4) × Changes sink.before.taken sink.after.taken (TakesPart (sync_text end)))
+
+-- a server was asked for one sync, or couldn't be reached, and what became of it was reported
+pub record IsSyncing {L O : Type 0} (link_of : L → LinkView) (sink_of : O → SinkView) (started : Started) : Type 0 where
+  pub end : SyncEnd
+  pub asked : IsSyncedOver link_of end ⊎ (end ≡ Failed)
+  pub before : O
+  pub after : O
+  pub reported : SaysSync (course sink_of before after) end started.status
+  pub removed : started.removed ≡ None
+
+-- ---- a start
+
+-- the folder of a job that has no clients: only making one has any
+abbrev pub dir_of : Job → List ℕ
+dir_of (make m) = m.dir
+dir_of job = []
+
+-- neither serving nor a sync
+abbrev pub IsOther : Job → Type 0
+IsOther (serve s) = ⊥
+IsOther (sync address) = ⊥
+IsOther job = ⊤
+
+-- The program was started with these words: a vault was to be served, a server was asked for one sync, or the program was run over the standard streams for
+-- another job, or since the words are refused.
+abbrev pub IsStarted : {D N C M L E K Null Std : Type 0} → Views D N C E K → Views D M L E K → (Bool → List ℕ → D → Type 0) → (N → Type 0) → (Socket → M → Type 0) → (Null → SinkView) → (Std → SinkView) → List (List ℕ) → Started → Type 0
+IsStarted streams sockets IsFolder IsStream IsAt null_of std_of words started =
+    ((s : Serving) × AsksFor (serve s) words × IsServing streams sockets IsFolder IsStream IsAt null_of std_of words s started)
+    ⊎ ((to : List ℕ) × AsksFor (sync to) words × IsSyncing sockets.link std_of started)
+    ⊎ ((job : Job) × AsksFor job words × IsOther job × IsOverStreams streams (IsFolder true (dir_of job)) IsStream std_of words started)
+    ⊎ (IsRefused words × IsOverStreams streams (IsFolder true []) IsStream std_of words started)
 
 -- what a start that failed is, of the job's endings
 abbrev pub ending_of : StartErr → Ending

@@ -1,16 +1,18 @@
 //! The exit status of a run of the program, and what is said where there is none.
 
 ghost use Rattle.std.specs.Prelude.{◌≡◌, ℕ, List, IfOk};
-ghost use Rattle.host_links.specs.declared.stream.NullSink.{NullSink};
+ghost use Rattle.host_links.specs.declared.stream.LastLine.{LastLine};
 ghost use Rattle.host_links.specs.Behind.{socket_of};
 ghost use Rattle.vault_top.specs.Span.{sink_in, views_of};
-ghost use Rattle.vaultd.specs.Starting.{base_of, HasLink, IsExit, IsListening, IsStarted, exit_of};
+ghost use Rattle.vaultd.specs.Starting.{IsFolderAt, HasLink, IsExit, IsListening, IsStarted, exit_of};
 
 use crate::error::StartErr;
+use crate::host::Host;
 use crate::starting::{Started, start};
 use host_folder::HostFolder;
-use host_links::{HostLink, HostListen, NullSink, SocketLink, SocketListen, StdSink};
+use host_links::{HostLink, HostListen, LastLine, SocketLink, SocketListen, StdSink};
 use host_sockets::Output;
+use log::Log;
 use outside::{Clock, Entropy, Link, Listener, Reads, Sink};
 use outside_real::{HostClock, OsEntropy, StdCalls};
 use std::env::{Env, FillError};
@@ -66,21 +68,22 @@ fn started<
         + Sync
         + AllocGlobal
         + Net<Listener = TcpListener, Stream = TcpStream>,
->(rt: &'a R) -> Result<Started, StartErr>
+    L: Log + Sync,
+>(host: Host<'a, R, L>) -> Result<Started, StartErr>
 where
     R::Reader: Send,
     R::File: Send,
     R::Dir: Send,
     ensures { IfOk result (λ started. (words : List (List ℕ)) × IsStarted
-        (views_of ⟦<HostFolder<StdCalls<&'a R>> as Reads>⟧ ⟦<HostListen<&'a R> as Listener>⟧ ⟦<HostLink<&'a R> as Link>⟧ ⟦<OsEntropy<&'a R> as Entropy>⟧ ⟦<HostClock<&'a R> as Clock>⟧)
-        (views_of ⟦<HostFolder<StdCalls<&'a R>> as Reads>⟧ ⟦<SocketListen<'static, &'a R> as Listener>⟧ ⟦<SocketLink as Link>⟧ ⟦<OsEntropy<&'a R> as Entropy>⟧ ⟦<HostClock<&'a R> as Clock>⟧)
-        base_of HasLink (IsListening ⟦<SocketListen<'static, &'a R> as Listener>⟧.faults socket_of) (sink_in ⟦<NullSink as Sink>⟧)
-        (sink_in ⟦<StdSink<Output<&'a R>> as Sink>⟧) words started) }
+        (views_of ⟦<HostFolder<StdCalls<&'a R, &'a L>> as Reads>⟧ ⟦<HostListen<&'a R, &'a L> as Listener>⟧ ⟦<HostLink<&'a R> as Link>⟧ ⟦<OsEntropy<&'a R, &'a L> as Entropy>⟧ ⟦<HostClock<&'a R> as Clock>⟧)
+        (views_of ⟦<HostFolder<StdCalls<&'a R, &'a L>> as Reads>⟧ ⟦<SocketListen<'static, &'a R, &'a L> as Listener>⟧ ⟦<SocketLink as Link>⟧ ⟦<OsEntropy<&'a R, &'a L> as Entropy>⟧ ⟦<HostClock<&'a R> as Clock>⟧)
+        IsFolderAt HasLink (IsListening ⟦<SocketListen<'static, &'a R, &'a L> as Listener>⟧.faults socket_of) (sink_in ⟦<LastLine as Sink>⟧)
+        (sink_in ⟦<StdSink<Output<&'a R>, &'a L> as Sink>⟧) words started) }
 {
-    match env::args(rt) {
+    match env::args(host.rt) {
         Ok(args) => {
-            let args = args.collect::<Vec<_>>(rt.alloc())?;
-            let started = start(rt, &args)?;
+            let args = args.collect::<Vec<_>>(host.rt.alloc())?;
+            let started = start(host, &args)?;
             Ok(started)
         }
         Err(error) => Err(StartErr::of_words(&error)),
@@ -117,21 +120,22 @@ pub(crate) fn exit_status<
         + Sync
         + AllocGlobal
         + Net<Listener = TcpListener, Stream = TcpStream>,
->(rt: &'a R) -> u8
+    L: Log + Sync,
+>(host: Host<'a, R, L>) -> u8
 where
     R::Reader: Send,
     R::File: Send,
     R::Dir: Send,
     ensures { IsExit (λ started. (words : List (List ℕ)) × IsStarted
-        (views_of ⟦<HostFolder<StdCalls<&'a R>> as Reads>⟧ ⟦<HostListen<&'a R> as Listener>⟧ ⟦<HostLink<&'a R> as Link>⟧ ⟦<OsEntropy<&'a R> as Entropy>⟧ ⟦<HostClock<&'a R> as Clock>⟧)
-        (views_of ⟦<HostFolder<StdCalls<&'a R>> as Reads>⟧ ⟦<SocketListen<'static, &'a R> as Listener>⟧ ⟦<SocketLink as Link>⟧ ⟦<OsEntropy<&'a R> as Entropy>⟧ ⟦<HostClock<&'a R> as Clock>⟧)
-        base_of HasLink (IsListening ⟦<SocketListen<'static, &'a R> as Listener>⟧.faults socket_of) (sink_in ⟦<NullSink as Sink>⟧)
-        (sink_in ⟦<StdSink<Output<&'a R>> as Sink>⟧) words started) result }
+        (views_of ⟦<HostFolder<StdCalls<&'a R, &'a L>> as Reads>⟧ ⟦<HostListen<&'a R, &'a L> as Listener>⟧ ⟦<HostLink<&'a R> as Link>⟧ ⟦<OsEntropy<&'a R, &'a L> as Entropy>⟧ ⟦<HostClock<&'a R> as Clock>⟧)
+        (views_of ⟦<HostFolder<StdCalls<&'a R, &'a L>> as Reads>⟧ ⟦<SocketListen<'static, &'a R, &'a L> as Listener>⟧ ⟦<SocketLink as Link>⟧ ⟦<OsEntropy<&'a R, &'a L> as Entropy>⟧ ⟦<HostClock<&'a R> as Clock>⟧)
+        IsFolderAt HasLink (IsListening ⟦<SocketListen<'static, &'a R, &'a L> as Listener>⟧.faults socket_of) (sink_in ⟦<LastLine as Sink>⟧)
+        (sink_in ⟦<StdSink<Output<&'a R>, &'a L> as Sink>⟧) words started) result }
 {
     // If the program was started without one of the descriptors 0 to 2, no file of the vault is to be given it.
-    let Ok(_placeholders) = placeholders(rt) else {
+    let Ok(_placeholders) = placeholders(host.rt) else {
         return FAULT;
     };
-    let started = started(rt);
-    status_after(rt, &started)
+    let started = started(host);
+    status_after(host.rt, &started)
 }

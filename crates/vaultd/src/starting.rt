@@ -1,20 +1,25 @@
 //! The program over the host: the objects that it runs with, by where its clients come from.
 
-ghost use Rattle.std.specs.Prelude.{◌≡◌, ◌≤◌, drop, IfOk, vec_len};
+ghost use Rattle.std.specs.Prelude.{◌≡◌, ◌⊎◌, ◌≤◌, true, drop, None, IfOk, vec_len};
 ghost use Rattle.std.specs.List.{AllByRecursion};
-ghost use Rattle.host_links.specs.declared.stream.NullSink.{NullSink};
+ghost use Rattle.host_links.specs.declared.stream.LastLine.{LastLine};
 ghost use Rattle.host_links.specs.Behind.{socket_of};
 ghost use Rattle.vault_top.specs.Words.{words_of};
-ghost use Rattle.vault_top.specs.Span.{sink_in, views_of};
-ghost use Rattle.vaultd.specs.Starting.{base_of, HasLink, IsListening, IsOverStreams, IsRunAtAddress, IsRunAtSocket, IsRunOf, IsStarted};
+ghost use Rattle.vault_top.specs.Span.{course, sink_in, views_of};
+ghost use Rattle.vault_top.specs.Ending.{SaysInUse};
+ghost use Rattle.vault_words.specs.Read.{serving_data};
+ghost use Rattle.vaultd.specs.Starting.{IsFolderAt, HasLink, IsInUse, IsListening, IsOverStreams, IsRunAtAddress, IsRunAtSocket, IsRunOf, IsServing, IsStarted, workers_for};
 
-use chunk_journal::{JournalErr, loose_paths};
-use host_folder::{HostFolder, Unsettled};
+use crate::folder::{lock_folder, tell_missing, turn_at, untold_at, vault_at};
+use crate::host::Host;
+use crate::syncing::sync_at;
+use crate::telling::{tell_complaint, tell_port, tell_refusal};
+use host_folder::HostFolder;
 use host_links::{
-    HostLink, HostListen, NullSink, SocketLink, SocketListen, StdSink, StdSource, address_named,
-    host_at_port_0,
+    HostLink, HostListen, LastLine, SecretSource, SocketLink, SocketListen, StdSink, address_named,
 };
 use host_sockets::{Output, Socket};
+use log::Log;
 use outside::{Clock, Entropy, Gate, Link, Listener, Reads, Sink, Stage};
 use outside_real::{HostClock, OsEntropy, StdCalls};
 use std::alloc::AllocError;
@@ -24,9 +29,8 @@ use std::net::{Net, TcpListener, TcpStream};
 use std::rt::{Clock as SystemClock, Files};
 use std::sync::Wait;
 use std::thread::Threads;
-use vault_path::VaultPath;
-use vault_top::{Worker, report_no_socket, run};
-use vault_words::{Places, places};
+use vault_top::{Worker, report_in_use, report_no_socket, run};
+use vault_words::{Job, Serving, WordsErr, read_words};
 
 // Nobody waits at this gate.
 struct OpenGate;
@@ -42,91 +46,53 @@ pub struct Started {
     pub removed: Option<String>,
 }
 
-// So many workers, each with a listener at a socket.
-fn workers_at<'a, 's, R: SystemClock + Files<File = File> + AllocGlobal>(
-    rt: &'a R,
+// So many workers, each with a listener at a socket, who cuts clients off that send nothing for so many seconds.
+fn workers_at<'a, 's, R: SystemClock + Files<File = File> + AllocGlobal, L: Log>(
+    host: Host<'a, R, L>,
     socket: &'s Socket,
+    idle: u64,
     count: u64,
-) -> Result<Vec<Worker<SocketListen<'s, &'a R>, OsEntropy<&'a R>, HostClock<&'a R>>>, AllocError>
+) -> Result<
+    Vec<Worker<SocketListen<'s, &'a R, &'a L>, OsEntropy<&'a R, &'a L>, HostClock<&'a R>>>,
+    AllocError,
+>
     requires { (1 ≤ count) × (count ≤ 64) }
     ensures count { IfOk result (λ workers. vec_len workers ≡ count) }
-    ensures listening { IfOk result (λ workers. AllByRecursion (λ worker. IsListening ⟦<SocketListen<'s, &'a R> as Listener>⟧.faults socket_of socket.now worker.listener) workers.items) }
+    ensures listening { IfOk result (λ workers. AllByRecursion (λ worker. IsListening ⟦<SocketListen<'s, &'a R, &'a L> as Listener>⟧.faults socket_of socket.now worker.listener) workers.items) }
 {
-    let mut workers = Vec::new(rt.alloc());
+    let mut workers = Vec::new(host.rt.alloc());
     for _ in 0..count {
         workers.push(Worker {
-            listener: SocketListen::new(rt, socket),
-            entropy: OsEntropy::new(rt),
-            clock: HostClock::new(rt),
+            listener: SocketListen::new(host.rt, host.log, socket, idle),
+            entropy: OsEntropy::new(host.rt, host.log),
+            clock: HostClock::new(host.rt),
         })?;
     }
     Ok(workers)
 }
 
-// The paths in a vault's folder at which an earlier run may have left something off the disk, by its journal. If that can't be read or is damaged
-// there are none: `run` comes to the same fault and reports it.
-fn loose_at<R: Files<File = File> + AllocGlobal>(
-    rt: &R,
-    path: &str,
-) -> Result<Vec<VaultPath>, AllocError> {
-    let mut folder = Unsettled::new(StdCalls::new(rt), rt.alloc(), path)?;
-    match loose_paths(rt.alloc(), &mut folder) {
-        Ok(paths) => Ok(paths),
-        Err(JournalErr::Memory) => Err(AllocError),
-        Err(JournalErr::Device | JournalErr::JournalDamaged(_)) => Ok(Vec::new(rt.alloc())),
+// Where the secret comes from: the first line of a file, or of standard input.
+fn secret_of<'a, R: Input + Files<File = File>, L: Log>(
+    host: Host<'a, R, L>,
+    passfile: Option<&str>,
+) -> SecretSource<R::Reader, File, &'a L> {
+    match passfile {
+        Some(path) => SecretSource::file(host.rt, host.log, path),
+        None => SecretSource::input(host.rt, host.log),
     }
 }
 
-// The folder at a path, once what an earlier run may have left off the disk is on it. It is opened anew, since no clause says that what read the
-// journal is still at that path.
-fn settled_at<'a, R: Files<File = File> + AllocGlobal>(
-    rt: &'a R,
-    path: &str,
-) -> Result<HostFolder<StdCalls<&'a R>>, AllocError>
-    ensures { IfOk result (λ folder. base_of folder ≡ path.now) }
-{
-    let loose = loose_at(rt, path)?;
-    let folder = Unsettled::new(StdCalls::new(rt), rt.alloc(), path)?;
-    Ok(folder.settle(&loose))
-}
-
-// The folder at a path, as it is found.
-fn untold_at<'a, R: Files<File = File> + AllocGlobal>(
-    rt: &'a R,
-    path: &str,
-) -> Result<HostFolder<StdCalls<&'a R>>, AllocError>
-    ensures { IfOk result (λ folder. base_of folder ≡ path.now) }
-{
-    let folder = HostFolder::untold(StdCalls::new(rt), rt.alloc(), path)?;
-    Ok(folder)
-}
-
-// The folder at a path, in which a vault may be served.
-fn folder_at<'a, R: Files<File = File> + AllocGlobal>(
-    rt: &'a R,
-    path: &str,
-    is_served: bool,
-) -> Result<HostFolder<StdCalls<&'a R>>, AllocError>
-    ensures { IfOk result (λ folder. base_of folder ≡ path.now) }
-{
-    if is_served {
-        settled_at(rt, path)
-    } else {
-        untold_at(rt, path)
-    }
-}
-
-// Makes the objects of the outside over the folder at a path, in which a vault may be served, and the standard streams, and runs the job that these
-// words are.
-fn serve_streams<
+// Runs the job that these words are over the standard streams, and a folder at a path. The secret is the first line of a file, or of standard input.
+fn run_over_streams<
     'a,
     R: SystemClock + Files<File = File> + Input + Print + Threads + Wait + Sync + AllocGlobal,
+    L: Log + Sync,
     O: Sink,
 >(
-    rt: &'a R,
+    host: Host<'a, R, L>,
     words: &[String],
-    path: &str,
-    is_served: bool,
+    folder: HostFolder<StdCalls<&'a R, &'a L>>,
+    passfile: Option<&str>,
     out: &mut O,
 ) -> Result<Started, AllocError>
 where
@@ -134,25 +100,24 @@ where
     R::File: Send,
     R::Dir: Send,
     ensures { IfOk result (IsOverStreams
-        (views_of ⟦<HostFolder<StdCalls<&'a R>> as Reads>⟧ ⟦<HostListen<&'a R> as Listener>⟧ ⟦<HostLink<&'a R> as Link>⟧ ⟦<OsEntropy<&'a R> as Entropy>⟧ ⟦<HostClock<&'a R> as Clock>⟧)
-        base_of HasLink (sink_in O.Sink) (words_of words.now) path.now) }
+        (views_of ⟦<HostFolder<StdCalls<&'a R, &'a L>> as Reads>⟧ ⟦<HostListen<&'a R, &'a L> as Listener>⟧ ⟦<HostLink<&'a R> as Link>⟧ ⟦<OsEntropy<&'a R, &'a L> as Entropy>⟧ ⟦<HostClock<&'a R> as Clock>⟧)
+        (λ opened. opened ≡ folder.entry) HasLink (sink_in O.Sink) (words_of words.now)) }
 {
-    let folder = folder_at(rt, path, is_served)?;
-    let mut workers = Vec::new(rt.alloc());
+    let mut workers = Vec::new(host.rt.alloc());
     workers.push(Worker {
-        listener: HostListen::new(rt),
-        entropy: OsEntropy::new(rt),
-        clock: HostClock::new(rt),
+        listener: HostListen::new(host.rt, host.log),
+        entropy: OsEntropy::new(host.rt, host.log),
+        clock: HostClock::new(host.rt),
     })?;
     let ended = run(
-        rt,
-        rt.alloc(),
+        host.rt,
+        host.rt.alloc(),
         words,
         folder,
         &mut workers,
-        &mut StdSource::new(rt),
+        &mut secret_of(host, passfile),
         out,
-        &mut HostClock::new(rt),
+        &mut HostClock::new(host.rt),
         &OpenGate,
     );
     Ok(Started {
@@ -161,43 +126,152 @@ where
     })
 }
 
-// Like `serve_streams`, for a socket and `at_once` clients.
+// Runs a job that has no clients, over the folder at a path as it is found.
+fn run_alone<
+    'a,
+    R: SystemClock + Files<File = File> + Input + Print + Threads + Wait + Sync + AllocGlobal,
+    L: Log + Sync,
+    O: Sink,
+>(
+    host: Host<'a, R, L>,
+    words: &[String],
+    path: &str,
+    passfile: Option<&str>,
+    out: &mut O,
+) -> Result<Started, AllocError>
+where
+    R::Reader: Send,
+    R::File: Send,
+    R::Dir: Send,
+    ensures { IfOk result (IsOverStreams
+        (views_of ⟦<HostFolder<StdCalls<&'a R, &'a L>> as Reads>⟧ ⟦<HostListen<&'a R, &'a L> as Listener>⟧ ⟦<HostLink<&'a R> as Link>⟧ ⟦<OsEntropy<&'a R, &'a L> as Entropy>⟧ ⟦<HostClock<&'a R> as Clock>⟧)
+        (IsFolderAt true path.now) HasLink (sink_in O.Sink) (words_of words.now)) }
+{
+    let folder = untold_at(host, path)?;
+    run_over_streams(host, words, folder, passfile, out)
+}
+
+// Serves a vault to one client at the standard streams, unless another server has it.
+fn serve_streams<
+    'a,
+    R: SystemClock + Files<File = File> + Input + Print + Threads + Wait + Sync + AllocGlobal,
+    L: Log + Sync,
+    O: Sink,
+>(
+    host: Host<'a, R, L>,
+    words: &[String],
+    serving: &Serving<'_>,
+    out: &mut O,
+) -> Result<Started, AllocError>
+where
+    R::Reader: Send,
+    R::File: Send,
+    R::Dir: Send,
+    ensures { IfOk result (λ started. IsOverStreams
+        (views_of ⟦<HostFolder<StdCalls<&'a R, &'a L>> as Reads>⟧ ⟦<HostListen<&'a R, &'a L> as Listener>⟧ ⟦<HostLink<&'a R> as Link>⟧ ⟦<OsEntropy<&'a R, &'a L> as Entropy>⟧ ⟦<HostClock<&'a R> as Clock>⟧)
+        (IsFolderAt serving.now.read_only serving.now.dir.now) HasLink (sink_in O.Sink) (words_of words.now) started ⊎ IsInUse (sink_in O.Sink) None started) }
+{
+    let Some(lock) = lock_folder(host, serving.dir, serving.read_only) else {
+        return Ok(Started {
+            status: report_in_use(out),
+            removed: None,
+        });
+    };
+    tell_missing(host, serving.dir);
+    let folder = vault_at(host, &lock, serving.dir, serving.read_only)?;
+    run_over_streams(host, words, folder, serving.passfile, out)
+}
+
+// Serves a vault to one client at the standard streams. If it ends with a status, why is told, since nobody has the report.
+fn serve_unreported<
+    'a,
+    R: SystemClock + Files<File = File> + Input + Print + Threads + Wait + Sync + AllocGlobal,
+    L: Log + Sync,
+>(host: Host<'a, R, L>, words: &[String], serving: &Serving<'_>) -> Result<Started, AllocError>
+where
+    R::Reader: Send,
+    R::File: Send,
+    R::Dir: Send,
+    ensures { IfOk result (λ started. IsOverStreams
+        (views_of ⟦<HostFolder<StdCalls<&'a R, &'a L>> as Reads>⟧ ⟦<HostListen<&'a R, &'a L> as Listener>⟧ ⟦<HostLink<&'a R> as Link>⟧ ⟦<OsEntropy<&'a R, &'a L> as Entropy>⟧ ⟦<HostClock<&'a R> as Clock>⟧)
+        (IsFolderAt serving.now.read_only serving.now.dir.now) HasLink (sink_in ⟦<LastLine as Sink>⟧) (words_of words.now) started ⊎ IsInUse (sink_in ⟦<LastLine as Sink>⟧) None started) }
+{
+    let mut out = LastLine::new();
+    let answer = serve_streams(host, words, serving, &mut out);
+    if let Ok(started) = &answer {
+        tell_refusal(host.log, started.status, &out);
+    }
+    answer
+}
+
+// Serves a vault to clients at a socket.
 fn serve_socket<
     'a,
     's,
     R: SystemClock + Files<File = File> + Input + Print + Threads + Wait + Sync + AllocGlobal,
+    L: Log + Sync,
     O: Sink,
 >(
-    rt: &'a R,
+    host: Host<'a, R, L>,
     words: &[String],
-    path: &str,
+    folder: HostFolder<StdCalls<&'a R, &'a L>>,
+    serving: &Serving<'_>,
     socket: &'s Socket,
-    at_once: u64,
     out: &mut O,
 ) -> Result<u8, AllocError>
 where
     R::Reader: Send,
     R::File: Send,
     R::Dir: Send,
-    requires { (1 ≤ at_once) × (at_once ≤ 64) }
     ensures { IfOk result (IsRunOf
-        (views_of ⟦<HostFolder<StdCalls<&'a R>> as Reads>⟧ ⟦<SocketListen<'s, &'a R> as Listener>⟧ ⟦<SocketLink as Link>⟧ ⟦<OsEntropy<&'a R> as Entropy>⟧ ⟦<HostClock<&'a R> as Clock>⟧)
-        base_of (IsListening ⟦<SocketListen<'s, &'a R> as Listener>⟧.faults socket_of socket.now) (sink_in O.Sink) (words_of words.now) path.now at_once) }
+        (views_of ⟦<HostFolder<StdCalls<&'a R, &'a L>> as Reads>⟧ ⟦<SocketListen<'s, &'a R, &'a L> as Listener>⟧ ⟦<SocketLink as Link>⟧ ⟦<OsEntropy<&'a R, &'a L> as Entropy>⟧ ⟦<HostClock<&'a R> as Clock>⟧)
+        (λ opened. opened ≡ folder.entry) (IsListening ⟦<SocketListen<'s, &'a R, &'a L> as Listener>⟧.faults socket_of socket.now) (sink_in O.Sink) (words_of words.now) (workers_for serving.now.at_once)) }
 {
-    let folder = settled_at(rt, path)?;
-    let mut workers = workers_at(rt, socket, at_once)?;
+    let at_once = serving.at_once.clamp(1, 64);
+    let mut workers = workers_at(host, socket, serving.idle, at_once)?;
     let ended = run(
-        rt,
-        rt.alloc(),
+        host.rt,
+        host.rt.alloc(),
         words,
         folder,
         &mut workers,
-        &mut StdSource::new(rt),
+        &mut secret_of(host, serving.passfile),
         out,
-        &mut HostClock::new(rt),
+        &mut HostClock::new(host.rt),
         &OpenGate,
     );
     Ok(ended.status)
+}
+
+// The status of serving at a socket that is bound: that of the run, or that another server has the vault, which is found out before the folder is looked at.
+fn status_at<
+    'a,
+    's,
+    R: SystemClock + Files<File = File> + Input + Print + Threads + Wait + Sync + AllocGlobal,
+    L: Log + Sync,
+    O: Sink,
+>(
+    host: Host<'a, R, L>,
+    words: &[String],
+    serving: &Serving<'_>,
+    socket: &'s Socket,
+    out: &mut O,
+) -> Result<u8, AllocError>
+where
+    R::Reader: Send,
+    R::File: Send,
+    R::Dir: Send,
+    ensures { IfOk result (λ status. IsRunOf
+        (views_of ⟦<HostFolder<StdCalls<&'a R, &'a L>> as Reads>⟧ ⟦<SocketListen<'s, &'a R, &'a L> as Listener>⟧ ⟦<SocketLink as Link>⟧ ⟦<OsEntropy<&'a R, &'a L> as Entropy>⟧ ⟦<HostClock<&'a R> as Clock>⟧)
+        (IsFolderAt serving.now.read_only serving.now.dir.now) (IsListening ⟦<SocketListen<'s, &'a R, &'a L> as Listener>⟧.faults socket_of socket.now) (sink_in O.Sink) (words_of words.now) (workers_for serving.now.at_once) status
+        ⊎ SaysInUse (course (sink_in O.Sink) out.old out.new) status) }
+{
+    let Some(lock) = lock_folder(host, serving.dir, serving.read_only) else {
+        return Ok(report_in_use(out));
+    };
+    tell_missing(host, serving.dir);
+    let folder = vault_at(host, &lock, serving.dir, serving.read_only)?;
+    serve_socket(host, words, folder, serving, socket, out)
 }
 
 // The words after the first, which is the program's name.
@@ -205,14 +279,6 @@ fn behind_name(args: &[String]) -> &[String]
     ensures { result.now ≡ drop 1 args.now }
 {
     &args[args.len().min(1)..]
-}
-
-// Says on standard error at which port a socket listens that was asked for at port 0: the report has no place for it, and a client has to know.
-fn tell_port<R: Eprint>(rt: &R, address: &str, socket: &Socket) {
-    if let (Some(host), Some(port)) = (host_at_port_0(address), socket.port()) {
-        // if standard error is closed it is lost
-        let _ = eprintln!(rt; "listening at {host}:{port}");
-    }
 }
 
 // Serves at a socket, which is closed then; if it isn't bound, that alone is reported.
@@ -228,11 +294,12 @@ fn serve_if_bound<
         + Sync
         + AllocGlobal
         + Net<Listener = TcpListener, Stream = TcpStream>,
+    L: Log + Sync,
     O: Sink,
 >(
-    rt: &'a R,
+    host: Host<'a, R, L>,
     words: &[String],
-    places: &Places<'_>,
+    serving: &Serving<'_>,
     socket: Socket,
     out: &mut O,
 ) -> Result<Started, AllocError>
@@ -241,8 +308,8 @@ where
     R::File: Send,
     R::Dir: Send,
     ensures { IfOk result (IsRunAtSocket
-        (views_of ⟦<HostFolder<StdCalls<&'a R>> as Reads>⟧ ⟦<SocketListen<'static, &'a R> as Listener>⟧ ⟦<SocketLink as Link>⟧ ⟦<OsEntropy<&'a R> as Entropy>⟧ ⟦<HostClock<&'a R> as Clock>⟧)
-        base_of (IsListening ⟦<SocketListen<'static, &'a R> as Listener>⟧.faults socket_of) (sink_in O.Sink) (words_of words.now) places.now.dir.now places.now.at_once socket) }
+        (views_of ⟦<HostFolder<StdCalls<&'a R, &'a L>> as Reads>⟧ ⟦<SocketListen<'static, &'a R, &'a L> as Listener>⟧ ⟦<SocketLink as Link>⟧ ⟦<OsEntropy<&'a R, &'a L> as Entropy>⟧ ⟦<HostClock<&'a R> as Clock>⟧)
+        (IsFolderAt serving.now.read_only serving.now.dir.now) (IsListening ⟦<SocketListen<'static, &'a R, &'a L> as Listener>⟧.faults socket_of) (sink_in O.Sink) (words_of words.now) serving.now.at_once socket) }
 {
     if !socket.is_bound() {
         return Ok(Started {
@@ -250,15 +317,14 @@ where
             removed: None,
         });
     }
-    tell_port(rt, places.address, &socket);
-    let at_once = places.at_once.clamp(1, 64);
-    match serve_socket(rt, words, places.dir, &socket, at_once, out) {
+    tell_port(host.rt, serving.address, &socket);
+    match status_at(host, words, serving, &socket, out) {
         Ok(status) => {
-            let removed = socket.close(rt);
+            let removed = socket.close(host.rt);
             Ok(Started { status, removed })
         }
         Err(error) => {
-            let _ = socket.close(rt);
+            let _ = socket.close(host.rt);
             Err(error)
         }
     }
@@ -277,22 +343,72 @@ fn serve_at<
         + Sync
         + AllocGlobal
         + Net<Listener = TcpListener, Stream = TcpStream>,
+    L: Log + Sync,
     O: Sink,
->(rt: &'a R, words: &[String], places: &Places<'_>, out: &mut O) -> Result<Started, AllocError>
+>(
+    host: Host<'a, R, L>,
+    words: &[String],
+    serving: &Serving<'_>,
+    out: &mut O,
+) -> Result<Started, AllocError>
 where
     R::Reader: Send,
     R::File: Send,
     R::Dir: Send,
     ensures { IfOk result (IsRunAtAddress
-        (views_of ⟦<HostFolder<StdCalls<&'a R>> as Reads>⟧ ⟦<SocketListen<'static, &'a R> as Listener>⟧ ⟦<SocketLink as Link>⟧ ⟦<OsEntropy<&'a R> as Entropy>⟧ ⟦<HostClock<&'a R> as Clock>⟧)
-        base_of (IsListening ⟦<SocketListen<'static, &'a R> as Listener>⟧.faults socket_of) (sink_in O.Sink) (words_of words.now) places.now.dir.now places.now.address.now places.now.at_once) }
+        (views_of ⟦<HostFolder<StdCalls<&'a R, &'a L>> as Reads>⟧ ⟦<SocketListen<'static, &'a R, &'a L> as Listener>⟧ ⟦<SocketLink as Link>⟧ ⟦<OsEntropy<&'a R, &'a L> as Entropy>⟧ ⟦<HostClock<&'a R> as Clock>⟧)
+        (IsFolderAt serving.now.read_only serving.now.dir.now) (IsListening ⟦<SocketListen<'static, &'a R, &'a L> as Listener>⟧.faults socket_of) (sink_in O.Sink) (words_of words.now) serving.now.address.now serving.now.at_once) }
 {
-    let address = address_named(rt.alloc(), places.address)?;
-    let socket = Socket::bind(rt, address);
-    serve_if_bound(rt, words, places, socket, out)
+    let address = address_named(host.rt.alloc(), serving.address)?;
+    let turn = turn_at(host, &address);
+    let socket = Socket::bind(host.rt, host.log, address);
+    drop(turn);
+    serve_if_bound(host, words, serving, socket, out)
 }
 
-/// Runs the job that the words after the program's name are. If standard output is the client's, nothing is reported.
+// Serves a vault as the words say. If standard output is the client's, nothing is reported.
+fn serve<
+    'a,
+    R: SystemClock
+        + Files<File = File>
+        + Input
+        + Print
+        + Eprint
+        + Threads
+        + Wait
+        + Sync
+        + AllocGlobal
+        + Net<Listener = TcpListener, Stream = TcpStream>,
+    L: Log + Sync,
+>(host: Host<'a, R, L>, words: &[String], serving: &Serving<'_>) -> Result<Started, AllocError>
+where
+    R::Reader: Send,
+    R::File: Send,
+    R::Dir: Send,
+    ensures { IfOk result (IsServing
+        (views_of ⟦<HostFolder<StdCalls<&'a R, &'a L>> as Reads>⟧ ⟦<HostListen<&'a R, &'a L> as Listener>⟧ ⟦<HostLink<&'a R> as Link>⟧ ⟦<OsEntropy<&'a R, &'a L> as Entropy>⟧ ⟦<HostClock<&'a R> as Clock>⟧)
+        (views_of ⟦<HostFolder<StdCalls<&'a R, &'a L>> as Reads>⟧ ⟦<SocketListen<'static, &'a R, &'a L> as Listener>⟧ ⟦<SocketLink as Link>⟧ ⟦<OsEntropy<&'a R, &'a L> as Entropy>⟧ ⟦<HostClock<&'a R> as Clock>⟧)
+        IsFolderAt HasLink (IsListening ⟦<SocketListen<'static, &'a R, &'a L> as Listener>⟧.faults socket_of) (sink_in ⟦<LastLine as Sink>⟧)
+        (sink_in ⟦<StdSink<Output<&'a R>, &'a L> as Sink>⟧)
+        (words_of words.now) (serving_data serving.now)) }
+{
+    if serving.address == "-" {
+        serve_unreported(host, words, serving)
+    } else if serving.address == "" {
+        run_alone(
+            host,
+            words,
+            serving.dir,
+            serving.passfile,
+            &mut StdSink::new(host.rt, host.log),
+        )
+    } else {
+        serve_at(host, words, serving, &mut StdSink::new(host.rt, host.log))
+    }
+}
+
+/// Runs the job that the words after the program's name are. If standard output is the client's, nothing is reported. What is wrong with words that are refused
+/// is said on standard error.
 pub fn start<
     'a,
     R: SystemClock
@@ -305,25 +421,35 @@ pub fn start<
         + Sync
         + AllocGlobal
         + Net<Listener = TcpListener, Stream = TcpStream>,
->(rt: &'a R, args: &[String]) -> Result<Started, AllocError>
+    L: Log + Sync,
+>(host: Host<'a, R, L>, args: &[String]) -> Result<Started, AllocError>
 where
     R::Reader: Send,
     R::File: Send,
     R::Dir: Send,
     ensures { IfOk result (IsStarted
-        (views_of ⟦<HostFolder<StdCalls<&'a R>> as Reads>⟧ ⟦<HostListen<&'a R> as Listener>⟧ ⟦<HostLink<&'a R> as Link>⟧ ⟦<OsEntropy<&'a R> as Entropy>⟧ ⟦<HostClock<&'a R> as Clock>⟧)
-        (views_of ⟦<HostFolder<StdCalls<&'a R>> as Reads>⟧ ⟦<SocketListen<'static, &'a R> as Listener>⟧ ⟦<SocketLink as Link>⟧ ⟦<OsEntropy<&'a R> as Entropy>⟧ ⟦<HostClock<&'a R> as Clock>⟧)
-        base_of HasLink (IsListening ⟦<SocketListen<'static, &'a R> as Listener>⟧.faults socket_of) (sink_in ⟦<NullSink as Sink>⟧)
-        (sink_in ⟦<StdSink<Output<&'a R>> as Sink>⟧)
+        (views_of ⟦<HostFolder<StdCalls<&'a R, &'a L>> as Reads>⟧ ⟦<HostListen<&'a R, &'a L> as Listener>⟧ ⟦<HostLink<&'a R> as Link>⟧ ⟦<OsEntropy<&'a R, &'a L> as Entropy>⟧ ⟦<HostClock<&'a R> as Clock>⟧)
+        (views_of ⟦<HostFolder<StdCalls<&'a R, &'a L>> as Reads>⟧ ⟦<SocketListen<'static, &'a R, &'a L> as Listener>⟧ ⟦<SocketLink as Link>⟧ ⟦<OsEntropy<&'a R, &'a L> as Entropy>⟧ ⟦<HostClock<&'a R> as Clock>⟧)
+        IsFolderAt HasLink (IsListening ⟦<SocketListen<'static, &'a R, &'a L> as Listener>⟧.faults socket_of) (sink_in ⟦<LastLine as Sink>⟧)
+        (sink_in ⟦<StdSink<Output<&'a R>, &'a L> as Sink>⟧)
         (words_of (drop 1 args.now))) }
 {
     let words = behind_name(args);
-    let places = places(rt.alloc(), words)?;
-    if places.address == "-" {
-        serve_streams(rt, words, places.dir, true, &mut NullSink)
-    } else if places.address == "" {
-        serve_streams(rt, words, places.dir, false, &mut StdSink::new(rt))
-    } else {
-        serve_at(rt, words, &places, &mut StdSink::new(rt))
+    let out = &mut StdSink::new(host.rt, host.log);
+    match read_words(host.rt.alloc(), words) {
+        Ok(Job::Serve(serving)) => serve(host, words, &serving),
+        Ok(Job::Sync { address }) => sync_at(host, address, out),
+        Ok(Job::Make(making)) => {
+            tell_missing(host, making.dir);
+            run_alone(host, words, making.dir, making.passfile, out)
+        }
+        Ok(Job::Demo { .. }) => run_alone(host, words, "", None, out),
+        Ok(Job::Help(_)) => run_alone(host, words, "", None, out),
+        Ok(Job::Version) => run_alone(host, words, "", None, out),
+        Err(WordsErr::Refused) => {
+            tell_complaint(host.rt, words);
+            run_alone(host, words, "", None, out)
+        }
+        Err(WordsErr::Memory) => Err(AllocError),
     }
 }

@@ -1,5 +1,4 @@
 use Rattle.std.proofs.Common.{refl, sym, ◌∙◌, inl, inr}
-use Rattle.vaultd.proofs.Starts.{run_for}
 use Rattle.vaultd.proofs.starting.serve_if_bound.Goals as goal
 
 pub returns-then-not-is_bound : goal.returns-then-not-is_bound
@@ -12,8 +11,10 @@ returns-then-not-is_bound g c = inr (record {
 })
 
 pub returns-in-Ok : goal.returns-in-Ok
-returns-in-Ok g c = inl (record {
-  bound = sym c.is_bound.ensures ∙ c.if-not-is_bound.false;
-  run = run_for c.args.places.now.at_once (record { count = _; many = c.clamp-at_once.ensures; run = c.in-Ok.ensures });
-  removed = c.close-removed.ensures;
-})
+returns-in-Ok g c = inl (
+  sym c.is_bound.ensures ∙ c.if-not-is_bound.false,
+  elim c.in-Ok.ensures [
+    | inl run ↦ inl (record { run = run; removed = c.close-removed.ensures })
+    | inr said ↦ inr (record { before = _; after = _; reported = said; removed = c.close-removed.ensures })
+  ],
+)

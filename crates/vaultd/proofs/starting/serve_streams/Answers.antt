@@ -1,22 +1,11 @@
-use Rattle.std.proofs.Common.{refl, rules}
+use Rattle.std.proofs.Common.{refl, inl, inr}
+use Rattle.std.proofs.lemmas.Result.{IfOk-weaker}
+use Rattle.vaultd.proofs.Starts.{streams_on}
 use Rattle.vaultd.proofs.starting.serve_streams.Goals as goal
 
+pub returns-in_default : goal.returns-in_default
+returns-in_default g c = inr (record { before = _; after = _; reported = c.report_in_use.ensures; removed = refl })
+
 pub returns : goal.returns
-returns g c = record {
-  run = record {
-    folder = c.in_ok-folder.folder;
-    base = c.in_ok-folder.ensures;
-    secret = _;
-    second = _;
-    workers = _;
-    many = search rules;
-    new = search rules;
-    workers_after = _;
-    before = _;
-    after = _;
-    ended = c.run-ended.result;
-    run = c.run-ended.ensures.run;
-    status_is = refl;
-  };
-  removed = refl;
-}
+returns g c =
+    IfOk-weaker c.run_over_streams.result _ _ (λ started run. inl (streams_on _ _ c.in_ok-folder.ensures run)) c.run_over_streams.ensures

@@ -1,41 +1,39 @@
-use Rattle.std.proofs.Common.{◌≡◌, [], codes, sym, ◌∙◌, inl, inr}
-use Rattle.std.proofs.lemmas.Bool.{false≢true}
+use Rattle.std.proofs.Common.{sym, inl, inr}
 use Rattle.std.proofs.lemmas.Result.{IfOk-weaker}
-use Rattle.std.proofs.lemmas.Slice.Eq.{bytes_eq-Decides}
+use Rattle.vault_words.specs.Read.{job_data, serving_data}
 use Rattle.vaultd.proofs.starting.start.Goals as goal
 
-pub returns-then-eq : goal.returns-then-eq
-returns-then-eq g c =
-    let is : c.in_ok-places.places.address.now ≡ codes "-" = (bytes_eq-Decides c.in_ok-places.places.address.now (codes "-")).0 (sym c.eq.ensures ∙ c.if-eq.true) in
-    IfOk-weaker c.serve_streams.result _ _ (λ begun run. rw (sym c.behind_name-words.ensures) (record {
-      dir = _;
-      address = _;
-      at_once = _;
-      places = c.in_ok-places.ensures;
-      run = inl (is, run);
-    })) c.serve_streams.ensures
+pub returns-in-Ok-Serve : goal.returns-in-Ok-Serve
+returns-in-Ok-Serve g c =
+    let asks = rw c.in-Ok-Serve.field-0-is at c.in-Ok-Serve.ensures.job in
+    IfOk-weaker c.serve.result _ _ (λ started run. rw (sym c.behind_name-words.ensures) (inl (serving_data c.in-Ok-Serve.serving, asks, run))) c.serve.ensures
 
-pub returns-then-eq-2 : goal.returns-then-eq-2
-returns-then-eq-2 g c =
-    let is : c.in_ok-places.places.address.now ≡ [] = (bytes_eq-Decides c.in_ok-places.places.address.now []).0 (sym c.eq-else-eq.ensures ∙ c.if-eq-2.true) in
-    IfOk-weaker c.serve_streams-then-eq-2.result _ _ (λ begun run. rw (sym c.behind_name-words.ensures) (record {
-      dir = _;
-      address = _;
-      at_once = _;
-      places = c.in_ok-places.ensures;
-      run = inr (inl (is, run));
-    })) c.serve_streams-then-eq-2.ensures
+pub returns-in-Ok-Make : goal.returns-in-Ok-Make
+returns-in-Ok-Make g c =
+    let arm = c.in-Ok-Make in
+    IfOk-weaker c.run_alone.result _ _ (λ started run. rw (sym c.behind_name-words.ensures)
+    (inr (inr (inl (job_data arm.field-0, arm.ensures.job, rw arm.field-0-is tt, rw arm.field-0-is run))))) c.run_alone.ensures
 
-pub returns-else-eq-2 : goal.returns-else-eq-2
-returns-else-eq-2 g c =
-    let isnt : c.in_ok-places.places.address.now ≡ codes "-" → ⊥ = λ e.
-    false≢true (sym c.if-eq.false ∙ c.eq.ensures ∙ (bytes_eq-Decides c.in_ok-places.places.address.now (codes "-")).1 e) in
-    let some : c.in_ok-places.places.address.now ≡ [] → ⊥ = λ e.
-    false≢true (sym c.if-eq-2.false ∙ c.eq-else-eq.ensures ∙ (bytes_eq-Decides c.in_ok-places.places.address.now []).1 e) in
-    IfOk-weaker c.serve_at.result _ _ (λ begun run. rw (sym c.behind_name-words.ensures) (record {
-      dir = _;
-      address = _;
-      at_once = _;
-      places = c.in_ok-places.ensures;
-      run = inr (inr (isnt, some, run));
-    })) c.serve_at.ensures
+pub returns-in-Ok-Demo : goal.returns-in-Ok-Demo
+returns-in-Ok-Demo g c =
+    let arm = c.in-Ok-Demo in
+    IfOk-weaker c.run_alone-in-Ok-Demo.result _ _ (λ started run. rw (sym c.behind_name-words.ensures)
+    (inr (inr (inl (job_data arm.field-0, arm.ensures.job, rw arm.field-0-is tt, rw arm.field-0-is run))))) c.run_alone-in-Ok-Demo.ensures
+
+pub returns-in-Ok-Help : goal.returns-in-Ok-Help
+returns-in-Ok-Help g c =
+    let arm = c.in-Ok-Help in
+    IfOk-weaker c.run_alone-in-Ok-Help.result _ _ (λ started run. rw (sym c.behind_name-words.ensures)
+    (inr (inr (inl (job_data arm.field-0, arm.ensures.job, rw arm.field-0-is tt, rw arm.field-0-is run))))) c.run_alone-in-Ok-Help.ensures
+
+pub returns-in-Ok-Version : goal.returns-in-Ok-Version
+returns-in-Ok-Version g c =
+    let arm = c.in-Ok-Version in
+    IfOk-weaker c.run_alone-in-Ok-Version.result _ _ (λ started run. rw (sym c.behind_name-words.ensures)
+    (inr (inr (inl (job_data arm.field-0, arm.ensures.job, rw arm.field-0-is tt, rw arm.field-0-is run))))) c.run_alone-in-Ok-Version.ensures
+
+pub returns-in-Err-Refused : goal.returns-in-Err-Refused
+returns-in-Err-Refused g c =
+    let refused = rw c.in-Err-Refused.field-0-is at c.in-Err-Refused.ensures.cause in
+    IfOk-weaker c.run_alone-in-Err-Refused.result _ _ (λ started run. rw (sym c.behind_name-words.ensures) (inr (inr (inr (refused, run)))))
+    c.run_alone-in-Err-Refused.ensures
