@@ -166,6 +166,11 @@ pub trait HostCalls {
         ensures story { story self.new ≡ story self.old }
         ensures top { top self.new ≡ top self.old };
 
+    /// Tells that what is at a path was changed by another program. It does nothing else.
+    fn report_changed(&mut self, text: &str)
+        ensures story { story self.new ≡ story self.old }
+        ensures top { top self.new ≡ top self.old };
+
     /// Has the diary of a told story say that a change was done. It does nothing.
     fn did(&mut self, change: HostChange)
         ensures noted { Changes (story self.old) (story self.new) (HasNoted (Did (change_of change.entry))) }

@@ -49,7 +49,7 @@ pub target_still : {H : Type 0} (top : H → List ℕ) (old new : Host H) (path 
     → IsTextOf (top old.host) (string_bytes old.target.room) path → IsTextOf (top new.host) (string_bytes new.target.room) path
 target_still {H = H} top old new path is text = subst (λ (h : Host H). IsTextOf (top h.host) (string_bytes h.target.room) path) (sym is.rest) text
 
-story_still : {H : Type 0} (tell : H → Option Story) (old new : Host H) → IsTouched old new → story_of tell new ≡ story_of tell old
+pub story_still : {H : Type 0} (tell : H → Option Story) (old new : Host H) → IsTouched old new → story_of tell new ≡ story_of tell old
 story_still {H = H} tell old new is = ap (λ (h : Host H). story_of tell h) is.rest
 
 kept_touched : {H : Type 0} (top : H → List ℕ) (old : Host H) (touched moved : Touched) (s : Story)

@@ -15,6 +15,7 @@ pub mod Gone
 pub mod Bytes
 pub mod Since
 pub mod Misfits
+pub mod Links
 pub mod Seen
 pub mod Passing
 pub mod PassingReads

@@ -1,4 +1,4 @@
-ghost use Rattle.std.specs.Prelude.{◌≡◌, IsErrOf};
+ghost use Rattle.std.specs.Prelude.{◌≡◌, ⊤, IsErrOf};
 ghost use Rattle.outside.specs.Calls.{HasCause, Rose, risen};
 
 use outside::FolderErr;
@@ -8,6 +8,13 @@ pub(crate) fn count_change(changes: &mut u64)
     ensures { changes.new ≡ risen changes.old }
 {
     *changes = changes.saturating_add(1);
+}
+
+/// Counts one fault more.
+pub(crate) fn count_fault(faults: &mut u64)
+    ensures { HasCause faults.old faults.new ⊤ }
+{
+    *faults = faults.saturating_add(1);
 }
 
 /// Passes a folder's answer on, and counts that it failed and that the call's condition fails.

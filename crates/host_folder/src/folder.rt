@@ -7,7 +7,7 @@ ghost use Rattle.host_folder.specs.Behind.{story_of, IsKept};
 ghost use Rattle.host_folder.specs.First.{first_paths};
 ghost use Rattle.host_folder.specs.Holding.{story_in, log_in};
 
-use crate::count::{count_change, counted_in_folder};
+use crate::count::{count_change, count_fault, counted_in_folder};
 use crate::host::Host;
 use host_calls::HostCalls;
 use outside::{Folder, FolderErr, Kind, Reads};
@@ -139,6 +139,11 @@ impl<H: HostCalls> Reads for HostFolder<H> {
     fn read(&mut self, path: &VaultPath, at: u64, out: &mut [u8]) -> Result<usize, FolderErr> {
         let answer = self.host.read(path, at, out);
         counted_in_folder(&mut self.faults, answer)
+    }
+
+    fn report_changed(&mut self, path: &VaultPath) {
+        self.host.report_changed(path);
+        count_fault(&mut self.faults);
     }
 }
 

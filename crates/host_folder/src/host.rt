@@ -226,7 +226,8 @@ impl<H: HostCalls> Host<H> {
         self.touch(&path.parent())
     }
 
-    /// The same of a file that moves: of both folders, and of where it goes, which is kept apart too.
+    /// The same of a file that moves: of where it goes, which is kept apart too, and of both folders. That from which it goes comes last:
+    /// on a disk that moves a file in two steps it has then two names rather than none.
     pub(crate) fn touch_move(&mut self, from: &VaultPath, to: &VaultPath) -> Result<(), FolderErr>
         ensures failed { IsOkUnless result FolderErr.Failed }
         ensures left { OnOk result (Contains self.new.touched.paths.items (parent from.now)) }
@@ -237,8 +238,8 @@ impl<H: HostCalls> Host<H> {
         ensures more_moved { (other : Path) → Contains self.old.moved.paths.items other → Contains self.new.moved.paths.items other }
         ensures rest { self.new ≡ record self.old { touched = self.new.touched; moved = self.new.moved } }
     {
-        self.touch(&from.parent())?;
         self.touch_name(to)?;
+        self.touch(&from.parent())?;
         self.moved.keep(to)
     }
 

@@ -1,4 +1,4 @@
-ghost use Rattle.std.specs.Prelude.{◌≡◌, [], None, string_bytes, IsErr, IsErrOf};
+ghost use Rattle.std.specs.Prelude.{◌≡◌, ◌≢◌, ◌↔◌, [], None, string_bytes, IsTrue, IsErr, IsErrOf};
 ghost use Rattle.outside.specs.Calls.{Told, Changes};
 ghost use Rattle.outside.specs.Changes.{Move, RemoveFile, RemoveDir};
 ghost use Rattle.host_calls.specs.Volume.{entry_at};
@@ -9,9 +9,16 @@ ghost use Rattle.host_folder.specs.Answers.{IsAnswer};
 ghost use Rattle.host_folder.specs.Behind.{story_of, IsKept, IsComposed};
 
 use crate::host::{Host, note};
-use host_calls::{Found, HostCalls, HostChange};
+use host_calls::{Found, HostCalls, HostChange, is_same};
 use outside::FolderErr;
 use vault_path::VaultPath;
+
+// Whether two paths differ.
+fn differ(one: &VaultPath, other: &VaultPath) -> bool
+    ensures { IsTrue result ↔ (one.now ≢ other.now) }
+{
+    one != other
+}
 
 impl<H: HostCalls> Host<H> {
     /// Moves a file, over another if there is one.
@@ -22,14 +29,30 @@ impl<H: HostCalls> Host<H> {
         ensures no_memory { IsErrOf result FolderErr.Memory → ⊥ }
     {
         self.make_room()?;
-        match self.find_target(to)? {
+        let there = self.find_target(to)?;
+        match there {
             Found::Nothing | Found::File(..) => {}
             _ => return Err(FolderErr::Unfit),
         }
-        match self.find(from)? {
+        let found = self.find(from)?;
+        match found {
+            Found::File(..) if is_same(found, there) && differ(from, to) => self.drop_link(
+                from, to,
+            ),
             Found::File(..) => self.move_file(from, to),
             _ => Err(FolderErr::Unfit),
         }
+    }
+
+    // Removes the old name of a file that has the new one as well: rename(2) would leave both. No file of a told story has two names.
+    fn drop_link(&mut self, from: &VaultPath, to: &VaultPath) -> Result<(), FolderErr>
+        requires { Told (story_of H.story self.old) (λ _. ⊥) }
+        ensures kept { Told (story_of H.story self.new) (IsKept H.top self.new) }
+        ensures answer { Changes (story_of H.story self.old) (story_of H.story self.new) (IsAnswer (Move from.now to.now) result) }
+        ensures no_memory { IsErrOf result FolderErr.Memory → ⊥ }
+    {
+        self.touch_move(from, to)?;
+        self.drop_file(from)
     }
 
     // Moves what is there, once both texts are composed.

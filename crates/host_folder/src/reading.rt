@@ -70,4 +70,13 @@ impl<H: HostCalls> Host<H> {
             Found::Nothing | Found::Dir(_) | Found::Other => Err(FolderErr::Unfit),
         }
     }
+
+    /// Tells that another program changed what is at a path.
+    pub(crate) fn report_changed(&mut self, path: &VaultPath)
+        requires { Told (story_of H.story self.old) (IsShown H.top self.old) }
+        ensures looked { HasLooked H.story H.top self.old self.new }
+    {
+        self.paths.compose(path);
+        self.host.report_changed(self.paths.text());
+    }
 }

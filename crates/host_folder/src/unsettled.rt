@@ -5,7 +5,7 @@ ghost use Rattle.host_folder.specs.Held.{IsLater};
 ghost use Rattle.host_folder.specs.Opened.{IsBegun, IsOpened};
 ghost use Rattle.host_folder.specs.Holding.{log_in};
 
-use crate::count::counted_in_folder;
+use crate::count::{count_fault, counted_in_folder};
 use crate::folder::HostFolder;
 use crate::host::Host;
 use host_calls::HostCalls;
@@ -97,5 +97,10 @@ impl<H: HostCalls> Reads for Unsettled<H> {
     fn read(&mut self, path: &VaultPath, at: u64, out: &mut [u8]) -> Result<usize, FolderErr> {
         let answer = self.host.read(path, at, out);
         counted_in_folder(&mut self.faults, answer)
+    }
+
+    fn report_changed(&mut self, path: &VaultPath) {
+        self.host.report_changed(path);
+        count_fault(&mut self.faults);
     }
 }

@@ -37,6 +37,6 @@ link_to_come listen = listen.link
 abbrev pub socket_of : {R L : Type 0} → SocketListen R L → Socket
 socket_of listen = listen.socket.now
 
--- a client from which no byte came for too long
-abbrev pub is_idle : SocketLink → Bool
-is_idle link = link.is_idle
+-- a client that is at its end: no byte came for too long, or the server ends
+abbrev pub is_over : SocketLink → Bool
+is_over link = link.is_over

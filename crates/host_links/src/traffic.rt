@@ -36,6 +36,8 @@ pub(crate) enum Ending {
     Ended,
     /// No byte came for so many seconds.
     Idle(u64),
+    /// The server ends.
+    Stopped,
     ReadFailed(io::Error),
     WriteFailed(io::Error),
 }
@@ -46,6 +48,7 @@ impl Display for Ending {
             Ending::Closed => write!(f, "closed by the server"),
             Ending::Ended => write!(f, "it closed the connection"),
             Ending::Idle(seconds) => write!(f, "idle for {seconds} seconds"),
+            Ending::Stopped => write!(f, "the server ends"),
             Ending::ReadFailed(cause) => write!(f, "read failed: {cause}"),
             Ending::WriteFailed(cause) => write!(f, "write failed: {cause}"),
         }
@@ -75,6 +78,11 @@ impl Traffic {
             is_asked: false,
             ending: Ending::Closed,
         }
+    }
+
+    /// All that was read so far was followed by a write.
+    pub(crate) fn is_answered(&self) -> bool {
+        !self.is_asked
     }
 
     /// A read into so much room gave this.

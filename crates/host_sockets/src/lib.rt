@@ -21,6 +21,7 @@
 //! - `Socket::port`: the port at which the listener is.
 //! - `Socket::accept`: each client that connects is given once, with the address that it has over TCP, and there what is written is sent at once. A read
 //!   that no byte comes to for so many seconds fails, and a write that takes none for a minute; both say by their kind that it was for that.
+//! - `Socket::wake`: an `accept` that waits returns, though nobody has come. It isn't waited for, so a host that lets nobody in at the moment needs none.
 //! - `Socket::close`: the file that was bound is removed, if it is at its path still, and no other; it is removed before the listener closes, so that nobody can
 //!   have found it left behind.
 //! - `Wire::connect`: the other end is the server at that address. For how long the host tries is its own matter.

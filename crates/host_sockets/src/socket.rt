@@ -5,6 +5,7 @@ use crate::address::Address;
 use crate::wire::Wire;
 use host_streams::told;
 use log::Log;
+use mio::net::{TcpStream as TcpProbe, UnixStream as UnixProbe};
 use std::fs::{Files, Permissions};
 use std::net::{Net, SocketAddr, TcpListener, TcpStream};
 use std::os::unix::fs::{FileTypeExt, MetadataExt, PermissionsExt};
@@ -32,7 +33,7 @@ fn is_left_behind<R: Files + Net>(rt: &R, path: &str) -> bool {
     if !found.file_type().is_socket() {
         return false;
     }
-    match mio::net::UnixStream::connect(rt, path) {
+    match UnixProbe::connect(rt, path) {
         Ok(_) => false,
         Err(error) => error.kind() == io::ErrorKind::ConnectionRefused,
     }
@@ -129,6 +130,16 @@ impl Socket {
         };
         wire.set_waits(idle)?;
         Ok((wire, peer))
+    }
+
+    /// Has one `accept` that waits return: with a connection to itself, which isn't waited for and is closed at once.
+    pub fn wake<R: Net>(&self, rt: &R) -> io::Result<()> {
+        match &self.door {
+            Some(Door::Tcp(door)) => drop(TcpProbe::connect(rt, door.local_addr()?)),
+            Some(Door::Unix(door, _)) => drop(UnixProbe::connect_addr(rt, &door.local_addr()?)),
+            None => {}
+        }
+        Ok(())
     }
 
     /// Closes it, once the file is removed that it was bound at, and says which that was. What is at its path by now instead is left there.

@@ -8,6 +8,9 @@ use std::io::{Error, ErrorKind, Read, Write};
 // How many bytes go through the stack at a time.
 const CHUNK: usize = 8192;
 
+// The same of a short read, for which no more are zeroed.
+const SMALL: usize = 256;
+
 // One read, tried again if a signal cuts it short.
 fn read_once<I: Read>(input: &mut I, out: &mut [u8]) -> io::Result<usize>
     ensures count { IfOk result (λ n. n ≤ length out.old) }
@@ -24,6 +27,24 @@ fn read_once<I: Read>(input: &mut I, out: &mut [u8]) -> io::Result<usize>
     Err(Error::from(ErrorKind::TimedOut))
 }
 
+// Reads some bytes by way of N bytes of the stack, as a reader may write past those that it counts.
+fn read_through<const N: usize, I: Read>(input: &mut I, out: &mut [u8]) -> io::Result<usize>
+    requires some { 0 < N }
+    requires few { N ≤ 8192 }
+    ensures count { IfOk result (λ n. n ≤ length out.old) }
+    ensures rest { IfOk result (λ n. KeepsFrom n out.old out.new) }
+    ensures bytes { IfOk result (λ n. Consumes (I.remaining input.old) (I.remaining input.new) (take n out.new)) }
+    ensures end { result ≡ Ok 0 → 0 < length out.old → IsAtEnd (I.remaining input.new) }
+    ensures failed { OnErr result (Keeps (I.remaining input.old) (I.remaining input.new)) }
+    ensures kept { OnErr result (out.new ≡ out.old) }
+{
+    let mut chunk = [0u8; N];
+    let most = out.len().min(N);
+    let count = read_once(input, &mut chunk[..most])?;
+    out[..count].copy_from_slice(&chunk[..count]);
+    Ok(count)
+}
+
 /// Reads some bytes, at most `out` has room for, and says how many. The rest of `out` is as it was, and all of it after a failure.
 pub fn read_some<I: Read>(input: &mut I, out: &mut [u8]) -> io::Result<usize>
     ensures count { IfOk result (λ n. n ≤ length out.old) }
@@ -33,11 +54,11 @@ pub fn read_some<I: Read>(input: &mut I, out: &mut [u8]) -> io::Result<usize>
     ensures failed { OnErr result (Keeps (I.remaining input.old) (I.remaining input.new)) }
     ensures kept { OnErr result (out.new ≡ out.old) }
 {
-    let mut chunk = [0u8; CHUNK];
-    let most = out.len().min(CHUNK);
-    let count = read_once(input, &mut chunk[..most])?;
-    out[..count].copy_from_slice(&chunk[..count]);
-    Ok(count)
+    if out.len() <= SMALL {
+        read_through::<SMALL, I>(input, out)
+    } else {
+        read_through::<CHUNK, I>(input, out)
+    }
 }
 
 /// Reads one byte, if `out` has room for it, and says how many it read. The rest of `out` is as it was.
@@ -57,25 +78,6 @@ pub fn read_one<I: Read>(input: &mut I, out: &mut [u8]) -> io::Result<usize>
         out[0] = byte[0];
     }
     Ok(count)
-}
-
-/// Reads until `out` is full or the end is reached, and says how many bytes it read. The rest of `out` is as it
-/// was.
-pub fn read_full<I: Read>(input: &mut I, out: &mut [u8]) -> io::Result<usize>
-    ensures count { IfOk result (λ n. n ≤ length out.old) }
-    ensures rest { IfOk result (λ n. KeepsFrom n out.old out.new) }
-    ensures bytes { IfOk result (λ n. Consumes (I.remaining input.old) (I.remaining input.new) (take n out.new)) }
-    ensures end { IfOk result (λ n. n < length out.old → IsAtEnd (I.remaining input.new)) }
-{
-    let mut filled = 0;
-    while filled < out.len() {
-        let count = read_some(input, &mut out[filled..])?;
-        if count == 0 {
-            return Ok(filled);
-        }
-        filled += count;
-    }
-    Ok(filled)
 }
 
 /// Writes some bytes from the front of a piece, at least one unless it is empty, and says how many. The writer has no buffer, so

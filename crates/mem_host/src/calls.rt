@@ -237,6 +237,13 @@ impl HostCalls for MemHost {
         Locking::Unknown
     }
 
+    // Nobody else changes a host in memory.
+    fn report_changed(&mut self, _text: &str)
+        ensures story { self.new.story ≡ self.old.story }
+        ensures top { self.new.top ≡ self.old.top }
+        ensures plan { self.new.plan ≡ self.old.plan }
+    {}
+
     fn did(&mut self, change: HostChange)
         ensures noted { HasNoted (Did (change_of change.entry)) self.old.story self.new.story }
         ensures top { self.new.top ≡ self.old.top }

@@ -81,6 +81,10 @@ impl<'a> HostCalls for Lent<'a> {
         self.host.lock(text, sharing)
     }
 
+    fn report_changed(&mut self, text: &str) {
+        self.host.report_changed(text);
+    }
+
     fn did(&mut self, change: HostChange) {
         self.host.did(change);
     }

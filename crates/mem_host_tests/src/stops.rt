@@ -3,6 +3,7 @@
 
 use crate::calls::host_at;
 use crate::lent::Lent;
+use host_calls::{Found, HostCalls};
 use host_folder::{HostFolder, Unsettled};
 use mem_host::{Extent, Fault, Leaves, MemHost};
 use outside::{Folder, FolderErr, Kind, Reads};
@@ -126,6 +127,47 @@ fn a_sync_lasts_and_nothing_else_must(rt: HostRuntime) -> Result<(), Fail> {
     for (count, now, synced) in SYNCED {
         assert!(rt; lasts(rt.alloc(), count, now, synced)?, "{count} steps");
     }
+    Ok(())
+}
+
+// A host with a file `b/a` and a folder `c`, which last, and a folder in each of both folders, which doesn't last yet.
+fn with_two_folders(alloc: Global) -> Result<MemHost, Fail> {
+    let mut host = host_at(alloc)?;
+    host.mkdir("v/b")?;
+    host.mkdir("v/c")?;
+    host.create("v/b/a", b"x")?;
+    for text in ["v/b/a", "v/b", "v/c", "v"] {
+        let seen = host.stat(text, false)?;
+        host.fsync(text, seen)?;
+    }
+    host.mkdir("v/b/left")?;
+    host.mkdir("v/c/come")?;
+    Ok(host)
+}
+
+// Moves the file from the one folder to the other, and syncs. Says how many calls of the host there were by then.
+fn move_and_sync(host: &mut MemHost, alloc: Global) -> Result<u64, Fail> {
+    let mut folder = HostFolder::untold(Lent { host }, alloc, "v")?;
+    folder.rename(&path_of(&[b"b", b"a"])?, &path_of(&[b"c", b"a"])?)?;
+    let _ = folder.sync();
+    drop(folder);
+    Ok(host.call_count())
+}
+
+// The last flush fails: what else was made in the folder that the file came to lasts by then, and what was made in the one that it left
+// doesn't.
+#[test]
+fn the_folder_that_a_file_left_is_flushed_last(rt: HostRuntime) -> Result<(), Fail> {
+    let alloc = rt.alloc();
+    let calls = move_and_sync(&mut with_two_folders(alloc)?, alloc)?;
+    let call = calls.checked_sub(1).ok_or("a call")?;
+    let done = Extent::Nothing;
+    let faults = vec![in alloc; Fault { call, done }]?;
+    let mut host = with_two_folders(alloc)?.failing_at(faults);
+    move_and_sync(&mut host, alloc)?;
+    let mut left = lasting(&host)?;
+    assert!(rt; matches!(left.stat("v/c/come", false), Ok(Found::Dir(_))));
+    assert!(rt; matches!(left.stat("v/b/left", false), Ok(Found::Nothing)));
     Ok(())
 }
 

@@ -1,4 +1,4 @@
-ghost use Rattle.std.specs.Prelude.{◌≡◌, ◌≤◌, ◌-◌, ℕ, List, Option, Some, length, take, drop, min, IfOk, OnOk, OnErr, IsErrOf};
+ghost use Rattle.std.specs.Prelude.{◌≡◌, ◌≤◌, ◌-◌, ℕ, List, Option, Some, ⊤, length, take, drop, min, IfOk, OnOk, OnErr, IsErrOf};
 ghost use Rattle.outside.specs.Disk.{kind_at, node_at, file, IsFolder, IsFile, IsListing, IsTree};
 ghost use Rattle.outside.specs.Calls.{HasCause, Told, Changes, IsUnfit, KeepsFrom, risen};
 ghost use Rattle.outside.specs.Changes.{MakeDir, Put, Write, SetLen, Move, RemoveFile, RemoveDir};
@@ -83,6 +83,12 @@ pub trait Reads {
         ensures log { log self.new ≡ log self.old }
         ensures changes { changes self.new ≡ changes self.old }
         ensures cause { HasCause (faults self.old) (faults self.new) (IsErrOf result FolderErr.Failed) };
+
+    /// Counts a fault: what is at a path isn't as it was left, so that another program changed it. A folder of the host tells the path.
+    fn report_changed(&mut self, path: &VaultPath)
+        ensures log { log self.new ≡ log self.old }
+        ensures changes { changes self.new ≡ changes self.old }
+        ensures cause { HasCause (faults self.old) (faults self.new) ⊤ };
 }
 
 /// A folder of the host that can be changed. Until a sync a stop may leave all of a change, a part of it, or none. A call that

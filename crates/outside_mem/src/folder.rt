@@ -351,6 +351,14 @@ impl Reads for MemFolder {
             None => Err(FolderErr::Unfit),
         }
     }
+
+    fn report_changed(&mut self, _path: &VaultPath)
+        ensures log { self.new.log ≡ self.old.log }
+        ensures changes { self.new.changes ≡ self.old.changes }
+        ensures plan { self.new.plan ≡ record self.old.plan { faults = risen self.old.plan.faults } }
+    {
+        self.plan.add_fault();
+    }
 }
 
 impl Folder for MemFolder {

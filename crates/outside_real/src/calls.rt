@@ -1,21 +1,22 @@
-ghost use Rattle.std.specs.Prelude.{◌≡◌, ◌++◌, ◌∷◌, OnOk, OnErr, IfOk, IfErr, IsOk, IsOkUnless, IsErrOf, Ok, Err, [], None};
+ghost use Rattle.std.specs.Prelude.{◌≡◌, ◌++◌, ◌∷◌, OnOk, OnErr, [], None};
 ghost use Rattle.outside_real.specs.Behind.{files_of};
-ghost use Rattle.outside_real.specs.Errors.{IsMisfit};
 
-use crate::errors::is_misfit;
 use crate::found::found_at;
 use crate::opened::{create, fsync, read_at, set_len, write_at};
 use host_calls::{Found, HostCalls, HostChange, Inode, Locking, Sharing};
-use host_streams::{TARGET, told};
-use log::{Log, warn};
+use host_streams::{TARGET, changed, listed, looked};
+use log::{Log, error, warn};
 use outside::FolderErr;
-use std::alloc::{AllocError, Global};
-use std::fmt::Display;
+use std::alloc::Global;
+use std::fs;
 use std::fs::{DirBuilder, File, TryLockError};
+use std::io::ErrorKind;
 use std::os::unix::fs::DirBuilderExt;
 use std::rt::Files;
-use std::{fs, io};
 use vault_path::Text;
+
+// What a name that isn't UTF-8 is listed as, whatever its bytes: U+FFFD.
+const NO_TEXT: &str = "\u{fffd}";
 
 // A new folder is read, written and entered by its owner alone, as far as the host's mask lets it be.
 const DIR_MODE: u32 = 0o700;
@@ -34,46 +35,14 @@ impl<R: Files, L: Log> StdCalls<R, L> {
     {
         StdCalls { rt, log }
     }
-
-    // The answer of a call that changes nothing. Why it failed is told.
-    fn looked<T, D: Display + Drop>(
-        &self,
-        call: &str,
-        at: D,
-        answer: io::Result<T>,
-    ) -> Result<T, FolderErr>
-        ensures done { IsOk answer → IsOk result }
-        ensures value { IfOk result (λ value. answer ≡ Ok value) }
-        ensures failed { IsOkUnless result FolderErr.Failed }
-    {
-        told(&self.log, format_args!("{call} of {at}"), answer).map_err(|_| FolderErr::Failed)
-    }
-
-    // The answer of a change: the path isn't what it needs, or the host failed, which is told.
-    fn changed<D: Display + Drop>(
-        &self,
-        call: &str,
-        at: D,
-        answer: io::Result<()>,
-    ) -> Result<(), FolderErr>
-        ensures done { IsOk answer → IsOk result }
-        ensures unfit { IfErr answer (λ cause. IsMisfit cause → result ≡ Err FolderErr.Unfit) }
-        ensures failed { IfErr answer (λ cause. ¬ IsMisfit cause → result ≡ Err FolderErr.Failed) }
-        ensures no_memory { IsErrOf result FolderErr.Memory → ⊥ }
-    {
-        match answer {
-            Err(cause) if is_misfit(&cause) => Err(FolderErr::Unfit),
-            answer => self.looked(call, at, answer),
-        }
-    }
 }
 
-fn push_name(alloc: Global, names: &mut Vec<Text>, name: &str) -> Result<(), AllocError>
+fn push_name(alloc: Global, names: &mut Vec<Text>, name: &str) -> Result<(), FolderErr>
     ensures ok { OnOk result (names.new.items ≡ names.old.items ++ name.now ∷ []) }
     ensures err { OnErr result (names.new.items ≡ names.old.items) }
 {
-    names.push(Text::from_vec(Vec::from_slice(alloc, name.as_bytes())?))?;
-    Ok(())
+    let name = Text::from_slice(alloc, name.as_bytes()).map_err(|_| FolderErr::Memory)?;
+    names.push(name).map_err(|_| FolderErr::Memory)
 }
 
 impl<R: Files<File = File>, L: Log> HostCalls for StdCalls<R, L> {
@@ -84,14 +53,25 @@ impl<R: Files<File = File>, L: Log> HostCalls for StdCalls<R, L> {
     type Lock = File;
 
     fn stat(&mut self, text: &str, is_top: bool) -> Result<Found, FolderErr> {
-        self.looked("stat", text, found_at(&self.rt, text, is_top))
+        looked(&self.log, "stat", text, found_at(&self.rt, text, is_top))
     }
 
     fn list(&mut self, alloc: Global, text: &str) -> Result<Vec<Text>, FolderErr> {
+        let entries = listed(&self.log, text, fs::read_dir(&(&self.rt, alloc), text))?;
         let mut names = Vec::new(alloc);
-        for entry in self.looked("list", text, fs::read_dir(&(&self.rt, alloc), text))? {
-            let entry = self.looked("list", text, entry)?;
-            push_name(alloc, &mut names, entry.file_name()).map_err(|_| FolderErr::Memory)?;
+        let mut has_no_text = false;
+        for entry in entries {
+            match entry {
+                Err(e) if e.kind() == ErrorKind::InvalidFilename => has_no_text = true,
+                Ok(entry) if entry.file_name() == NO_TEXT => has_no_text = true,
+                entry => {
+                    let entry = looked(&self.log, "list", text, entry)?;
+                    push_name(alloc, &mut names, entry.file_name())?;
+                }
+            }
+        }
+        if has_no_text {
+            push_name(alloc, &mut names, NO_TEXT)?;
         }
         Ok(names)
     }
@@ -103,16 +83,21 @@ impl<R: Files<File = File>, L: Log> HostCalls for StdCalls<R, L> {
         at: u64,
         out: &mut [u8],
     ) -> Result<usize, FolderErr> {
-        self.looked("read", text, read_at(&self.rt, text, seen, at, out))
+        looked(
+            &self.log,
+            "read",
+            text,
+            read_at(&self.rt, text, seen, at, out),
+        )
     }
 
     fn mkdir(&mut self, text: &str) -> Result<(), FolderErr> {
         let answer = DirBuilder::new().mode(DIR_MODE).create(&self.rt, text);
-        self.changed("mkdir", text, answer)
+        changed(&self.log, "mkdir", text, answer)
     }
 
     fn create(&mut self, text: &str, bytes: &[u8]) -> Result<(), FolderErr> {
-        self.changed("create", text, create(&self.rt, text, bytes))
+        changed(&self.log, "create", text, create(&self.rt, text, bytes))
     }
 
     fn write_at(
@@ -124,28 +109,28 @@ impl<R: Files<File = File>, L: Log> HostCalls for StdCalls<R, L> {
         is_end: bool,
     ) -> Result<(), FolderErr> {
         let answer = write_at(&self.rt, text, seen, at, bytes, is_end);
-        self.changed("write", text, answer)
+        changed(&self.log, "write", text, answer)
     }
 
     fn set_len(&mut self, text: &str, seen: Inode, len: u64) -> Result<(), FolderErr> {
-        self.changed("cut", text, set_len(&self.rt, text, seen, len))
+        changed(&self.log, "cut", text, set_len(&self.rt, text, seen, len))
     }
 
     fn rename(&mut self, from: &str, to: &str) -> Result<(), FolderErr> {
         let answer = fs::rename(&self.rt, from, to);
-        self.changed("rename", format_args!("{from} to {to}"), answer)
+        changed(&self.log, "rename", format_args!("{from} to {to}"), answer)
     }
 
     fn unlink(&mut self, text: &str) -> Result<(), FolderErr> {
-        self.changed("unlink", text, fs::remove_file(&self.rt, text))
+        changed(&self.log, "unlink", text, fs::remove_file(&self.rt, text))
     }
 
     fn rmdir(&mut self, text: &str) -> Result<(), FolderErr> {
-        self.changed("rmdir", text, fs::remove_dir(&self.rt, text))
+        changed(&self.log, "rmdir", text, fs::remove_dir(&self.rt, text))
     }
 
     fn fsync(&mut self, text: &str, seen: Found) -> Result<(), FolderErr> {
-        self.looked("fsync", text, fsync(&self.rt, text, seen))
+        looked(&self.log, "fsync", text, fsync(&self.rt, text, seen))
     }
 
     // The lock goes with the file that is open at the folder. If that can't be opened the next call of it fails as well, and tells why.
@@ -165,6 +150,10 @@ impl<R: Files<File = File>, L: Log> HostCalls for StdCalls<R, L> {
                 Locking::Unknown
             }
         }
+    }
+
+    fn report_changed(&mut self, text: &str) {
+        error!(self.log; target: TARGET, "another program changed {text}");
     }
 
     fn did(&mut self, _change: HostChange) {}

@@ -1,4 +1,4 @@
-ghost use Rattle.std.specs.Prelude.{◌≡◌, ◌%◌, ◌^◌, None};
+ghost use Rattle.std.specs.Prelude.{◌≡◌, None};
 ghost use Rattle.outside_real.specs.Behind.{clock_of};
 
 use outside::Clock;
@@ -9,13 +9,6 @@ use std::time::{SystemTime, UNIX_EPOCH};
 #[derive(Drop)]
 pub struct HostClock<R> {
     rt: R,
-}
-
-// The low 32 bits.
-fn cut(seconds: u64) -> u32
-    ensures { result ≡ seconds % 2 ^ 32 }
-{
-    (seconds % (1 << 32)) as u32
 }
 
 impl<R: SystemClock> HostClock<R> {
@@ -37,6 +30,6 @@ impl<R: SystemClock> Clock for HostClock<R> {
 
     // The low 32 bits of the seconds since 1970, and 0 if the clock fails or is before 1970.
     fn now(&mut self) -> u32 {
-        cut(self.since_1970().unwrap_or(0))
+        (self.since_1970().unwrap_or(0) % (1 << 32)) as u32
     }
 }

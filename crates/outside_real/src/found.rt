@@ -1,8 +1,8 @@
 ghost use Rattle.std.specs.Prelude.{◌≡◌, ◌↔◌};
 ghost use Rattle.std.specs.Fs.{IsDir, IsFile, file_type, metadata_len};
 
-use crate::errors::is_missing;
 use host_calls::{Found, Inode};
+use host_streams::is_missing;
 use std::fs::Metadata;
 use std::os::unix::fs::MetadataExt;
 use std::rt::Files;

@@ -5,9 +5,8 @@ ghost use Rattle.outside.specs.Calls.{KeepsFrom};
 
 use crate::found::found_of;
 use host_calls::{Found, Inode, is_same};
-use host_streams::read_full;
 use std::fs::{Metadata, OpenFile, OpenOptions};
-use std::io::{Seek, SeekFrom, Write};
+use std::io::{Read, Seek, SeekFrom, Write};
 use std::os::unix::fs::{MetadataExt, OpenOptionsExt};
 use std::rt::Files;
 use std::{fs, io};
@@ -73,8 +72,11 @@ pub(crate) fn read_at<R: Files>(
     ensures rest { IfOk result (λ n. KeepsFrom n out.old out.new) }
 {
     let mut file = open_seen(rt, text, &to_read(), Found::File(seen, 0))?;
+    let rest = file.metadata()?.len().saturating_sub(at);
+    let count = rest.min(out.len() as u64) as usize;
     file.seek(SeekFrom::Start(at))?;
-    read_full(&mut file, out)
+    file.read_exact(&mut out[..count])?;
+    Ok(count)
 }
 
 pub(crate) fn create<R: Files>(rt: &R, text: &str, bytes: &[u8]) -> io::Result<()> {
@@ -106,7 +108,11 @@ pub(crate) fn set_len<R: Files>(rt: &R, text: &str, seen: Inode, len: u64) -> io
 }
 
 pub(crate) fn fsync<R: Files>(rt: &R, text: &str, seen: Found) -> io::Result<()> {
-    open_seen(rt, text, &to_read(), seen)?.sync_all()
+    let opened = open_seen(rt, text, &to_read(), seen)?;
+    match seen {
+        Found::File(..) => opened.sync_data(),
+        _ => opened.sync_all(),
+    }
 }
 
 // Whether its mode gives something to the group or to others.

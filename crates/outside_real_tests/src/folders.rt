@@ -6,7 +6,8 @@ use log::sink::{Discard, Memory};
 use log::{Level, Logged};
 use outside::{Folder, FolderErr, Kind, Reads};
 use outside_real::StdCalls;
-use std::os::unix::fs::{MetadataExt, symlink};
+use std::fs::Permissions;
+use std::os::unix::fs::{MetadataExt, PermissionsExt, symlink};
 use std::test::Fail;
 use std::{fs, process};
 use vault_path::VaultPath;
@@ -103,6 +104,26 @@ fn changes_come_back(rt: HostRuntime) -> Result<(), Fail> {
     Ok(())
 }
 
+// A rename of the one to the other would leave both. A file that is moved to its own name stays.
+#[test]
+fn of_two_names_of_a_file_one_is_left(rt: HostRuntime) -> Result<(), Fail> {
+    let place = place(&rt, "links")?;
+    let mut folder = HostFolder::untold(StdCalls::new(&rt, Discard), rt.alloc(), place.as_str())?;
+    fill(&rt, place.as_str(), &mut folder)?;
+    let file = path_of(&[b"d", b"f"])?;
+    let moved = path_of(&[b"g"])?;
+    let from = format!(in rt.alloc(); "{place}/d/f")?;
+    fs::hard_link(&rt, from, format!(in rt.alloc(); "{place}/g")?)?;
+    folder.rename(&file, &moved)?;
+    assert_eq!(rt; folder.kind(&file), Ok(None));
+    assert_eq!(rt; folder.kind(&moved), Ok(Some(Kind::File(3))));
+    folder.rename(&moved, &moved)?;
+    assert_eq!(rt; folder.kind(&moved), Ok(Some(Kind::File(3))));
+    folder.sync()?;
+    fs::remove_dir_all(&rt, place)?;
+    Ok(())
+}
+
 #[test]
 fn what_does_not_fit_is_refused(rt: HostRuntime) -> Result<(), Fail> {
     let place = place(&rt, "unfit")?;
@@ -151,6 +172,29 @@ fn nothing_is_told_of_a_folder_that_is_missing(rt: HostRuntime) -> Result<(), Fa
             assert!(rt; folder.list(rt.alloc(), &path).is_err(), "{names:?}");
         }
     }
+    Ok(())
+}
+
+// The system says EACCES, but to root. It is told, and no folder is there.
+#[test]
+fn a_closed_folder_is_none(rt: HostRuntime) -> Result<(), Fail> {
+    let place = place(&rt, "closed")?;
+    fs::create_dir(&rt, place.as_str())?;
+    fs::set_permissions(&rt, place.as_str(), Permissions::from_mode(0o000))?;
+    let log = Logged::new(&rt, Level::Error, Memory::new(rt.alloc()));
+    let answer = StdCalls::new(&rt, &log).list(rt.alloc(), place.as_str());
+    fs::set_permissions(&rt, place.as_str(), Permissions::from_mode(0o700))?;
+    fs::remove_dir(&rt, place.as_str())?;
+    let Err(cause) = answer else {
+        return Ok(());
+    };
+    assert_eq!(rt; cause, FolderErr::Unfit);
+    let (_, lines) = log.into_parts();
+    let lines = lines.into_lines();
+    let want = [format!(in rt.alloc();
+        "[ERROR vaultd] list of {place}: Permission denied (os error 13)"
+    )?];
+    assert!(rt; lines.as_slice() == want.as_slice());
     Ok(())
 }
 

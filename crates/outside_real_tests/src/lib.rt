@@ -4,6 +4,8 @@
 #[cfg(test)]
 mod folders;
 #[cfg(test)]
+mod listed;
+#[cfg(test)]
 mod locks;
 #[cfg(test)]
 mod objects;
@@ -13,3 +15,5 @@ mod script;
 mod secrets;
 #[cfg(test)]
 mod sockets;
+#[cfg(test)]
+mod stops;

@@ -17,9 +17,9 @@ use std::time::Duration;
 const IDLE: u64 = 2;
 
 // Serves one client, which is answered whenever a `?` came, up to the end of what it sends: what is told of it.
-fn serve<R: Clock + AllocGlobal>(rt: &R, socket: &Socket) -> Lines {
+fn serve<R: Clock + Net + AllocGlobal>(rt: &R, socket: &Socket) -> Lines {
     let log = Logged::new(rt, Level::Info, Memory::new(rt.alloc()));
-    let mut listen = SocketListen::new(rt, &log, socket, IDLE);
+    let mut listen = SocketListen::new(rt, &log, socket, IDLE, None);
     if let Ok(Some(mut link)) = listen.next() {
         let mut byte = [0u8; 1];
         for _ in 0..100 {
@@ -151,7 +151,7 @@ fn a_socket_that_could_not_be_bound_fails(rt: HostRuntime) -> Result<(), Fail> {
         let log = Logged::new(&rt, Level::Error, Memory::new(rt.alloc()));
         let socket = Socket::bind(&rt, &log, address_named(rt.alloc(), address)?);
         assert!(rt; !socket.is_bound(), "{address}");
-        let mut listen = SocketListen::new(&rt, Discard, &socket, 0);
+        let mut listen = SocketListen::new(&rt, Discard, &socket, 0, None);
         assert!(rt; listen.next().is_err(), "{address}");
         let (_, lines) = log.into_parts();
         let lines = lines.into_lines();
