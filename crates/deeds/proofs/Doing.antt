@@ -185,8 +185,8 @@ phase_done xs old mid new steady does is = (
 pub does_one : (x : PlainDeed) (s a b : Disk) → Does x s a → Does x s b → a ≡ b
 does_one x s a b (inl p) (inl q) = p.1 ∙ sym q.1
 does_one x s a b (inr p) (inr q) = p.1 ∙ sym q.1
-does_one (Renames from to) s a b (inl p) (inr q) = absurd (let e : Some (file q.0.there.0) ≡ None = sym q.0.there.1 ∙ p.0.0 in cc)
-does_one (Renames from to) s a b (inr p) (inl q) = absurd (let e : Some (file p.0.there.0) ≡ None = sym p.0.there.1 ∙ q.0.0 in cc)
+does_one (Renames from to) s a b (inl p) (inr q) = absurd (let e : Some (file q.0.0.there.0) ≡ None = sym q.0.0.there.1 ∙ p.0.0 in cc)
+does_one (Renames from to) s a b (inr p) (inl q) = absurd (let e : Some (file p.0.0.there.0) ≡ None = sym p.0.0.there.1 ∙ q.0.0 in cc)
 does_one (MakesDir path) s a b (inl p) (inr q) = absurd p.0
 does_one (MakesDir path) s a b (inr p) (inl q) = absurd q.0
 does_one (Puts path bytes) s a b (inl p) (inr q) = absurd p.0

@@ -21,3 +21,6 @@ pub mod Applying
 pub mod Written
 pub mod Reshaping
 pub mod InPhase
+pub mod Putting
+pub mod Moving
+pub mod Alike

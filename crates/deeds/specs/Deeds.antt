@@ -7,7 +7,7 @@ use Rattle.deeds.specs.declared.phase.Phase.{Phase}
 use Rattle.deeds.specs.declared.phase.Phase.TheVariants as phases
 use Rattle.deeds.specs.declared.phase.DeedErr.{DeedErr}
 use Rattle.deeds.specs.declared.phase.DeedErr.TheVariants.{Failed, Unfit}
-use Rattle.outside.specs.Changes.{MakeDir, Put, Write, SetLen, Move, RemoveFile, RemoveDir, CanDo, done, IsPartOf, IsFree, set_at, in_file}
+use Rattle.outside.specs.Changes.{MakeDir, Put, Write, SetLen, Move, RemoveFile, RemoveDir, CanDo, MayStand, done, IsPartOf, IsFree, set_at, in_file}
 use Rattle.outside.specs.Unsynced.{changes_in, touched}
 use Rattle.deeds.specs.Reshape.{Ranges, written, CanWrite, EndWithin, IsRangeOf, IsReshaping}
 
@@ -19,11 +19,24 @@ pub data PlainDeed : Type 0 where
   RemovesDir : Path → PlainDeed
   Reshapes : Path → ℕ → Ranges → PlainDeed
 
--- when it can be done
+-- a file there has no more bytes than these
+abbrev pub HoldsNoMore : Path → List ℕ → Disk → Type 0
+HoldsNoMore path bytes disk = (old : List ℕ) → node_at disk path ≡ Some (file old) → length old ≤ length bytes
+
+-- a file there is the same, byte for byte
+abbrev pub HoldsSame : Path → Path → Disk → Type 0
+HoldsSame from to disk = (old : List ℕ) → node_at disk to ≡ Some (file old) → node_at disk from ≡ Some (file old)
+
+-- of two files, if both are there
+abbrev pub OfFiles : Path → Path → (List ℕ → List ℕ → Type 0) → Disk → Type 0
+OfFiles one other P disk = (a b : List ℕ) → node_at disk one ≡ Some (file a) → node_at disk other ≡ Some (file b) → P a b
+
+-- When it can be done. A longer file, which no stop leaves of a Put, isn't put over; nor is a file moved over another of other bytes, since a stop
+-- leaves no other file under the new name.
 abbrev pub CanDeed : PlainDeed → Disk → Type 0
 CanDeed (MakesDir path) disk = CanDo (MakeDir path) disk
-CanDeed (Puts path bytes) disk = CanDo (Put path bytes) disk
-CanDeed (Renames from to) disk = CanDo (Move from to) disk
+CanDeed (Puts path bytes) disk = CanDo (Put path bytes) disk × HoldsNoMore path bytes disk
+CanDeed (Renames from to) disk = CanDo (Move from to) disk × HoldsSame from to disk
 CanDeed (Removes path) disk = CanDo (RemoveFile path) disk
 CanDeed (RemovesDir path) disk = CanDo (RemoveDir path) disk
 CanDeed (Reshapes path len ranges) disk = (was : List ℕ) × (node_at disk path ≡ Some (file was)) × EndWithin len ranges × CanWrite ranges was × (len ≤ length (written ranges was))
@@ -111,7 +124,7 @@ IsOneOf deed (other ∷ others) = (deed ≡ other) ⊎ IsOneOf deed others
 -- what is at a deed's own paths is what was there, what the deed leaves, or something on the way
 abbrev pub OnTheWay : PlainDeed → Disk → Disk → Type 0
 OnTheWay (MakesDir path) disk image = (node_at image path ≡ node_at disk path) ⊎ (node_at image path ≡ Some folder)
-OnTheWay (Puts path bytes) disk image = (node_at image path ≡ node_at disk path) ⊎ IsFree (node_at image path)
+OnTheWay (Puts path bytes) disk image = (node_at image path ≡ node_at disk path) ⊎ MayStand (Put path bytes) (node_at disk path) (node_at image path)
 OnTheWay (Renames from to) disk image =
     ((node_at image from ≡ node_at disk from) × (node_at image to ≡ node_at disk to))
     ⊎ (IsFile disk from × IsFree (node_at disk to) × (node_at image from ≡ None) × (node_at image to ≡ node_at disk from))

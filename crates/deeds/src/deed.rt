@@ -2,14 +2,15 @@ ghost use Rattle.std.specs.Prelude.{◌≡◌, ◌↔◌, [], ◌∷◌, IfOk, I
 ghost use Rattle.outside.specs.Calls.{HasCause, Told, Changes, IsUnfit};
 ghost use Rattle.outside.specs.Disk.{Disk};
 ghost use Rattle.outside.specs.Images.{now, IsSteady};
-ghost use Rattle.deeds.specs.Deeds.{MakesDir, Puts, Renames, Removes, RemovesDir, IsDoneAlready, Does, DoesAll, StaysAmid, GoesOnAt, names, named, is_of, of_phase, IsRefusal, IsRefusedIn, IfUnfit, IsWithin, AreWithin};
+ghost use Rattle.deeds.specs.Deeds.{MakesDir, Puts, Renames, Removes, RemovesDir, HoldsNoMore, HoldsSame, IsDoneAlready, Does, DoesAll, StaysAmid, GoesOnAt, names, named, is_of, of_phase, IsRefusal, IsRefusedIn, IfUnfit, IsWithin, AreWithin};
 ghost use Rattle.outside.specs.Unsynced.{IsSynced};
 ghost use Rattle.deeds.specs.Applying.{KeepsStill, StaysApplied, StaysRefused, HasBrokenOff, HasStopped};
 ghost use Rattle.deeds.specs.Plain.{plain, plains};
 
+use crate::compare::same_bytes;
 use crate::phase::{DeedErr, Phase};
 use crate::writes::{Range, do_reshape};
-use outside::{Folder, FolderErr, Reads};
+use outside::{Folder, FolderErr, Kind, Reads};
 use vault_path::VaultPath;
 
 /// A change of a folder that a batch names.
@@ -17,9 +18,9 @@ use vault_path::VaultPath;
 pub enum Deed {
     /// Makes a folder if there is none yet.
     MakeDir(VaultPath),
-    /// Puts a file with these bytes.
+    /// Puts a file with these bytes. It doesn't fit where a longer file is.
     Put(VaultPath, Vec<u8>),
-    /// Moves a file.
+    /// Moves a file. It doesn't fit where another file is at the name that it goes to.
     Rename(VaultPath, VaultPath),
     /// Removes a file, if one is there.
     Remove(VaultPath),
@@ -72,7 +73,26 @@ fn do_make_dir<F: Folder>(folder: &mut F, path: &VaultPath) -> Result<(), Folder
     Ok(())
 }
 
-// Puts a file.
+// Whether a file at the path, if one is there, has no more bytes than these.
+fn holds_no_more<F: Reads>(
+    folder: &mut F,
+    path: &VaultPath,
+    bytes: &[u8],
+) -> Result<bool, FolderErr>
+    ensures held { IfOk result (λ held. Told (F.log folder.old) (λ log. IsTrue held ↔ HoldsNoMore path.now bytes.now (now log))) }
+    ensures log { F.log folder.new ≡ F.log folder.old }
+    ensures fits { IsErrOf result FolderErr.Unfit → ⊥ }
+    ensures no_memory { IsErrOf result FolderErr.Memory → ⊥ }
+    ensures cause { HasCause (F.faults folder.old) (F.faults folder.new) (IsErrOf result FolderErr.Failed) }
+{
+    match folder.kind(path)? {
+        Some(Kind::File(len)) => Ok(len <= bytes.len() as u64),
+        Some(Kind::Dir) => Ok(true),
+        None => Ok(true),
+    }
+}
+
+// Puts a file. A longer one that is there was saved by another program, and stays.
 fn do_put<F: Folder>(folder: &mut F, path: &VaultPath, bytes: &[u8]) -> Result<(), FolderErr>
     ensures done { OnOk result (Changes (F.log folder.old) (F.log folder.new) (λ old new. Does (Puts path.now bytes.now) (now old) (now new))) }
     ensures amid { Changes (F.log folder.old) (F.log folder.new) (StaysAmid (Puts path.now bytes.now ∷ [])) }
@@ -83,6 +103,10 @@ fn do_put<F: Folder>(folder: &mut F, path: &VaultPath, bytes: &[u8]) -> Result<(
     ensures no_memory { IsErrOf result FolderErr.Memory → ⊥ }
     ensures cause { HasCause (F.faults folder.old) (F.faults folder.new) (IsErrOf result FolderErr.Failed) }
 {
+    if !holds_no_more(folder, path, bytes)? {
+        folder.report_changed(path);
+        return Err(FolderErr::Unfit);
+    }
     folder.put(path, bytes)?;
     Ok(())
 }
@@ -117,7 +141,29 @@ fn do_remove_dir<F: Folder>(folder: &mut F, path: &VaultPath) -> Result<(), Fold
     Ok(())
 }
 
-// Moves a file that wasn't moved already.
+// Whether a file at `to`, if one is there, is at `from`, too: a power cut may leave a file that is moved under both its names.
+fn holds_same<F: Reads>(folder: &mut F, from: &VaultPath, to: &VaultPath) -> Result<bool, FolderErr>
+    ensures held { IfOk result (λ held. Told (F.log folder.old) (λ log. IsTrue held ↔ HoldsSame from.now to.now (now log))) }
+    ensures log { F.log folder.new ≡ F.log folder.old }
+    ensures fits { IsErrOf result FolderErr.Unfit → ⊥ }
+    ensures no_memory { IsErrOf result FolderErr.Memory → ⊥ }
+    ensures cause { HasCause (F.faults folder.old) (F.faults folder.new) (IsErrOf result FolderErr.Failed) }
+{
+    let Some(Kind::File(len)) = folder.kind(to)? else {
+        return Ok(true);
+    };
+    if folder.kind(from)? != Some(Kind::File(len)) {
+        return Ok(false);
+    }
+    match same_bytes(folder, from, to, len) {
+        // another program changed one of them meanwhile
+        Err(FolderErr::Unfit) => Ok(false),
+        answer => answer,
+    }
+}
+
+// Moves a file that wasn't moved already. Another one that is at `to` was saved by another program, or is ours, moved before
+// that program saved one at `from`: both stay.
 fn do_rename<F: Folder>(folder: &mut F, from: &VaultPath, to: &VaultPath) -> Result<(), FolderErr>
     ensures done { OnOk result (Changes (F.log folder.old) (F.log folder.new) (λ old new. Does (Renames from.now to.now) (now old) (now new))) }
     ensures amid { Changes (F.log folder.old) (F.log folder.new) (StaysAmid (Renames from.now to.now ∷ [])) }
@@ -131,11 +177,17 @@ fn do_rename<F: Folder>(folder: &mut F, from: &VaultPath, to: &VaultPath) -> Res
     if is_moved(folder, from, to)? {
         return Ok(());
     }
-    folder.rename(from, to)?;
-    Ok(())
+    if holds_same(folder, from, to)? {
+        folder.rename(from, to)?;
+        Ok(())
+    } else {
+        folder.report_changed(to);
+        Err(FolderErr::Unfit)
+    }
 }
 
-/// Does a deed. If a file was moved already, nothing is done.
+/// Does a deed. If a file was moved already, nothing is done. A longer file at the place of a `Put`, and another file at the
+/// name that a `Rename` goes to, are reported as changed, and stay.
 pub fn do_deed<F: Folder>(folder: &mut F, deed: &Deed) -> Result<(), FolderErr>
     requires { IsWithin (plain deed.now) }
     ensures done { OnOk result (Changes (F.log folder.old) (F.log folder.new) (λ old new. Does (plain deed.now) (now old) (now new))) }

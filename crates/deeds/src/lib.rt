@@ -25,12 +25,15 @@
 //! A path is its number of parts\[1\] (1 to 6), and each part's length\[1\] and bytes.
 //!
 //! A batch of which a deed doesn't fit is done up to the first call whose condition fails: the deeds before it, and of a `Reshape` the writes before
-//! that call.
+//! that call. A `Put` doesn't fit where a folder is, nor where a file is that has more bytes than it: a stop leaves no such file of it, so another
+//! program saved one there. A `Rename` doesn't fit where another file is at the name that it goes to: a stop leaves the moved file alone there, or
+//! under both names, so another program saved one at either of them.
 //!
 //! Laws: `doing_again`, `staying_amid`, `doing_beside` and `applying_again`, which do nothing.
 #![tactic(auto)]
 
 mod batch;
+mod compare;
 mod deed;
 mod fault;
 mod phase;

@@ -18,7 +18,8 @@ pub enum DeedErr {
     #[error("the folder failed")]
     Failed,
     /// The folder doesn't fit the deed at this index. Those that come before it in the order of doing are done, and of a
-    /// `Reshape` the writes before the refused call.
+    /// `Reshape` the writes before the refused call. A file longer than a `Put`'s bytes at its place is such a misfit, and so is
+    /// another file at the name that a `Rename` goes to.
     #[error("deed {0} does not fit the folder")]
     Unfit(usize),
 }
