@@ -1,11 +1,14 @@
 -- What is read of a journal, and where it is damaged.
-use Rattle.std.proofs.Common.{◌≡◌, ◌⊎◌, ⊎_elim, ℕ, zero, suc, ◌+◌, ◌-◌, ◌<◌, ◌≤◌, min, max, List, [], ◌∷◌, ◌++◌, length, take, drop, get_or, Option, Some, None, refl, sym, ap, subst, ◌∙◌, inl, inr, arith, length-append, length-drop, length-take, append_assoc}
+use Rattle.std.proofs.Common.{◌≡◌, ◌⊎◌, ⊎_elim, IsTrue, IsFalse, Bool, true, false, ℕ, zero, suc, ◌+◌, ◌-◌, ◌<◌, ◌≤◌, min, max, List, [], ◌∷◌, ◌++◌, length, take, drop, get_or, Option, Some, None, refl, sym, ap, subst, ◌∙◌, inl, inr, arith, length-append, length-drop, length-take, append_assoc}
 use Rattle.std.specs.Int.{w64, to_be_bytes, from_be_bytes}
 use Rattle.std.specs.List.{AllByRecursion}
 use Rattle.std.specs.Option.{option_map}
 use Rattle.std.proofs.lemmas.Nat.{be_bytes_8, from_be_bytes-to_be_bytes_4, from_be_bytes-to_be_bytes_8}
-use Rattle.std.proofs.lemmas.List.{take-append-drop, take-append-le, take_at, get_or-take, get_or_past}
+use Rattle.std.proofs.lemmas.List.{take-append-drop, take-append-le, take_at, get_or-take, get_or_past, take_all, take-take, drop_at}
 use Rattle.std.proofs.lemmas.Bool.{cases_lt}
+use Rattle.sha2.specs.Sha256.{sha256}
+use Rattle.sha2.proofs.Facts256.{length-sha256}
+use Rattle.deeds.proofs.BatchBytes.{one_batch}
 use Rattle.outside.specs.Disk.{Disk, Path, Node, folder, file, node_at, kind_of, IsFolder}
 use Rattle.outside.specs.declared.folder.Kind.TheVariants.{File}
 use Rattle.deeds.specs.Deeds.{PlainDeed, DoesAll, IsRefusedAt, in_order}
@@ -14,8 +17,8 @@ use Rattle.deeds.specs.Reading.{deed_at}
 use Rattle.deeds.proofs.Fields.{some_is}
 use Rattle.deeds.proofs.DeedBytes.{deed_again}
 use Rattle.deeds.proofs.Batches.{refused_cannot}
-use Rattle.chunk_journal.specs.Journal.{journal_file, new_file, HoldsBatch, IsClosed, RecoversTo, IsUnheld}
-use Rattle.chunk_journal.specs.Opening.{said_len, batch_bytes, IsShort, HasFolder, Says, IsCutAt, IsUnreadAt, IsUnfitAt, IsBadBehindGate, IsDamagedAt}
+use Rattle.chunk_journal.specs.Journal.{journal_file, new_file, sum_mark, IsSummed, HoldsBatch, IsClosed, RecoversTo, IsUnheld}
+use Rattle.chunk_journal.specs.Opening.{said_len, batch_bytes, whole_batch, behind_batch, IsShort, HasFolder, Says, Follows, IsSummedOrNot, IsCutAt, IsUnreadAt, IsUnfitAt, IsBadBehindGate, IsDamagedAt}
 use Rattle.chunk_journal.proofs.Gate.{one_held}
 
 -- ---- what is at a path, by its kind
@@ -97,16 +100,31 @@ held_whole ds rest batch short =
 pub one_file : (o : Option Node) (a b : List ℕ) → o ≡ Some (file a) → o ≡ Some (file b) → a ≡ b
 one_file o a b ea eb = let e : Some (file a) ≡ Some (file b) = sym ea ∙ eb in cc
 
+-- up to its end, and what follows
+held_front : (ds : List PlainDeed) (rest : List ℕ) → IsBatch ds → whole_batch (held_bytes ds rest) ≡ 1 ∷ behind_gate ds
+held_front ds rest batch = take_at (1 ∷ behind_gate ds) rest (9 + said_len (held_bytes ds rest)) (omega (arith, held_len ds rest batch))
+
+held_behind : (ds : List PlainDeed) (rest : List ℕ) → IsBatch ds → behind_batch (held_bytes ds rest) ≡ rest
+held_behind ds rest batch = drop_at (1 ∷ behind_gate ds) rest (9 + said_len (held_bytes ds rest)) (omega (arith, held_len ds rest batch))
+
+-- a sum that isn't another's is none of another
+summed_there : (ds : List PlainDeed) (rest : List ℕ) → IsBatch ds → IsSummed (1 ∷ behind_gate ds) rest → IsSummed (whole_batch (held_bytes ds rest)) (behind_batch (held_bytes ds rest))
+summed_there ds rest batch sum =
+    subst (λ (l : List ℕ). IsSummed l (behind_batch (held_bytes ds rest))) (sym (held_front ds rest batch)) (subst (λ (l : List ℕ). IsSummed (1 ∷ behind_gate ds) l) (sym (held_behind ds rest batch)) sum)
+
+pub summed_here : (ds : List PlainDeed) (rest : List ℕ) → IsBatch ds → IsSummed (whole_batch (held_bytes ds rest)) (behind_batch (held_bytes ds rest)) → IsSummed (1 ∷ behind_gate ds) rest
+summed_here ds rest batch sum =
+    subst (λ (l : List ℕ). IsSummed (1 ∷ behind_gate ds) l) (held_behind ds rest batch) (subst (λ (l : List ℕ). IsSummed l (behind_batch (held_bytes ds rest))) (held_front ds rest batch) sum)
+
 pub held_not_bad : (disk after : Disk) (ds : List PlainDeed) (at : ℕ) → HoldsBatch disk ds → DoesAll (in_order ds) disk after → IsBadBehindGate disk at → ⊥
 held_not_bad disk after ds at held run bad =
-    let same : bad.bytes ≡ held_bytes ds held.1 = one_file (node_at disk journal_file) bad.bytes (held_bytes ds held.1) bad.here held.2 in
-    ⊎_elim
-    (λ (cut : IsCutAt bad.bytes at). held_whole ds held.1 held.0 (subst IsShort same cut.short))
-    (λ (others : IsUnreadAt bad.bytes at ⊎ IsUnfitAt disk at). ⊎_elim
-    (λ (unread : IsUnreadAt bad.bytes at). whole_not_bad ds unread.fault held.0 (subst (λ (l : List ℕ). IsBadAt l unread.fault) (ap batch_bytes same ∙ held_batch_is ds held.1 held.0) unread.bad))
-    (λ (unfit : IsUnfitAt disk at). refused_cannot ds unfit.index disk after (subst (λ (l : List PlainDeed). IsRefusedAt l unfit.index disk) (one_held disk unfit.deeds ds unfit.held held) unfit.refused) run)
-    others)
-    bad.damage
+    let same : bad.bytes ≡ held_bytes ds held.rest = one_file (node_at disk journal_file) bad.bytes (held_bytes ds held.rest) bad.here held.here in
+    elim bad.damage [
+      | inl cut ↦ held_whole ds held.rest held.batch (subst IsShort same cut.short)
+      | inr (inl unread) ↦ whole_not_bad ds unread.fault held.batch (subst (λ (l : List ℕ). IsBadAt l unread.fault) (ap batch_bytes same ∙ held_batch_is ds held.rest held.batch) unread.bad)
+      | inr (inr (inl missummed)) ↦ missummed.other (subst (λ (l : List ℕ). IsSummed (whole_batch l) (behind_batch l)) (sym same) (summed_there ds held.rest held.batch held.sum))
+      | inr (inr (inr unfit)) ↦ refused_cannot ds unfit.index disk after (subst (λ (l : List PlainDeed). IsRefusedAt l unfit.index disk) (one_held disk unfit.deeds ds unfit.held held) unfit.refused) run
+    ]
 
 pub closed_not_bad : (disk : Disk) (at : ℕ) → IsClosed disk → IsBadBehindGate disk at → ⊥
 closed_not_bad disk at (inl none) bad = let e : None ≡ Some (file bad.bytes) = sym none ∙ bad.here in cc
@@ -118,7 +136,7 @@ no_folder_here o bytes f is = let e : Some (file bytes) ≡ Some folder = sym f 
 pub no_journal_folder : (disk to : Disk) → RecoversTo disk to → IsFolder disk journal_file → ⊥
 no_journal_folder disk to (inl (inl none, same)) is = let e : None ≡ Some folder = sym none ∙ is in cc
 no_journal_folder disk to (inl (inr f, same)) is = no_folder_here _ f.0 f.1 is
-no_journal_folder disk to (inr (ds, held, run)) is = no_folder_here _ (held_bytes ds held.1) held.2 is
+no_journal_folder disk to (inr (ds, held, run)) is = no_folder_here _ (held_bytes ds held.rest) held.here is
 
 not_bad : (disk to : Disk) (at : ℕ) → RecoversTo disk to → IsBadBehindGate disk at → ⊥
 not_bad disk to at (inl (closed, same)) bad = closed_not_bad disk at closed bad
@@ -237,7 +255,7 @@ cut_short d head bytes n len said none here long is some open_gate said_is few =
 -- it holds no batch
 pub cut_unheld : (d : Disk) (bytes : List ℕ) (at : ℕ) → node_at d journal_file ≡ Some (file bytes) → IsCutAt bytes at → IsUnheld d
 cut_unheld d bytes at here cut deeds held =
-    held_whole deeds held.1 held.0 (subst IsShort (one_file (node_at d journal_file) bytes (held_bytes deeds held.1) here held.2) cut.short)
+    held_whole deeds held.rest held.batch (subst IsShort (one_file (node_at d journal_file) bytes (held_bytes deeds held.rest) here held.here) cut.short)
 
 -- ---- what is read after it
 
@@ -252,8 +270,8 @@ long_of bytes len whole is = elim (cases_lt (length bytes) (9 + said_len bytes))
 ]
 
 -- the batch that was read follows the gate
-pub holds : (d : Disk) (len : ℕ) (text : List ℕ) (ds : List PlainDeed) (s : Says len d) → IsBatch ds → text ≡ spelled ds → text ≡ take len (drop 9 s.bytes) → length text ≡ len → HoldsBatch d ds
-holds d len text ds s batch is read count =
+pub follows : (d : Disk) (len : ℕ) (text : List ℕ) (ds : List PlainDeed) (s : Says len d) → IsBatch ds → text ≡ spelled ds → text ≡ take len (drop 9 s.bytes) → length text ≡ len → Follows ds d
+follows d len text ds s batch is read count =
     let front = gate_front s.bytes s.gate in
     let tail = front.0 in
     let same : s.bytes ≡ 1 ∷ tail = front.1 in
@@ -267,7 +285,7 @@ holds d len text ds s batch is read count =
     ∙ ap (λ (l : List ℕ). take 8 tail ++ l) (sym (take-append-drop len (drop 8 tail)) ∙ ap (λ (l : List ℕ). l ++ drop len (drop 8 tail)) (ap (λ (l : List ℕ). take len (drop 9 l)) (sym same) ∙ sym read ∙ is))
     ∙ sym (append_assoc (take 8 tail) (spelled ds) (drop len (drop 8 tail)))
     ∙ ap (λ (l : List ℕ). (l ++ spelled ds) ++ drop len (drop 8 tail)) (sym eight) in
-    (batch, drop len (drop 8 tail), s.here ∙ ap (λ (l : List ℕ). Some (file l)) (same ∙ ap (λ (l : List ℕ). 1 ∷ l) here))
+    record { batch = batch; rest = drop len (drop 8 tail); here = s.here ∙ ap (λ (l : List ℕ). Some (file l)) (same ∙ ap (λ (l : List ℕ). 1 ∷ l) here) }
   where
     fits_behind : (l : List ℕ) → ((i : ℕ) → get_or (take 9 l) i 0 < 256) → (i : ℕ) → get_or (take 8 (drop 1 l)) i 0 < 256
     fits_behind [] fits i = fits (suc i)
@@ -295,8 +313,103 @@ unread d len at text s none read bad = record {
 pub unread_unheld : (d : Disk) (len at : ℕ) (text : List ℕ) (s : Says len d) → text ≡ take len (drop 9 s.bytes) → IsBadAt text at → IsUnheld d
 unread_unheld d len at text s read bad deeds held =
     let is = unread_is d len at text s read bad in
-    let same : s.bytes ≡ held_bytes deeds held.1 = one_file (node_at d journal_file) s.bytes (held_bytes deeds held.1) s.here held.2 in
-    whole_not_bad deeds is.fault held.0 (subst (λ (l : List ℕ). IsBadAt l is.fault) (ap batch_bytes same ∙ held_batch_is deeds held.1 held.0) is.bad)
+    let same : s.bytes ≡ held_bytes deeds held.rest = one_file (node_at d journal_file) s.bytes (held_bytes deeds held.rest) s.here held.here in
+    whole_not_bad deeds is.fault held.batch (subst (λ (l : List ℕ). IsBadAt l is.fault) (ap batch_bytes same ∙ held_batch_is deeds held.rest held.batch) is.bad)
+
+-- ---- what is read behind the batch
+
+same_follows : (d : Disk) (a b : List PlainDeed) (x : Follows a d) (y : Follows b d) → (a ≡ b) × (x.rest ≡ y.rest)
+same_follows d a b x y =
+    let same : held_bytes a x.rest ≡ held_bytes b y.rest = one_file (node_at d journal_file) (held_bytes a x.rest) (held_bytes b y.rest) x.here y.here in
+    let e : Some (file (held_bytes a x.rest)) ≡ Some (file (held_bytes b y.rest)) = sym x.here ∙ y.here in
+    let tail : behind_gate a ++ x.rest ≡ behind_gate b ++ y.rest = cc in
+    let one : a ≡ b = one_batch a b x.rest y.rest x.batch y.batch (ap (λ (l : List ℕ). drop 8 l) tail) in
+    (one, sym (held_behind a x.rest x.batch) ∙ ap behind_batch same ∙ held_behind b y.rest y.batch)
+
+-- another's sum is damage, and then no batch is held
+pub missummed : (d : Disk) (len : ℕ) (ds : List PlainDeed) (s : Says len d) → (HasFolder d → ⊥) → IsSummedOrNot false ds d → IsBadBehindGate d (9 + len)
+missummed d len ds s none other =
+    let f = other.0 in
+    let same : s.bytes ≡ held_bytes ds f.rest = one_file (node_at d journal_file) s.bytes (held_bytes ds f.rest) s.here f.here in
+    record {
+      no_folder = none;
+      bytes = s.bytes;
+      here = s.here;
+      gate = s.gate;
+      damage = inr (inr (inl (record {
+        whole = s.whole;
+        good = λ fault bad. whole_not_bad ds fault f.batch (subst (λ (l : List ℕ). IsBadAt l fault) (ap batch_bytes same ∙ held_batch_is ds f.rest f.batch) bad);
+        other = λ sum. other.1 (summed_here ds f.rest f.batch (subst (λ (l : List ℕ). IsSummed (whole_batch l) (behind_batch l)) same sum));
+        place = ap (λ (n : ℕ). 9 + n) s.is;
+      })));
+    }
+
+pub missummed_unheld : (d : Disk) (ds : List PlainDeed) → IsSummedOrNot false ds d → IsUnheld d
+missummed_unheld d ds other deeds held =
+    let there : Follows deeds d = record { batch = held.batch; rest = held.rest; here = held.here } in
+    let same = same_follows d deeds ds there other.0 in
+    other.1 (subst (λ (l : List ℕ). IsSummed (1 ∷ behind_gate ds) l) same.1 (subst (λ (l : List PlainDeed). IsSummed (1 ∷ behind_gate l) held.rest) same.0 held.sum))
+
+take_both : (k m : ℕ) (l : List ℕ) → take (k + m) l ≡ take k l ++ take m (drop k l)
+take_both zero m l = let e : 0 + m ≡ m = omega arith in ap (λ (n : ℕ). take n l) e
+take_both (suc k) m [] = let e : suc k + m ≡ suc (k + m) = omega arith in ap (λ (n : ℕ). take n []) e ∙ sym (take_nil m)
+  where
+    take_nil : (m : ℕ) → take {A = ℕ} m [] ≡ []
+    take_nil zero = refl
+    take_nil (suc m) = refl
+take_both (suc k) m (x ∷ l) = let e : suc k + m ≡ suc (k + m) = omega arith in ap (λ (n : ℕ). take n (x ∷ l)) e ∙ ap (λ (t : List ℕ). x ∷ t) (take_both k m l)
+
+-- what was read up to the length of a sum is no sum or this one exactly where the bytes behind the batch are
+module _ (whole rest found : List ℕ) (n : ℕ) (count : n ≡ min 40 (length rest)) (is : found ≡ take n rest) where
+  abbrev own : List ℕ
+  own = sum_mark ++ sha256 whole
+
+  own_long : length own ≡ 40
+  own_long = omega (arith, length-append sum_mark (sha256 whole), length-sha256 whole)
+
+  all_of : length rest < 40 ⊎ 40 ≤ length rest → found ≡ take 40 rest
+  all_of (inl few) = is ∙ take_all n rest (omega (arith, count, few)) ∙ sym (take_all 40 rest (omega (arith, few)))
+  all_of (inr more) = let full : n ≡ 40 = omega (arith, count, more) in is ∙ ap (λ (k : ℕ). take k rest) full
+
+  found_is : found ≡ take 8 rest ++ take 32 (drop 8 rest)
+  found_is = all_of (cases_lt (length rest) 40) ∙ take_both 8 32 rest
+
+  own_where : take 8 rest ≡ sum_mark → take 32 (drop 8 rest) ≡ sha256 whole → found ≡ own
+  own_where mark sum = found_is ∙ ap (λ (l : List ℕ). l ++ take 32 (drop 8 rest)) mark ∙ ap (λ (l : List ℕ). sum_mark ++ l) sum
+
+  first_found : take 8 found ≡ take 8 rest
+  first_found = ap (λ (l : List ℕ). take 8 l) (all_of (cases_lt (length rest) 40)) ∙ take-take 8 40 rest (omega arith)
+
+  pub summed_yes : (take 8 found ≡ sum_mark → found ≡ own) → IsSummed whole rest
+  summed_yes own_if mark =
+      let same : sum_mark ++ take 32 (drop 8 rest) ≡ sum_mark ++ sha256 whole = ap (λ (l : List ℕ). l ++ take 32 (drop 8 rest)) (sym mark) ∙ sym found_is ∙ own_if (first_found ∙ mark) in
+      ap (λ (l : List ℕ). drop 8 l) same
+
+  pub summed_no : take 8 found ≡ sum_mark → (found ≡ own → ⊥) → IsSummed whole rest → ⊥
+  summed_no mark other sum = let here = sym first_found ∙ mark in other (own_where here (sum here))
+
+-- what a reading of n bytes from a place says
+abbrev pub HasReadAt : Path → List ℕ → ℕ → ℕ → ℕ → Disk → Type 0
+HasReadAt path out room at n d = (was : List ℕ) × (node_at d path ≡ Some (file was)) × (n ≡ min room (length was - at)) × (take n out ≡ take n (drop at was))
+
+summed_by : (is : Bool) (ds : List PlainDeed) (d : Disk) (f : Follows ds d) (found : List ℕ) (n : ℕ) → n ≡ min 40 (length f.rest) → found ≡ take n f.rest
+    → (IsTrue is → take 8 found ≡ sum_mark → found ≡ sum_mark ++ sha256 (1 ∷ behind_gate ds)) → (IsFalse is → take 8 found ≡ sum_mark)
+    → (IsFalse is → found ≡ sum_mark ++ sha256 (1 ∷ behind_gate ds) → ⊥) → IsSummedOrNot is ds d
+summed_by true ds d f found n count same own_if none other =
+    record { batch = f.batch; rest = f.rest; here = f.here; sum = summed_yes (1 ∷ behind_gate ds) f.rest found n count same (own_if refl) }
+summed_by false ds d f found n count same own_if none other = (f, summed_no (1 ∷ behind_gate ds) f.rest found n count same (none refl) (other refl))
+
+-- what is read behind a batch says whether it is summed
+pub summed_at : (is : Bool) (ds : List PlainDeed) (d : Disk) (path : Path) (out sum : List ℕ) (n len : ℕ) → path ≡ journal_file → length (spelled ds) ≡ len → sum ≡ sum_mark ++ sha256 (1 ∷ behind_gate ds)
+    → Follows ds d → HasReadAt path out 40 (9 + len) n d
+    → (IsTrue is → take 8 (take n out) ≡ sum_mark → take n out ≡ sum) → (IsFalse is → take 8 (take n out) ≡ sum_mark) → (IsFalse is → take n out ≡ sum → ⊥) → IsSummedOrNot is ds d
+summed_at is ds d path out sum n len at long sum_is f read own_if none other =
+    let bytes = held_bytes ds f.rest in
+    let same : read.0 ≡ bytes = one_file (node_at d journal_file) read.0 bytes (subst (λ (p : Path). node_at d p ≡ Some (file read.0)) at read.1) f.here in
+    let place : 9 + said_len bytes ≡ 9 + len = omega (arith, held_len ds f.rest f.batch, long) in
+    let rest : drop (9 + len) read.0 ≡ f.rest = ap (λ (l : List ℕ). drop (9 + len) l) same ∙ ap (λ (k : ℕ). drop k bytes) (sym place) ∙ held_behind ds f.rest f.batch in
+    let count : n ≡ min 40 (length f.rest) = read.2 ∙ ap (λ (k : ℕ). min 40 k) (sym (length-drop (9 + len) read.0) ∙ ap (λ (l : List ℕ). length l) rest) in
+    summed_by is ds d f (take n out) n count (read.3 ∙ ap (λ (l : List ℕ). take n l) rest) (λ yes_is mark. own_if yes_is mark ∙ sum_is) none (λ no_is e. other no_is (e ∙ sym sum_is))
 
 -- the place of a fault is within the bytes, or right after the count
 pub fault_within : (bytes : List ℕ) (at : ℕ) → IsBadAt bytes at → at ≤ max 4 (length bytes)

@@ -1,6 +1,9 @@
 -- What a stop leaves of the journal in each stage of a commit.
-use Rattle.std.proofs.Common.{◌≡◌, ◌≢◌, ⊎_elim, ℕ, List, [], ◌∷◌, ◌++◌, length, drop, get_or, Option, Some, None, refl, sym, ap, subst, ◌∙◌, inl, inr, arith}
+use Rattle.std.proofs.Common.{◌≡◌, ◌≢◌, ⊎_elim, ℕ, List, [], ◌∷◌, ◌++◌, length, drop, get_or, Option, Some, None, refl, sym, ap, subst, ◌∙◌, inl, inr, arith, append_assoc}
 use Rattle.std.proofs.lemmas.Bool.{cases_eq}
+use Rattle.std.proofs.lemmas.List.{take_at}
+use Rattle.sha2.specs.Sha256.{sha256}
+use Rattle.sha2.proofs.Facts256.{length-sha256}
 use Rattle.outside.specs.Disk.{Disk, Path, Node, folder, file, node_at, IsFolder}
 use Rattle.std.proofs.Common.{Err}
 use Rattle.std.specs.Prelude.{IsErrOf}
@@ -29,8 +32,8 @@ use Rattle.deeds.proofs.Phases.{apart_ordered, unnamed_ordered}
 use Rattle.deeds.specs.Deeds.{in_order, named}
 use Rattle.deeds.specs.Grammar.{behind_gate, IsBatch}
 use Rattle.deeds.proofs.Doing.{same_run}
-use Rattle.chunk_journal.specs.Stages.{IsKept, LeavesParts, IsShutBeside, KeepsShut, HasStaged}
-use Rattle.chunk_journal.specs.Journal.{journal_file, new_file, journal_name, new_name, names_apart, IsAlike, IsBeforeOrAfter, IsReady, IsReopenable, IsRepeatable, AnyMoment, HasCommitted, RecoversTo, RecoversLike, Recovered, RecoveredLike, IsClosed, IsFound, StaysRecovered, HasRecovered, HoldsBatch}
+use Rattle.chunk_journal.specs.Stages.{IsKept, LeavesParts, IsShutBeside, KeepsShut, HasStaged, sum_behind}
+use Rattle.chunk_journal.specs.Journal.{journal_file, new_file, journal_name, new_name, names_apart, IsAlike, IsBeforeOrAfter, IsSummed, sum_mark, IsReady, IsReopenable, IsRepeatable, AnyMoment, HasCommitted, RecoversTo, RecoversLike, Recovered, RecoveredLike, IsClosed, IsFound, StaysRecovered, HasRecovered, HoldsBatch}
 use Rattle.chunk_journal.proofs.Tidy.{deeds_tidy, pieces_tidy, tidy_joined, write_tidy}
 
 pub files_apart : new_file ≢ journal_file
@@ -38,19 +41,19 @@ files_apart e = names_apart (cc)
 
 -- ---- what a closed journal holds
 
-same_bytes : (o : Option Node) (a b : List ℕ) → o ≡ Some (file a) → o ≡ Some (file b) → a ≡ b
+pub same_bytes : (o : Option Node) (a b : List ℕ) → o ≡ Some (file a) → o ≡ Some (file b) → a ≡ b
 same_bytes o a b ea eb = let e : Some (file a) ≡ Some (file b) = sym ea ∙ eb in cc
 
 pub closed_not_held : (disk : Disk) (deeds : List PlainDeed) → IsClosed disk → HoldsBatch disk deeds → ⊥
-closed_not_held disk deeds (inl none) held = let e : None ≡ Some (file (1 ∷ (behind_gate deeds ++ held.1))) = sym none ∙ held.2 in cc
-closed_not_held disk deeds (inr f) held = f.2 (ap (λ (l : List ℕ). get_or l 0 0) (same_bytes (node_at disk journal_file) f.0 (1 ∷ (behind_gate deeds ++ held.1)) f.1 held.2))
+closed_not_held disk deeds (inl none) held = let e : None ≡ Some (file (1 ∷ (behind_gate deeds ++ held.rest))) = sym none ∙ held.here in cc
+closed_not_held disk deeds (inr f) held = f.2 (ap (λ (l : List ℕ). get_or l 0 0) (same_bytes (node_at disk journal_file) f.0 (1 ∷ (behind_gate deeds ++ held.rest)) f.1 held.here))
 
 -- a disk holds one batch alone
 pub one_held : (disk : Disk) (a b : List PlainDeed) → HoldsBatch disk a → HoldsBatch disk b → a ≡ b
 one_held disk a b x y =
-    let e : Some (file (1 ∷ (behind_gate a ++ x.1))) ≡ Some (file (1 ∷ (behind_gate b ++ y.1))) = sym x.2 ∙ y.2 in
-    let same : behind_gate a ++ x.1 ≡ behind_gate b ++ y.1 = cc in
-    one_batch a b x.1 y.1 x.0 y.0 (sym (drop_length a x.1) ∙ ap (λ (l : List ℕ). drop 8 l) same ∙ drop_length b y.1)
+    let e : Some (file (1 ∷ (behind_gate a ++ x.rest))) ≡ Some (file (1 ∷ (behind_gate b ++ y.rest))) = sym x.here ∙ y.here in
+    let same : behind_gate a ++ x.rest ≡ behind_gate b ++ y.rest = cc in
+    one_batch a b x.rest y.rest x.batch y.batch (sym (drop_length a x.rest) ∙ ap (λ (l : List ℕ). drop 8 l) same ∙ drop_length b y.rest)
   where
     drop_length : (ds : List PlainDeed) (rest : List ℕ) → drop 8 (behind_gate ds ++ rest) ≡ spelled ds ++ rest
     drop_length ds rest = refl
@@ -118,6 +121,10 @@ deeds_cause ds errors.Failed log a b F can cause unfit = record { later = cause.
 deeds_cause ds (errors.Unfit index) None a b F can cause unfit = record { later = cause.later; rose = λ _. unfit }
 deeds_cause ds (errors.Unfit index) (Some l) a b F can cause unfit = absurd (refused_cannot ds index (now l) can.0 unfit can.1)
 
+-- what is written behind a batch is its sum
+summed_own : (whole rest : List ℕ) → IsSummed whole ((sum_mark ++ sha256 whole) ++ rest)
+summed_own whole rest mark = take_at (sha256 whole) rest 32 (length-sha256 whole)
+
 -- ---- the stages
 
 module _ (bs : List PlainDeed) (batch : IsBatch bs) (repeatable : IsRepeatable bs) where
@@ -126,6 +133,9 @@ module _ (bs : List PlainDeed) (batch : IsBatch bs) (repeatable : IsRepeatable b
 
   apart : AreApart (in_order bs)
   apart = apart_ordered bs repeatable.apart
+
+  holding : (c : Disk) (rest : List ℕ) → IsSummed (1 ∷ behind_gate bs) rest → node_at c journal_file ≡ Some (file (1 ∷ (behind_gate bs ++ rest))) → HoldsBatch c bs
+  holding c rest sum here = record { batch = batch; rest = rest; here = here; sum = sum }
 
   uj : Unnamed journal_file (in_order bs)
   uj = unnamed_ordered journal_file bs repeatable.beside_journal
@@ -139,6 +149,7 @@ module _ (bs : List PlainDeed) (batch : IsBatch bs) (repeatable : IsRepeatable b
     pub any : AnyMoment bs old new
     pub steady : IsSynced new
     pub rest : List ℕ
+    pub sum : IsSummed (1 ∷ behind_gate bs) rest
     pub gate : ℕ
     pub shut : gate ≢ 1
     pub here : node_at (now new) journal_file ≡ Some (file (gate ∷ (behind_gate bs ++ rest)))
@@ -150,6 +161,7 @@ module _ (bs : List PlainDeed) (batch : IsBatch bs) (repeatable : IsRepeatable b
     pub any : AnyMoment bs old new
     pub steady : IsSynced new
     pub rest : List ℕ
+    pub sum : IsSummed (1 ∷ behind_gate bs) rest
     pub here : node_at (now new) journal_file ≡ Some (file (1 ∷ (behind_gate bs ++ rest)))
     pub alike : (q : Path) → q ≢ journal_file → node_at (now new) q ≡ node_at (now old) q
 
@@ -159,6 +171,7 @@ module _ (bs : List PlainDeed) (batch : IsBatch bs) (repeatable : IsRepeatable b
     pub any : AnyMoment bs old new
     pub steady : IsSynced new
     pub rest : List ℕ
+    pub sum : IsSummed (1 ∷ behind_gate bs) rest
     pub here : node_at (now new) journal_file ≡ Some (file (1 ∷ (behind_gate bs ++ rest)))
     pub other : node_at (now new) new_file ≡ node_at (now old) new_file
     pub after : (after : Disk) → DoesAll ds (now old) after → IsAlike after (now new)
@@ -180,10 +193,11 @@ module _ (bs : List PlainDeed) (batch : IsBatch bs) (repeatable : IsRepeatable b
     at_start = ready;
     any = staged_leaves old new ready keeps;
     steady = has.0;
-    rest = has.1.rest;
+    rest = sum_behind bs ++ has.1.rest;
+    sum = summed_own (1 ∷ behind_gate bs) has.1.rest;
     gate = has.1.gate;
     shut = has.1.shut;
-    here = has.1.here;
+    here = has.1.here ∙ ap (λ (l : List ℕ). Some (file (has.1.gate ∷ l))) (append_assoc (behind_gate bs) (sum_behind bs) has.1.rest);
     alike = has.1.alike;
   }
 
@@ -199,7 +213,7 @@ module _ (bs : List PlainDeed) (batch : IsBatch bs) (repeatable : IsRepeatable b
       (λ (is : torn.0 ≡ 1).
       let here : node_at c journal_file ≡ Some (file (1 ∷ tail)) = w.here ∙ ap (λ (l : List ℕ). Some (file l)) torn.1 ∙ ap (λ (g : ℕ). Some (file (g ∷ tail))) is in
       let f = framed journal_file new_file (lone journal_name) (lone new_name) ds (now old) after c run uj un (no_folders old stage.at_start) alike in
-      (f.0, inr (bs, (batch, stage.rest, here), f.1), inr f.2, held_reopens c bs repeatable (batch, stage.rest, here) clear))
+      (f.0, inr (bs, holding c stage.rest stage.sum here, f.1), inr f.2, held_reopens c bs repeatable (holding c stage.rest stage.sum here) clear))
       (λ (shut : torn.0 ≡ 1 → ⊥). let closed : IsClosed c = inr (w.bytes, w.here, λ h. shut (sym (ap (λ (l : List ℕ). get_or l 0 0) torn.1) ∙ h)) in (c, inl (closed, refl), inl alike, shut_reopens c closed clear))
       (cases_eq torn.0 1)
 
@@ -216,6 +230,7 @@ module _ (bs : List PlainDeed) (batch : IsBatch bs) (repeatable : IsRepeatable b
     any = gate_leaves old mid new stage all;
     steady = kept.steady;
     rest = stage.rest;
+    sum = stage.sum;
     here = at_disk journal_file kept.is ∙ written_here 0 (1 ∷ []) (stage.gate ∷ (behind_gate bs ++ stage.rest)) (now mid) stage.here;
     alike = λ q ne. at_disk q kept.is ∙ written_there 0 (1 ∷ []) (now mid) q ne ∙ stage.alike q ne;
   }
@@ -229,7 +244,7 @@ module _ (bs : List PlainDeed) (batch : IsBatch bs) (repeatable : IsRepeatable b
   amid_recovers old mid after c open_gate run amid =
       let end = run_open old mid after open_gate run in
       let r = again_amid ds (now mid) end.0 c end.1 (tree_run ds (now mid) end.0 open_gate.steady.tree end.1) apart amid in
-      let held : HoldsBatch c bs = (batch, open_gate.rest, amid.rest journal_file uj ∙ open_gate.here) in (
+      let held = holding c open_gate.rest open_gate.sum (amid.rest journal_file uj ∙ open_gate.here) in (
         r.0,
         inr (bs, held, r.1),
         inr (λ q ne nm. r.2 q ∙ end.2 q ne nm),
@@ -242,7 +257,7 @@ module _ (bs : List PlainDeed) (batch : IsBatch bs) (repeatable : IsRepeatable b
       record {
         recovers = λ after run. joined old mid new (IsBeforeOrAfter (now old) after) (open_gate.any.recovers after run)
             (weaker mid new (IsAmid ds (now mid)) (IsBeforeOrAfter (now old) after) (λ c amid. amid_recovers old mid after c open_gate run amid) all.1);
-        tidy = tidy_joined old mid new open_gate.any.tidy (deeds_tidy bs mid new repeatable (batch, open_gate.rest, open_gate.here) open_gate.steady grown);
+        tidy = tidy_joined old mid new open_gate.any.tidy (deeds_tidy bs mid new repeatable (holding (now mid) open_gate.rest open_gate.sum open_gate.here) open_gate.steady grown);
       }
 
   pub deeds_done : (old mid new : Log) → IsOpened old mid → GoesOnAt (named bs) mid new → StaysAmid ds mid new → IsSynced new × DoesAll ds (now mid) (now new) → AreDone old new
@@ -253,6 +268,7 @@ module _ (bs : List PlainDeed) (batch : IsBatch bs) (repeatable : IsRepeatable b
         any = deeds_leave old mid new open_gate grown stays;
         steady = done.0;
         rest = open_gate.rest;
+        sum = open_gate.sum;
         here = all.0.rest journal_file uj ∙ open_gate.here;
         other = all.0.rest new_file un ∙ open_gate.alike new_file files_apart;
         after = λ after run.
@@ -273,7 +289,7 @@ module _ (bs : List PlainDeed) (batch : IsBatch bs) (repeatable : IsRepeatable b
       (λ (is : torn.0 ≡ 1).
       let here : node_at c journal_file ≡ Some (file (1 ∷ tail)) = w.here ∙ ap (λ (l : List ℕ). Some (file l)) torn.1 ∙ ap (λ (g : ℕ). Some (file (g ∷ tail))) is in
       let same : c ≡ now mid = same_disk c (now mid) (λ q. by_path q journal_file (λ at. ap (λ (t : Path). node_at c t) at ∙ here ∙ sym all.here ∙ ap (λ (t : Path). node_at (now mid) t) (sym at)) (w.rest q)) in
-      (all.again.0, inr (bs, (batch, all.rest, here), subst (λ (d : Disk). DoesAll ds d all.again.0) (sym same) all.again.1), inr (λ q ne nm. all.again.2 q ∙ alike q ne nm), held_reopens c bs repeatable (batch, all.rest, here) clear))
+      (all.again.0, inr (bs, holding c all.rest all.sum here, subst (λ (d : Disk). DoesAll ds d all.again.0) (sym same) all.again.1), inr (λ q ne nm. all.again.2 q ∙ alike q ne nm), held_reopens c bs repeatable (holding c all.rest all.sum here) clear))
       (λ (shut : torn.0 ≡ 1 → ⊥). let closed : IsClosed c = inr (w.bytes, w.here, λ h. shut (sym (ap (λ (l : List ℕ). get_or l 0 0) torn.1) ∙ h)) in (c, inl (closed, refl), inr (λ q ne nm. w.rest q ne ∙ alike q ne nm), shut_reopens c closed clear))
       (cases_eq torn.0 1)
 
@@ -346,14 +362,14 @@ module _ (bs : List PlainDeed) (batch : IsBatch bs) (repeatable : IsRepeatable b
   found_amid : (old : Log) (after c : Disk) → IsFound bs old → DoesAll ds (now old) after → IsAmid ds (now old) c → RecoversLike after c
   found_amid old after c found run amid =
       let r = again_amid ds (now old) after c run (tree_run ds (now old) after found.steady.tree run) apart amid in
-      let held : HoldsBatch c bs = (batch, found.open_gate.1, amid.rest journal_file uj ∙ found.open_gate.2) in
+      let held = holding c found.open_gate.rest found.open_gate.sum (amid.rest journal_file uj ∙ found.open_gate.here) in
       (r.0, inr (bs, held, r.1), (λ q ne nm. r.2 q), held_reopens c bs repeatable held (λ is. found.no_folder (sym (amid.rest new_file un) ∙ is)))
 
   -- the same of what is done of deeds that may not fit
   found_applied : (part : List PlainDeed) (old : Log) (after c : Disk) → IsFound bs old → GoesAsFar ds (now old) part → DoesAll part (now old) after → IsAmid part (now old) c → RecoveredLike after c
   found_applied part old after c found far run amid =
       let r = applied_again ds part (now old) after c far run (tree_run part (now old) after found.steady.tree run) apart amid in
-      let held : HoldsBatch c bs = (batch, found.open_gate.1, amid.rest journal_file (unnamed_part journal_file ds (now old) part far uj) ∙ found.open_gate.2) in (
+      let held = holding c found.open_gate.rest found.open_gate.sum (amid.rest journal_file (unnamed_part journal_file ds (now old) part far uj) ∙ found.open_gate.here) in (
         r.0,
         inr (bs, held, r.1),
         (λ q ne nm. r.2 q),
@@ -382,6 +398,7 @@ module _ (bs : List PlainDeed) (batch : IsBatch bs) (repeatable : IsRepeatable b
     pub stays : StaysRecovered bs old new
     pub steady : IsSynced new
     pub rest : List ℕ
+    pub sum : IsSummed (1 ∷ behind_gate bs) rest
     pub here : node_at (now new) journal_file ≡ Some (file (1 ∷ (behind_gate bs ++ rest)))
     pub no_folder : IsFolder (now new) new_file → ⊥
     pub did : DoesAll ds (now old) (now new)
@@ -395,8 +412,9 @@ module _ (bs : List PlainDeed) (batch : IsBatch bs) (repeatable : IsRepeatable b
         stays = found_leaves old new found grown stays (whole_stays ds old new done.1 stays);
         steady = done.0;
         did = done.1;
-        rest = found.open_gate.1;
-        here = all.0.rest journal_file uj ∙ found.open_gate.2;
+        rest = found.open_gate.rest;
+        sum = found.open_gate.sum;
+        here = all.0.rest journal_file uj ∙ found.open_gate.here;
         no_folder = λ is. found.no_folder (sym (all.0.rest new_file un) ∙ is);
         after = λ after run. same_run ds (now old) (now new) after done.1 run;
         again = again_amid ds (now old) (now new) (now new) done.1 done.0.tree apart all.0;
@@ -412,7 +430,7 @@ module _ (bs : List PlainDeed) (batch : IsBatch bs) (repeatable : IsRepeatable b
       (λ (is : torn.0 ≡ 1).
       let here : node_at c journal_file ≡ Some (file (1 ∷ tail)) = w.here ∙ ap (λ (l : List ℕ). Some (file l)) torn.1 ∙ ap (λ (g : ℕ). Some (file (g ∷ tail))) is in
       let same : c ≡ now mid = same_disk c (now mid) (λ q. by_path q journal_file (λ at. ap (λ (t : Path). node_at c t) at ∙ here ∙ sym all.here ∙ ap (λ (t : Path). node_at (now mid) t) (sym at)) (w.rest q)) in
-      (all.again.0, inr (bs, (batch, all.rest, here), subst (λ (d : Disk). DoesAll ds d all.again.0) (sym same) all.again.1), (λ q ne nm. all.again.2 q ∙ at_disk q (all.after after run)), held_reopens c bs repeatable (batch, all.rest, here) clear))
+      (all.again.0, inr (bs, holding c all.rest all.sum here, subst (λ (d : Disk). DoesAll ds d all.again.0) (sym same) all.again.1), (λ q ne nm. all.again.2 q ∙ at_disk q (all.after after run)), held_reopens c bs repeatable (holding c all.rest all.sum here) clear))
       (λ (shut : torn.0 ≡ 1 → ⊥). let closed : IsClosed c = inr (w.bytes, w.here, λ h. shut (sym (ap (λ (l : List ℕ). get_or l 0 0) torn.1) ∙ h)) in (c, inl (closed, refl), (λ q ne nm. w.rest q ne ∙ at_disk q (all.after after run)), shut_reopens c closed clear))
       (cases_eq torn.0 1)
 

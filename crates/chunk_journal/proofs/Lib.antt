@@ -2,8 +2,10 @@ pub mod Elsewhere
 pub mod Tidy
 pub mod Gate
 pub mod FirstJournal
+pub mod CutJournal
 pub mod Faults
 pub mod Pieces
+pub mod Behind
 pub mod Commits
 pub mod Damage
 pub mod Openings

@@ -162,7 +162,7 @@ told_settled (Some x) (Some y) p q r = record { is = p; steady = q; begun = r }
 
 -- a batch of which a deed is refused is a bad one after an open gate
 pub unfit_bad : (bs : List PlainDeed) (at : ℕ) (d : Disk) → HoldsBatch d bs → (HasFolder d → ⊥) → IsUnfitAt d at → IsBadBehindGate d at
-unfit_bad bs at d held none unfit = record { no_folder = none; bytes = held_bytes bs held.1; here = held.2; gate = refl; damage = inr (inr unfit) }
+unfit_bad bs at d held none unfit = record { no_folder = none; bytes = held_bytes bs held.rest; here = held.here; gate = refl; damage = inr (inr (inr unfit)) }
 
 -- what was found on the disk that was settled
 abbrev pub Finds : List PlainDeed → Log → Type 0

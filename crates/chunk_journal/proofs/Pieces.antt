@@ -1,6 +1,8 @@
 -- The batch that is written after the closed gate, piece by piece.
-use Rattle.std.proofs.Common.{◌≡◌, ℕ, suc, ◌+◌, List, [], ◌∷◌, ◌++◌, length, take, drop, get_or, Option, Some, None, refl, sym, ap, subst, ◌∙◌, inl, inr, arith, length-append}
-use Rattle.std.proofs.lemmas.List.{take_at}
+use Rattle.std.proofs.Common.{◌≡◌, ⊎_elim, ℕ, suc, ◌+◌, ◌-◌, ◌<◌, ◌≤◌, min, List, [], ◌∷◌, ◌++◌, length, take, drop, get_or, Option, Some, None, refl, sym, ap, subst, ◌∙◌, inl, inr, arith, length-append, length-take, length-drop}
+use Rattle.std.proofs.Math.Seq.{take-append-add}
+use Rattle.std.proofs.lemmas.Bool.{cases_lt}
+use Rattle.std.proofs.lemmas.List.{take-append-drop, take_all, take_at}
 use Rattle.outside.specs.Disk.{Disk, file, IsTree}
 use Rattle.outside.specs.Changes.{Write, IsPartOf, CanDo, overwritten}
 use Rattle.outside.specs.Calls.{Changes, Told}
@@ -19,6 +21,18 @@ same_first k [] [] e = refl
 same_first k [] (y ∷ b) e = absurd cc
 same_first k (x ∷ a) [] e = absurd cc
 same_first k (x ∷ a) (y ∷ b) e = cc
+
+-- the piece after the front makes the longer front
+pub pieces_join : (at room n : ℕ) (bs : List ℕ) → at ≤ length bs → n ≡ min room (length bs - at) → take at bs ++ take room (drop at bs) ≡ take (at + n) bs
+pieces_join at room n bs le is =
+    let rest = drop at bs in
+    let long : length rest ≡ length bs - at = length-drop at bs in
+    let front : length (take at bs) ≡ at = omega (arith, length-take at bs) in
+    let same : take room rest ≡ take n rest = ⊎_elim
+    (λ (more : length rest < room). take_all room rest (omega arith) ∙ sym (take_all n rest (omega (arith, long, is))))
+    (λ (full : room ≤ length rest). let e : room ≡ n = omega (arith, long, is) in ap (λ (k : ℕ). take k rest) e)
+    (cases_lt (length rest) room) in
+    ap (λ (l : List ℕ). take at bs ++ l) same ∙ sym (take-append-add (take at bs) rest n) ∙ ap (λ (k : ℕ). take (k + n) (take at bs ++ rest)) front ∙ ap (λ (l : List ℕ). take (at + n) l) (take-append-drop at bs)
 
 -- a part of a write after the gate leaves it shut
 shut_part : (at : ℕ) (bytes : List ℕ) (d b c : Disk) → IsShutBeside d b → IsPartOf (Write journal_file (1 + at) bytes) b c → IsShutBeside d c

@@ -3,7 +3,7 @@ use Rattle.std.proofs.Common.{◌≡◌, ◌≢◌, ⊎_elim, ℕ, zero, suc, �
 use Rattle.std.proofs.lemmas.Bool.{cases_lt}
 use Rattle.outside.specs.Calls.{Told, Changes}
 use Rattle.outside.specs.Disk.{Disk, Path, node_at}
-use Rattle.outside.specs.Changes.{Change, Put, Write, Move, IsPartOf}
+use Rattle.outside.specs.Changes.{Change, Put, SetLen, Write, Move, IsPartOf}
 use Rattle.outside.specs.Images.{Call, Log, Synced, adds, now, moment, log_at, disk_after, IsSteady, HasDone, HasBroken}
 use Rattle.outside.proofs.Moments.{at_since}
 use Rattle.outside.proofs.Paths.{set_there}
@@ -113,6 +113,9 @@ both_loose disk path (suc k, lt, e) = journal_loose disk path (k, omega (arith, 
 pub write_tidy : (at : ℕ) (bytes : List ℕ) (old new : Log) → IsSynced old → LeavesParts (Write journal_file at bytes) old new → StaysTidy old new
 write_tidy at bytes old new synced parts = tidy_by (journal_file ∷ []) old new synced parts.grown (λ disk same. journal_loose disk)
 
+pub cut_tidy : (len : ℕ) (old new : Log) → IsSynced old → LeavesParts (SetLen journal_file len) old new → StaysTidy old new
+cut_tidy len old new synced parts = tidy_by (journal_file ∷ []) old new synced parts.grown (λ disk same. journal_loose disk)
+
 pub put_tidy : (bytes : List ℕ) (old new : Log) → IsSynced old → LeavesParts (Put new_file bytes) old new → StaysTidy old new
 put_tidy bytes old new synced parts = tidy_by (new_file ∷ []) old new synced parts.grown (λ disk same. new_loose disk)
 
@@ -126,4 +129,4 @@ pieces_tidy old new synced keeps = tidy_by (journal_file ∷ []) old new synced 
 
 pub deeds_tidy : (ds : List PlainDeed) (old new : Log) → IsRepeatable ds → HoldsBatch (now old) ds → IsSynced old → GoesOnAt (named ds) old new → StaysTidy old new
 deeds_tidy ds old new repeatable held synced at = tidy_by (named ds) old new synced at (λ disk same path there.
-    inr (inr (ds, (held.0, held.1, same journal_file (not_named ds journal_file repeatable.beside_journal) ∙ held.2), there)))
+    inr (inr (ds, record { batch = held.batch; rest = held.rest; here = same journal_file (not_named ds journal_file repeatable.beside_journal) ∙ held.here; sum = held.sum }, there)))

@@ -1,5 +1,5 @@
 -- What isn't damaged recovers.
-use Rattle.std.proofs.Common.{◌≡◌, ⊎_elim, ℕ, zero, suc, ◌+◌, ◌<◌, ◌≤◌, ◌^◌, List, [], ◌∷◌, ◌++◌, length, take, drop, get_or, Option, Some, None, refl, sym, ap, ◌∙◌, inl, inr, arith, append_assoc, length-append, length-drop, length-take}
+use Rattle.std.proofs.Common.{◌≡◌, ⊎_elim, ℕ, zero, suc, ◌+◌, ◌<◌, ◌≤◌, ◌^◌, List, [], ◌∷◌, ◌++◌, length, take, drop, get_or, Option, Some, None, refl, sym, ap, subst, ◌∙◌, inl, inr, arith, append_assoc, length-append, length-drop, length-take}
 use Rattle.std.specs.Int.{w32, to_be_bytes}
 use Rattle.std.specs.List.{AllByRecursion}
 use Rattle.std.proofs.lemmas.Nat.{be_bytes_4}
@@ -9,9 +9,9 @@ use Rattle.outside.specs.Disk.{Disk, Node, folder, file, node_at}
 use Rattle.deeds.specs.Deeds.{PlainDeed}
 use Rattle.deeds.specs.Grammar.{spelled, spelled_deed, spelled_deeds, count_of, IsDeed, IsBatch, IsBadAt, IsBadDeed}
 use Rattle.deeds.proofs.Windows.{spelled_end}
-use Rattle.chunk_journal.specs.Journal.{journal_file, HoldsBatch, RecoversTo}
-use Rattle.chunk_journal.specs.Opening.{said_len, batch_bytes, IsShort, IsDamagedAt, HasFileBytes, HasFolder, Says}
-use Rattle.chunk_journal.proofs.Damage.{holds, take_fits}
+use Rattle.chunk_journal.specs.Journal.{journal_file, IsSummed, HoldsBatch, RecoversTo}
+use Rattle.chunk_journal.specs.Opening.{said_len, batch_bytes, whole_batch, behind_batch, IsShort, IsDamagedAt, HasFileBytes, HasFolder, Says}
+use Rattle.chunk_journal.proofs.Damage.{follows, summed_here, held_bytes, one_file, take_fits}
 use Rattle.chunk_journal.proofs.Undamaged.{held_runs}
 
 drop_fits : (k : ℕ) (bytes : List ℕ) → ((i : ℕ) → get_or bytes i 0 < 256) → (i : ℕ) → get_or (drop k bytes) i 0 < 256
@@ -123,16 +123,28 @@ module _ (disk : Disk) (undamaged : (at : ℕ) → IsDamagedAt disk at → ⊥) 
     text_long : length (batch_bytes bytes) ≡ said_len bytes
     text_long = omega (arith, length-take (said_len bytes) (drop 9 bytes), length-drop 9 bytes, long_enough)
 
-    held : IsSpelled (batch_bytes bytes) → (deeds : List PlainDeed) × HoldsBatch disk deeds
-    held is =
+    not_missummed : (IsSummed (whole_batch bytes) (behind_batch bytes) → ⊥) → ⊥
+    not_missummed other = undamaged (9 + said_len bytes) (inr (record {
+      no_folder = clear;
+      bytes = bytes;
+      here = here;
+      gate = gate;
+      damage = inr (inr (inl (record { whole = not_short; good = not_bad; other = other; place = refl })));
+    }))
+
+    held : IsSummed (whole_batch bytes) (behind_batch bytes) → IsSpelled (batch_bytes bytes) → (deeds : List PlainDeed) × HoldsBatch disk deeds
+    held summed is =
         let batch : IsBatch is.deeds = record { few = is.few; each = is.good; short = omega (arith, ap (λ (l : List ℕ). length l) is.is, text_long, long_enough, limit) } in
         let says : Says (said_len bytes) disk = record { bytes = bytes; here = here; gate = gate; whole = not_short; is = refl; fits = take_fits 9 bytes fits } in
-        (is.deeds, holds disk (said_len bytes) (batch_bytes bytes) is.deeds says batch is.is refl text_long)
+        let f = follows disk (said_len bytes) (batch_bytes bytes) is.deeds says batch is.is refl text_long in
+        let same : bytes ≡ held_bytes is.deeds f.rest = one_file (node_at disk journal_file) bytes (held_bytes is.deeds f.rest) here f.here in
+        let sum = summed_here is.deeds f.rest f.batch (subst (λ (l : List ℕ). IsSummed (whole_batch l) (behind_batch l)) same summed) in
+        (is.deeds, record { batch = f.batch; rest = f.rest; here = f.here; sum = sum })
 
     open_recovers : ((found : Disk) → RecoversTo disk found → ⊥) → ⊥
-    open_recovers never = spelled_there (batch_bytes bytes) (take_fits (said_len bytes) (drop 9 bytes) (drop_fits 9 bytes fits)) not_bad (λ is.
-        let there = held is in
-        held_runs there.0 disk undamaged there.1 (λ after run. never after (inr (there.0, there.1, run))))
+    open_recovers never = not_missummed (λ summed. spelled_there (batch_bytes bytes) (take_fits (said_len bytes) (drop 9 bytes) (drop_fits 9 bytes fits)) not_bad (λ is.
+        let there = held summed is in
+        held_runs there.0 disk undamaged there.1 (λ after run. never after (inr (there.0, there.1, run)))))
 
   recovers_by : (o : Option Node) → node_at disk journal_file ≡ o → HasFileBytes disk → ((found : Disk) → RecoversTo disk found → ⊥) → ⊥
   recovers_by None at has never = never disk (inl (inl at, refl))

@@ -1,5 +1,6 @@
 -- The journal of a folder, and what an image of it recovers to.
-use Rattle.std.specs.Prelude.{◌≡◌, ◌≢◌, ◌⊎◌, ℕ, ◌≤◌, List, ◌∷◌, ◌++◌, Contains, get_or, Some, None}
+use Rattle.std.specs.Prelude.{◌≡◌, ◌≢◌, ◌⊎◌, ℕ, ◌≤◌, List, ◌∷◌, ◌++◌, length, take, drop, codes, Contains, get_or, Some, None}
+use Rattle.sha2.specs.Sha256.{sha256}
 use Rattle.outside.specs.Disk.{Disk, Path, file, node_at, IsFolder}
 use Rattle.outside.specs.Images.{Log, now, moment, log_at, LeavesOnly}
 use Rattle.deeds.specs.Deeds.{PlainDeed, DoesAll, IsAlikeBut, LogGoesOn, in_order, named}
@@ -14,11 +15,22 @@ pub use Rattle.deeds.specs.Repeatable.{journal_name, new_name, names_apart, jour
 abbrev pub IsClosed : Disk → Type 0
 IsClosed disk = (node_at disk journal_file ≡ None) ⊎ ((bytes : List ℕ) × (node_at disk journal_file ≡ Some (file bytes)) × (get_or bytes 0 0 ≢ 1))
 
--- its gate is open before this batch; what follows is ignored
-abbrev pub HoldsBatch : Disk → List PlainDeed → Type 0
-HoldsBatch disk deeds = IsBatch deeds × (rest : List ℕ) × (node_at disk journal_file ≡ Some (file (1 ∷ behind_gate deeds ++ rest)))
+-- the letters before a sum
+abbrev pub sum_mark : List ℕ
+sum_mark = codes "BATCHSUM"
 
--- there is no such batch: the gate isn't open, or the bytes after it are none
+-- what follows an open gate with its batch begins with no sum, or with the SHA-256 of these
+abbrev pub IsSummed : List ℕ → List ℕ → Type 0
+IsSummed whole rest = take 8 rest ≡ sum_mark → take 32 (drop 8 rest) ≡ sha256 whole
+
+-- its gate is open before this batch, whose sum isn't another's; what follows else is ignored
+pub record HoldsBatch (disk : Disk) (deeds : List PlainDeed) : Type 0 where
+  pub batch : IsBatch deeds
+  pub rest : List ℕ
+  pub here : node_at disk journal_file ≡ Some (file (1 ∷ behind_gate deeds ++ rest))
+  pub sum : IsSummed (1 ∷ behind_gate deeds) rest
+
+-- there is no such batch: the gate isn't open, or the bytes after it are none, or a sum of others follows them
 abbrev pub IsUnheld : Disk → Type 0
 IsUnheld disk = (deeds : List PlainDeed) → HoldsBatch disk deeds → ⊥
 
@@ -56,6 +68,10 @@ pub record IsReady (log : Log) : Type 0 where
   pub here : node_at (now log) journal_file ≡ Some (file (gate ∷ rest))
   pub shut : gate ≢ 1
   pub no_folder : IsFolder (now log) new_file → ⊥
+
+-- of the journal's file, if it is there, no byte is behind its gate
+abbrev pub HasGateAlone : Disk → Type 0
+HasGateAlone disk = (bytes : List ℕ) → node_at disk journal_file ≡ Some (file bytes) → length bytes ≤ 1
 
 -- ---- what is unsynced
 

@@ -1,14 +1,14 @@
 -- Opening a folder whose journal a stop may have left: which journals are damaged, and where, and what an opening owes.
-use Rattle.std.specs.Prelude.{◌≡◌, ◌⊎◌, ⊤, ℕ, ◌+◌, ◌<◌, ◌^◌, List, length, take, drop, get_or, Bool, true, false, Option, None, Some}
+use Rattle.std.specs.Prelude.{◌≡◌, ◌⊎◌, ⊤, ℕ, ◌+◌, ◌<◌, ◌^◌, List, ◌∷◌, ◌++◌, length, take, drop, get_or, Bool, true, false, Option, None, Some}
 use Rattle.std.specs.Int.{w64, from_be_bytes}
 use Rattle.outside.specs.Disk.{Disk, file, node_at, IsFolder}
 use Rattle.outside.specs.Images.{Log, Synced, adds, now, IsImage, LeavesOnly}
 use Rattle.deeds.specs.Deeds.{PlainDeed, DoesAll, IsRefusedAt, LogGoesOn, in_order}
 use Rattle.outside.specs.Unsynced.{IsSynced}
-use Rattle.deeds.specs.Grammar.{IsBadAt, spelled_deeds}
+use Rattle.deeds.specs.Grammar.{IsBadAt, IsBatch, behind_gate, spelled_deeds}
 use Rattle.chunk_journal.specs.declared.fault.JournalErr.{JournalErr}
 use Rattle.chunk_journal.specs.declared.fault.JournalErr.TheVariants.{Device, JournalDamaged, Memory}
-use Rattle.chunk_journal.specs.Journal.{journal_file, new_file, HoldsBatch, IsClosed, RecoversTo, Recovered, IsAlike, IsQuiet, IsFound, IsRepeatable, IsReopenable, StaysRecovered, StaysTidy}
+use Rattle.chunk_journal.specs.Journal.{journal_file, new_file, IsSummed, HoldsBatch, IsClosed, RecoversTo, Recovered, IsAlike, IsQuiet, IsFound, IsRepeatable, IsReopenable, StaysRecovered, StaysTidy}
 
 -- ---- the bytes of a journal whose gate is open
 
@@ -19,6 +19,14 @@ said_len bytes = from_be_bytes w64 (take 8 (drop 1 bytes))
 -- so many bytes after the gate and the length
 abbrev pub batch_bytes : List ℕ → List ℕ
 batch_bytes bytes = take (said_len bytes) (drop 9 bytes)
+
+-- the gate, the length and the batch
+abbrev pub whole_batch : List ℕ → List ℕ
+whole_batch bytes = take (9 + said_len bytes) bytes
+
+-- and what follows them
+abbrev pub behind_batch : List ℕ → List ℕ
+behind_batch bytes = drop (9 + said_len bytes) bytes
 
 -- the file ends within its length, or within its batch
 abbrev pub IsShort : List ℕ → Type 0
@@ -42,6 +50,13 @@ pub record IsUnreadAt (bytes : List ℕ) (at : ℕ) : Type 0 where
   pub bad : IsBadAt (batch_bytes bytes) fault
   pub place : at ≡ 9 + fault
 
+-- the batch is in the grammar, and a sum follows it that is another's: the place of its letters
+pub record IsMissummedAt (bytes : List ℕ) (at : ℕ) : Type 0 where
+  pub whole : IsShort bytes → ⊥
+  pub good : (fault : ℕ) → IsBadAt (batch_bytes bytes) fault → ⊥
+  pub other : IsSummed (whole_batch bytes) (behind_batch bytes) → ⊥
+  pub place : at ≡ 9 + said_len bytes
+
 -- the folder doesn't fit a deed: the place of the first such deed in the order of doing
 pub record IsUnfitAt (disk : Disk) (at : ℕ) : Type 0 where
   pub deeds : List PlainDeed
@@ -56,7 +71,7 @@ pub record IsBadBehindGate (disk : Disk) (at : ℕ) : Type 0 where
   pub bytes : List ℕ
   pub here : node_at disk journal_file ≡ Some (file bytes)
   pub gate : get_or bytes 0 0 ≡ 1
-  pub damage : IsCutAt bytes at ⊎ (IsUnreadAt bytes at ⊎ IsUnfitAt disk at)
+  pub damage : IsCutAt bytes at ⊎ (IsUnreadAt bytes at ⊎ (IsMissummedAt bytes at ⊎ IsUnfitAt disk at))
 
 -- the journal of a disk is damaged at this place
 abbrev pub IsDamagedAt : Disk → ℕ → Type 0
@@ -141,6 +156,17 @@ pub record Says (len : ℕ) (disk : Disk) : Type 0 where
   pub whole : IsShort bytes → ⊥
   pub is : len ≡ said_len bytes
   pub fits : (i : ℕ) → get_or (take 9 bytes) i 0 < 256
+
+-- these deeds follow the open gate, whatever is behind them
+pub record Follows (deeds : List PlainDeed) (disk : Disk) : Type 0 where
+  pub batch : IsBatch deeds
+  pub rest : List ℕ
+  pub here : node_at disk journal_file ≡ Some (file (1 ∷ behind_gate deeds ++ rest))
+
+-- behind them is no sum, or theirs; or there is another's
+abbrev pub IsSummedOrNot : Bool → List PlainDeed → Disk → Type 0
+IsSummedOrNot true deeds disk = HoldsBatch disk deeds
+IsSummedOrNot false deeds disk = (follows : Follows deeds disk) × (IsSummed (1 ∷ behind_gate deeds) follows.rest → ⊥)
 
 abbrev pub OfLen : Option ℕ → Type 0 → (ℕ → Type 0) → Type 0
 OfLen None Q P = Q

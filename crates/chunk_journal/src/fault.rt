@@ -18,13 +18,15 @@ impl From<FolderErr> for Device {
 /// Why a journal wasn't opened.
 #[derive(Clone, Copy, Debug, PartialEq, Eq, Error)]
 pub enum JournalErr {
-    /// The folder failed: its count of faults rose in this call.
+    /// The folder failed, or a file that the batch reshapes has another header by now, so that another program saved it anew:
+    /// each such path is reported as changed, and nothing is done. The folder's count of faults rose in this call.
     #[error("the folder failed")]
     Device,
     /// The journal is damaged at this offset in its file: 0 if a folder is at `served.journal` or `served.journal.new`,
     /// before or after the batch; else the first of these: the file's length if it ends before its batch does, 9 if the
-    /// count of deeds doesn't fit, the first deed outside the grammar, the first byte after the last deed, the first deed
-    /// in the order of doing that the folder doesn't fit.
+    /// count of deeds doesn't fit, the first deed outside the grammar, the first byte after the last deed, the letters of a
+    /// sum that is another's, the first deed in the order of doing that the folder doesn't fit, as a `Put` where a longer
+    /// file is, or a `Rename` to a name where another file is.
     #[error("the journal is damaged at byte {0}")]
     JournalDamaged(u64),
     /// Memory ran out.

@@ -49,12 +49,18 @@ impl<D: Reads> Reads for Journal<D> {
     fn read(&mut self, path: &VaultPath, at: u64, out: &mut [u8]) -> Result<usize, FolderErr> {
         self.folder.read(path, at, out)
     }
+
+    fn report_changed(&mut self, path: &VaultPath) {
+        self.folder.report_changed(path);
+    }
 }
 
 impl<D: Folder> Journal<D> {
     /// Opens the journal of a folder: syncs, does the batch after an open gate, if one is there, and closes the gate. A
     /// refusal hands the folder back. If it is that a deed doesn't fit the folder, the deeds before it are done, and of a
-    /// `Reshape` the writes before the call that doesn't fit, and the gate is open still.
+    /// `Reshape` the writes before the call that doesn't fit, and the gate is open still. If it is `Device`, the folder failed,
+    /// or a file that the batch reshapes has another header by now, so that another program saved it anew: each such path is
+    /// reported as changed, and nothing is done.
     pub fn open(alloc: Global, mut folder: D) -> Result<Journal<D>, Refused<D, JournalErr>>
         ensures opened { IfOk result (λ journal. Changes (D.log folder) (D.log journal) HasOpened) }
         ensures any_moment { IfOk result (λ journal. Changes (D.log folder) (D.log journal) IsOpening) }

@@ -8,21 +8,30 @@
 //! let folder = journal.into_folder();
 //! ```
 //!
-//! The file `served.journal`: gate\[1\], length\[8\], and that many bytes of a batch; what follows is ignored. The gate is open
-//! exactly as 0x01. A commit puts the batch after the closed gate, opens the gate, does the deeds phase by phase and closes the
-//! gate, with a sync after each. The first journal is made at `served.journal.new` and moved to its place. Opening does what is
-//! left of an open gate's batch, or says at which byte the journal is damaged.
+//! The file `served.journal`: gate\[1\], length\[8\], and that many bytes of a batch; then the letters `BATCHSUM` and the SHA-256
+//! of the open gate, the length and the batch; and if the batch reshapes files, the letters `HEADERS1` and of each `Reshape` in turn the first 68 bytes of
+//! its file before the batch, or zeros if it had fewer or if the deed changes them. What follows is ignored, and so is all behind the batch if other
+//! letters are there.
+//! The gate is open exactly as 0x01. A commit puts the batch and its sum after the closed gate, opens the gate, does the deeds phase
+//! by phase and closes the gate, with a sync after each. The first journal is made at `served.journal.new` and moved to its place. Opening does what is
+//! left of an open gate's batch, or says at which byte the journal is damaged. It does nothing if a file that the batch reshapes has another header than
+//! the journal kept, since another program saved that file anew.
 //!
-//! A folder that is only to be read is asked by `needs_recovery` whether there is such a batch.
+//! A folder that is only to be read is asked by `needs_recovery` whether there is such a batch, by `left_batch` which, and by `changed_since`
+//! whether the file of one of its deeds was saved anew.
 //!
 //! The changes that a run which is killed leaves unsynced name no path but those that `loose_paths` gives.
+//!
+//! `empty_journal` leaves no bytes of what was committed in the file. An empty file stands for a closed gate.
 //!
 //! Laws: `recovering_is_undamaged`, `undamaged_recovers`, `recovering_is_unique`, `opening_stays_found`, `journals_stay_undamaged`
 //! and `tidy_logs_are_flushed`, which do nothing.
 #![tactic(auto)]
 
+mod cut;
 mod fault;
 mod first;
+mod headers;
 mod journal;
 mod loose;
 mod reading;
@@ -30,6 +39,7 @@ mod recovery;
 mod running;
 mod stage;
 mod steps;
+mod sum;
 
 ghost use Rattle.std.specs.Prelude.{◌≡◌, ◌⊎◌, ℕ, suc, List, Contains};
 ghost use Rattle.outside.specs.Disk.{Disk, Path, IsFolder};
@@ -41,10 +51,12 @@ ghost use Rattle.chunk_journal.specs.Opening.{IsDamagedAt, LeavesFolder, HasFile
 ghost use Rattle.chunk_journal.specs.Commits.{StaysFound, StaysAsFound, StaysOpenable};
 ghost use Rattle.chunk_journal.specs.Flushed.{IsFirm, IsFlushedWhole};
 
+pub use cut::empty_journal;
 pub use fault::{Device, JournalErr};
+pub use headers::changed_since;
 pub use journal::Journal;
 pub use loose::loose_paths;
-pub use recovery::needs_recovery;
+pub use recovery::{left_batch, needs_recovery};
 
 /// What recovers to a disk, with no folder where the first journal is made, isn't damaged: so no stop of a commit or of an
 /// opening leaves a damaged journal. It does nothing.

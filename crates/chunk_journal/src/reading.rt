@@ -1,13 +1,14 @@
-ghost use Rattle.std.specs.Prelude.{◌≡◌, ◌⊎◌, ◌≤◌, ◌+◌, ◌<◌, ◌^◌, ◌-◌, ℕ, get_or, Some, MatchOption, ⊤, IfOk, IfErr, IsErrOf};
+ghost use Rattle.std.specs.Prelude.{◌≡◌, ◌⊎◌, ◌≤◌, ◌+◌, ◌<◌, ◌^◌, ◌-◌, ℕ, get_or, Some, MatchOption, ⊤, IfOk, IfErr, IsErr, IsErrOf, length};
 ghost use Rattle.outside.specs.Calls.{HasCause, Told};
 ghost use Rattle.outside.specs.Images.{now};
-ghost use Rattle.deeds.specs.Grammar.{IsBatch};
+ghost use Rattle.deeds.specs.Grammar.{IsBatch, spelled};
 ghost use Rattle.deeds.specs.Plain.{plains};
 ghost use Rattle.chunk_journal.specs.Journal.{journal_file, new_file, HoldsBatch, IsClosed, IsUnheld};
-ghost use Rattle.chunk_journal.specs.Opening.{said_len, HasFolder, HasLen, Says, OfLen, IsBadBehindGate, IsDamagedAt, IfDamaged};
+ghost use Rattle.chunk_journal.specs.Opening.{said_len, HasFolder, HasLen, Says, OfLen, Follows, IsSummedOrNot, IsBadBehindGate, IsDamagedAt, IfDamaged};
 
-use crate::fault::JournalErr;
+use crate::fault::{Device, JournalErr};
 use crate::steps::{GATE, OPEN};
+use crate::sum::{SUM_LEN, is_no_other, sum_behind};
 use deeds::{BatchErr, Deed, read_batch};
 use outside::{Kind, Reads};
 use std::alloc::Global;
@@ -82,6 +83,60 @@ fn batch_len<D: Reads>(
     Ok(Some(said))
 }
 
+// The deeds of the batch of so many bytes that follows an open gate, whatever is behind it.
+fn deeds_behind<D: Reads>(
+    alloc: Global,
+    folder: &mut D,
+    journal: &VaultPath,
+    len: u64,
+) -> Result<Vec<Deed>, JournalErr>
+    requires journal { journal.now ≡ journal_file }
+    requires says { Told (D.log folder.old) (λ log. Says len (now log) × (HasFolder (now log) → ⊥)) }
+    requires short { len + 9 < 2 ^ 64 }
+    ensures follows { IfOk result (λ deeds. Told (D.log folder.old) (λ log. Follows (plains deeds.items) (now log))) }
+    ensures batch { IfOk result (λ deeds. IsBatch (plains deeds.items)) }
+    ensures len { IfOk result (λ deeds. length (spelled (plains deeds.items)) ≡ len) }
+    ensures damaged { IfErr result (λ error. IfDamaged error (λ at. Told (D.log folder.old) (λ log. IsBadBehindGate (now log) at))) }
+    ensures unheld { IfErr result (λ error. IfDamaged error (λ at. Told (D.log folder.old) (λ log. IsUnheld (now log)))) }
+    ensures log { D.log folder.new ≡ D.log folder.old }
+    ensures changes { D.changes folder.new ≡ D.changes folder.old }
+    ensures cause { HasCause (D.faults folder.old) (D.faults folder.new) (IsErrOf result JournalErr.Device) }
+{
+    let mut bytes = vec![in alloc; 0; len as usize]?;
+    let n = folder.read(journal, BATCH, &mut bytes)?;
+    if n < bytes.len() {
+        return Err(JournalErr::JournalDamaged(BATCH + n as u64));
+    }
+    match read_batch(alloc, &bytes) {
+        Ok(deeds) => Ok(deeds),
+        Err(BatchErr::Bad(at)) => Err(JournalErr::JournalDamaged(BATCH + at as u64)),
+        Err(BatchErr::Memory) => Err(JournalErr::Memory),
+    }
+}
+
+// Whether no sum is behind a batch of so many bytes, or its own.
+fn is_summed<D: Reads>(
+    folder: &mut D,
+    journal: &VaultPath,
+    deeds: &[Deed],
+    len: u64,
+) -> Result<bool, Device>
+    requires journal { journal.now ≡ journal_file }
+    requires batch { IsBatch (plains deeds.now) }
+    requires len { length (spelled (plains deeds.now)) ≡ len }
+    requires short { len + 9 < 2 ^ 64 }
+    requires follows { Told (D.log folder.old) (λ log. Follows (plains deeds.now) (now log)) }
+    ensures summed { IfOk result (λ is. Told (D.log folder.old) (λ log. IsSummedOrNot is (plains deeds.now) (now log))) }
+    ensures log { D.log folder.new ≡ D.log folder.old }
+    ensures changes { D.changes folder.new ≡ D.changes folder.old }
+    ensures cause { HasCause (D.faults folder.old) (D.faults folder.new) (IsErr result) }
+{
+    let mut behind = [0; SUM_LEN];
+    let n = folder.read(journal, BATCH + len, &mut behind)?;
+    let is_fit = is_no_other(&behind[..n], &sum_behind(deeds));
+    Ok(is_fit)
+}
+
 // The batch of so many bytes that follows an open gate.
 fn held_batch<D: Reads>(
     alloc: Global,
@@ -100,16 +155,11 @@ fn held_batch<D: Reads>(
     ensures changes { D.changes folder.new ≡ D.changes folder.old }
     ensures cause { HasCause (D.faults folder.old) (D.faults folder.new) (IsErrOf result JournalErr.Device) }
 {
-    let mut bytes = vec![in alloc; 0; len as usize]?;
-    let n = folder.read(journal, BATCH, &mut bytes)?;
-    if n < bytes.len() {
-        return Err(JournalErr::JournalDamaged(BATCH + n as u64));
+    let deeds = deeds_behind(alloc, folder, journal, len)?;
+    if !is_summed(folder, journal, &deeds, len)? {
+        return Err(JournalErr::JournalDamaged(BATCH + len));
     }
-    match read_batch(alloc, &bytes) {
-        Ok(deeds) => Ok(deeds),
-        Err(BatchErr::Bad(at)) => Err(JournalErr::JournalDamaged(BATCH + at as u64)),
-        Err(BatchErr::Memory) => Err(JournalErr::Memory),
-    }
+    Ok(deeds)
 }
 
 /// The batch after the gate, if that is open.

@@ -1,4 +1,4 @@
-ghost use Rattle.std.specs.Prelude.{◌≡◌, ◌≢◌, ◌⊎◌, ◌+◌, ◌∷◌, [], ℕ, OnOk, OnErr, IfOk, IfErr, IsErr, IsErrOf, length, take};
+ghost use Rattle.std.specs.Prelude.{◌≡◌, ◌≢◌, ◌⊎◌, ◌+◌, ◌∷◌, [], ℕ, OnOk, OnErr, IfOk, IfErr, IsErr, IsErrOf, MatchOption, ⊤, length, take};
 ghost use Rattle.outside.specs.Calls.{HasCause, Told, Changes};
 ghost use Rattle.outside.specs.Disk.{Disk, Path, node_at};
 ghost use Rattle.outside.specs.Changes.{Write};
@@ -8,11 +8,12 @@ ghost use Rattle.outside.specs.Unsynced.{IsSynced};
 ghost use Rattle.deeds.specs.Applying.{Applies, StaysApplied};
 ghost use Rattle.deeds.specs.Grammar.{IsBatch, spelled_deeds};
 ghost use Rattle.deeds.specs.Plain.{plains};
-ghost use Rattle.chunk_journal.specs.Journal.{journal_file, new_file, IsAlike, IsQuiet, IsRepeatable, IsFound, StaysRecovered};
+ghost use Rattle.chunk_journal.specs.Journal.{journal_file, new_file, HoldsBatch, IsAlike, IsClosed, IsQuiet, IsRepeatable, IsFound, IsUnheld, StaysRecovered};
 ghost use Rattle.chunk_journal.specs.Stages.{LeavesParts};
 ghost use Rattle.chunk_journal.specs.Opening.{HasFolder, IsUnfitAt, IsDamagedAt, IsFoundOpen, LeavesFolder, IfDamaged, IsLeftApplied, IsOpening, StaysOpening, HasOpened};
 
 use crate::fault::{Device, JournalErr};
+use crate::headers::has_other_header;
 use crate::reading::{BATCH, journal_len, open_batch};
 use crate::steps::{CLOSED, GATE, write_synced};
 use deeds::{Deed, DeedErr, do_batch, journal_path, len_before, new_path};
@@ -104,6 +105,32 @@ fn redo<D: Folder>(
     Ok(())
 }
 
+// The batch after the gate, if that is open and no other program saved a file anew that the batch reshapes.
+fn batch_to_redo<D: Reads>(
+    alloc: Global,
+    folder: &mut D,
+    journal: &VaultPath,
+    beside: &VaultPath,
+) -> Result<Option<Vec<Deed>>, JournalErr>
+    requires journal { journal.now ≡ journal_file }
+    requires beside { beside.now ≡ new_file }
+    ensures found { IfOk result (λ found. Told (D.log folder.old)
+        (λ log. (HasFolder (now log) → ⊥) × MatchOption found (IsClosed (now log)) (λ deeds. HoldsBatch (now log) (plains deeds.items)))) }
+    ensures batch { IfOk result (λ found. MatchOption found ⊤ (λ deeds. IsBatch (plains deeds.items))) }
+    ensures damaged { IfErr result (λ error. IfDamaged error (λ at. Told (D.log folder.old) (λ log. IsDamagedAt (now log) at))) }
+    ensures unheld { IfErr result (λ error. IfDamaged error (λ at. Told (D.log folder.old) (λ log. HasFolder (now log) ⊎ IsUnheld (now log)))) }
+    ensures log { D.log folder.new ≡ D.log folder.old }
+    ensures cause { HasCause (D.faults folder.old) (D.faults folder.new) (IsErrOf result JournalErr.Device) }
+{
+    let found = open_batch(alloc, folder, journal, beside)?;
+    if let Some(deeds) = &found {
+        if has_other_header(folder, journal, deeds)? {
+            return Err(JournalErr::Device);
+        }
+    }
+    Ok(found)
+}
+
 /// Recovers a folder: what follows an open gate is done, and the gate is closed.
 pub fn recover<D: Folder>(alloc: Global, folder: &mut D) -> Result<(), JournalErr>
     ensures opened { OnOk result (Changes (D.log folder.old) (D.log folder.new) HasOpened) }
@@ -116,11 +143,25 @@ pub fn recover<D: Folder>(alloc: Global, folder: &mut D) -> Result<(), JournalEr
     settle(folder)?;
     let journal = journal_path();
     let beside = new_path();
-    let Some(deeds) = open_batch(alloc, folder, &journal, &beside)? else {
+    let Some(deeds) = batch_to_redo(alloc, folder, &journal, &beside)? else {
         return Ok(());
     };
     redo(folder, &journal, &beside, &deeds)?;
     Ok(())
+}
+
+/// The batch that a stop left behind an open gate, if there is one: an opening would do its deeds. The journal is read as it is found, and nothing is
+/// changed. An error is one of `Journal::open`, but that no deed is tried.
+pub fn left_batch<D: Reads>(alloc: Global, folder: &mut D) -> Result<Option<Vec<Deed>>, JournalErr>
+    ensures found { IfOk result (λ left. Told (D.log folder.old)
+        (λ log. (HasFolder (now log) → ⊥) × MatchOption left (IsClosed (now log)) (λ deeds. HoldsBatch (now log) (plains deeds.items)))) }
+    ensures batch { IfOk result (λ left. MatchOption left ⊤ (λ deeds. IsBatch (plains deeds.items))) }
+    ensures damaged { IfErr result (λ error. IfDamaged error (λ at. Told (D.log folder.old) (λ log. IsDamagedAt (now log) at))) }
+    ensures log { D.log folder.new ≡ D.log folder.old }
+    ensures changes { D.changes folder.new ≡ D.changes folder.old }
+    ensures cause { HasCause (D.faults folder.old) (D.faults folder.new) (IsErrOf result JournalErr.Device) }
+{
+    open_batch(alloc, folder, &journal_path(), &new_path())
 }
 
 /// Whether a stop left a batch behind an open gate, which an opening would do. The journal is read as it is found, and nothing is changed. An error is one of
@@ -132,6 +173,5 @@ pub fn needs_recovery<D: Reads>(alloc: Global, folder: &mut D) -> Result<bool, J
     ensures changes { D.changes folder.new ≡ D.changes folder.old }
     ensures cause { HasCause (D.faults folder.old) (D.faults folder.new) (IsErrOf result JournalErr.Device) }
 {
-    let found = open_batch(alloc, folder, &journal_path(), &new_path())?;
-    Ok(found.is_some())
+    Ok(left_batch(alloc, folder)?.is_some())
 }

@@ -1,6 +1,6 @@
 ghost use Rattle.std.specs.Prelude.{OnOk, IsErr};
 ghost use Rattle.outside.specs.Calls.{HasCause, Told, Changes};
-ghost use Rattle.outside.specs.Changes.{Put, Write, Move, CanDo};
+ghost use Rattle.outside.specs.Changes.{Put, Write, SetLen, Move, CanDo};
 ghost use Rattle.outside.specs.Images.{now, IsSteady};
 ghost use Rattle.chunk_journal.specs.Stages.{IsKept, LeavesParts};
 
@@ -20,6 +20,9 @@ pub const GATE: u64 = 0;
 /// The offset of what follows the gate.
 pub const BEHIND_GATE: u64 = 1;
 
+/// The length of a journal's file that has no gate, which stands for a closed one.
+pub const EMPTY: u64 = 0;
+
 /// Writes bytes over those of a file, and syncs.
 pub fn write_synced<D: Folder>(
     folder: &mut D,
@@ -34,6 +37,19 @@ pub fn write_synced<D: Folder>(
     ensures cause { HasCause (D.faults folder.old) (D.faults folder.new) (IsErr result) }
 {
     folder.write(path, at, bytes)?;
+    folder.sync()?;
+    Ok(())
+}
+
+/// Cuts a file, and syncs.
+pub fn cut_synced<D: Folder>(folder: &mut D, path: &VaultPath, len: u64) -> Result<(), Device>
+    requires steady { Told (D.log folder.old) IsSteady }
+    requires can { Told (D.log folder.old) (λ log. CanDo (SetLen path.now len) (now log)) }
+    ensures cut { OnOk result (Changes (D.log folder.old) (D.log folder.new) (IsKept (SetLen path.now len))) }
+    ensures any_moment { Changes (D.log folder.old) (D.log folder.new) (LeavesParts (SetLen path.now len)) }
+    ensures cause { HasCause (D.faults folder.old) (D.faults folder.new) (IsErr result) }
+{
+    folder.set_len(path, len)?;
     folder.sync()?;
     Ok(())
 }

@@ -99,7 +99,7 @@ recovering_is_sound image disk tree reopenable recovers = record {
   where
     no_journal : RecoversTo image disk → IsFolder image journal_file → ⊥
     no_journal (inl shut) is = closed_no_folder image shut.0 is
-    no_journal (inr (deeds, held, run)) is = file_no_folder (node_at image journal_file) _ held.2 is
+    no_journal (inr (deeds, held, run)) is = file_no_folder (node_at image journal_file) _ held.here is
 
 pub stops_are_sound : (Shows : DiskShows) → StopsAreSound Shows
 stops_are_sound Shows rows history low high image tree is = recovering_is_sound image is.disk tree is.reopenable is.recovers

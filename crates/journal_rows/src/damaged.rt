@@ -23,24 +23,36 @@ fn place_of(cause: JournalErr) -> Result<Option<u64>, RowErr> {
     }
 }
 
+/// Opens the journal of a folder: the byte at which it is damaged, if it is, and the folder as it then is.
+pub(crate) fn open_journal(
+    alloc: Global,
+    folder: MemFolder,
+) -> Result<(Option<u64>, Untelling<MemFolder>), RowErr> {
+    match Journal::open(alloc, Untelling::over(folder)) {
+        Ok(journal) => Ok((None, journal.into_folder())),
+        Err(refused) => Ok((place_of(refused.cause)?, refused.folder)),
+    }
+}
+
 // Opens the journal of a folder.
 fn open(alloc: Global, folder: MemFolder) -> Result<Opened, RowErr> {
-    let (place, mut folder) = match Journal::open(alloc, Untelling::over(folder)) {
-        Ok(journal) => (None, journal.into_folder()),
-        Err(refused) => (place_of(refused.cause)?, refused.folder),
-    };
+    let (place, mut folder) = open_journal(alloc, folder)?;
     let makes_d = folder.kind(&at(b"d")?)? == Some(Kind::Dir);
     Ok(Opened { place, makes_d })
 }
 
-// What a row says of a journal: a number or `-`, and `d` or `-`.
+/// The byte at which a row says that a journal is damaged: a number or `-`.
+pub(crate) fn place_in(place: &str) -> Result<Option<u64>, RowErr> {
+    match place {
+        "-" => Ok(None),
+        number => Ok(Some(number.parse::<u64>().map_err(|_| RowErr::Short)?)),
+    }
+}
+
+// What a row says of a journal: that byte, and `d` or `-`.
 fn wanted<'a>(place: &'a str, made: &'a str) -> Result<Opened, RowErr> {
-    let place = match place {
-        "-" => None,
-        number => Some(number.parse::<u64>().map_err(|_| RowErr::Short)?),
-    };
     Ok(Opened {
-        place,
+        place: place_in(place)?,
         makes_d: made == "d",
     })
 }

@@ -1,67 +1,27 @@
-use Rattle.std.proofs.Common.{◌≡◌, ℕ, ◌+◌, ◌++◌, take, drop, length, ap, ◌∙◌, arith}
-use Rattle.outside.specs.Images.{now}
-use Rattle.deeds.specs.Plain.{plains}
+use Rattle.std.proofs.Common.{◌≡◌, ◌+◌, Bool, false, Option, subst}
+use Rattle.outside.specs.Calls.{Told}
+use Rattle.outside.specs.Images.{Log, now}
 use Rattle.outside.proofs.Told.{told_both}
-use Rattle.deeds.proofs.Doing.{told_disk}
-use Rattle.chunk_journal.specs.Journal.{HoldsBatch, IsUnheld}
-use Rattle.chunk_journal.specs.Opening.{HasFolder, Says, IsBadBehindGate}
-use Rattle.chunk_journal.proofs.Damage.{HasReadBehind, filled, holds, unread, unread_unheld, fault_within}
+use Rattle.deeds.specs.Plain.{plains}
+use Rattle.chunk_journal.specs.Journal.{IsUnheld}
+use Rattle.chunk_journal.specs.Opening.{HasFolder, Says, IsSummedOrNot, IsBadBehindGate}
+use Rattle.chunk_journal.proofs.Damage.{missummed, missummed_unheld}
 use Rattle.chunk_journal.proofs.reading.held_batch.Goals as goal
 
-pub returns-in-Ok-clause-held : goal.returns-in-Ok-clause-held
-returns-in-Ok-clause-held g c =
+pub returns-then-not-branch-clause-damaged : goal.returns-then-not-branch-clause-damaged
+returns-then-not-branch-clause-damaged g c =
     let log = g.D.Reads.log c.args.folder.now in
-    let p = c.args.journal.now in
-    let out = c.read.new.out in
-    let rest = drop (length out) c.in_ok-bytes.bytes.items in
-    let text = c.deref.result.now in
-    let room = length c.deref_mut.result.now in
-    let n = c.in_ok-n.n in
+    let ds = plains c.deref.result.now in
     let len = c.args.len in
-    let found = c.in-Ok.ensures.found in
-    let vec : c.in_ok-bytes.bytes.len ≡ len = c.in_ok-bytes.ensures.len in
-    let long : length out ≡ len = c.read.auto.out ∙ c.deref_mut.ensures.len ∙ vec in
-    let full : n ≡ len = omega (arith, c.len.ensures, c.if-n-len.false, c.in_ok-n.ensures.count, c.deref_mut.ensures.len, vec) in
-    told_both log (λ l. Says len (now l) × (HasFolder (now l) → ⊥)) (λ l. HasReadBehind p out room n (now l)) (λ l. HoldsBatch (now l) (plains c.in-Ok.deeds.items)) c.requires.says
-    (told_disk log (HasReadBehind p out room n) c.in_ok-n.ensures.bytes)
-    (λ l s r. holds (now l) len text (plains c.in-Ok.deeds.items) s.0 found.0 found.1 (filled (now l) p out rest text room n len s.0 c.requires.journal r (c.deref.ensures.value ∙ ap (λ (k : ℕ). take k (out ++ rest)) vec) long full) (c.deref.ensures.len ∙ vec))
+    let other = subst (λ (is : Bool). Told log (λ l. IsSummedOrNot is ds (now l))) c.if-not-branch.true
+    (subst (λ (o : Option Log). Told o (λ l. IsSummedOrNot c.in_ok-is_summed.field-0 ds (now l))) c.in_ok-deeds.ensures.log c.in_ok-is_summed.ensures.summed) in
+    told_both log (λ l. Says len (now l) × (HasFolder (now l) → ⊥)) (λ l. IsSummedOrNot false ds (now l)) (λ l. IsBadBehindGate (now l) (9 + len)) c.requires.says other
+    (λ l s o. missummed (now l) len ds s.0 s.1 o)
 
-pub overflow_add-result-in-Err-Bad : goal.overflow_add-result-in-Err-Bad
-overflow_add-result-in-Err-Bad g c =
-    omega (arith, fault_within c.deref.result.now c.in-Err-Bad.at (rw c.in-Err-Bad.field-0-is at c.in-Err-Bad.ensures.bad), c.deref.ensures.len, c.in_ok-bytes.ensures.len, c.requires.short)
-
-pub returns-in-Err-Bad-clause-damaged : goal.returns-in-Err-Bad-clause-damaged
-returns-in-Err-Bad-clause-damaged g c =
+pub returns-then-not-branch-clause-unheld : goal.returns-then-not-branch-clause-unheld
+returns-then-not-branch-clause-unheld g c =
     let log = g.D.Reads.log c.args.folder.now in
-    let p = c.args.journal.now in
-    let out = c.read.new.out in
-    let rest = drop (length out) c.in_ok-bytes.bytes.items in
-    let text = c.deref.result.now in
-    let room = length c.deref_mut.result.now in
-    let n = c.in_ok-n.n in
-    let len = c.args.len in
-    let bad = rw c.in-Err-Bad.field-0-is at c.in-Err-Bad.ensures.bad in
-    let vec : c.in_ok-bytes.bytes.len ≡ len = c.in_ok-bytes.ensures.len in
-    let long : length out ≡ len = c.read.auto.out ∙ c.deref_mut.ensures.len ∙ vec in
-    let full : n ≡ len = omega (arith, c.len.ensures, c.if-n-len.false, c.in_ok-n.ensures.count, c.deref_mut.ensures.len, vec) in
-    told_both log (λ l. Says len (now l) × (HasFolder (now l) → ⊥)) (λ l. HasReadBehind p out room n (now l)) (λ l. IsBadBehindGate (now l) (9 + c.in-Err-Bad.at)) c.requires.says
-    (told_disk log (HasReadBehind p out room n) c.in_ok-n.ensures.bytes)
-    (λ l s r. unread (now l) len c.in-Err-Bad.at text s.0 s.1 (filled (now l) p out rest text room n len s.0 c.requires.journal r (c.deref.ensures.value ∙ ap (λ (k : ℕ). take k (out ++ rest)) vec) long full) bad)
-
-pub returns-in-Err-Bad-clause-unheld : goal.returns-in-Err-Bad-clause-unheld
-returns-in-Err-Bad-clause-unheld g c =
-    let log = g.D.Reads.log c.args.folder.now in
-    let p = c.args.journal.now in
-    let out = c.read.new.out in
-    let rest = drop (length out) c.in_ok-bytes.bytes.items in
-    let text = c.deref.result.now in
-    let room = length c.deref_mut.result.now in
-    let n = c.in_ok-n.n in
-    let len = c.args.len in
-    let bad = rw c.in-Err-Bad.field-0-is at c.in-Err-Bad.ensures.bad in
-    let vec : c.in_ok-bytes.bytes.len ≡ len = c.in_ok-bytes.ensures.len in
-    let long : length out ≡ len = c.read.auto.out ∙ c.deref_mut.ensures.len ∙ vec in
-    let full : n ≡ len = omega (arith, c.len.ensures, c.if-n-len.false, c.in_ok-n.ensures.count, c.deref_mut.ensures.len, vec) in
-    told_both log (λ l. Says len (now l) × (HasFolder (now l) → ⊥)) (λ l. HasReadBehind p out room n (now l)) (λ l. IsUnheld (now l)) c.requires.says
-    (told_disk log (HasReadBehind p out room n) c.in_ok-n.ensures.bytes)
-    (λ l s r. unread_unheld (now l) len c.in-Err-Bad.at text s.0 (filled (now l) p out rest text room n len s.0 c.requires.journal r (c.deref.ensures.value ∙ ap (λ (k : ℕ). take k (out ++ rest)) vec) long full) bad)
+    let ds = plains c.deref.result.now in
+    let other = subst (λ (is : Bool). Told log (λ l. IsSummedOrNot is ds (now l))) c.if-not-branch.true
+    (subst (λ (o : Option Log). Told o (λ l. IsSummedOrNot c.in_ok-is_summed.field-0 ds (now l))) c.in_ok-deeds.ensures.log c.in_ok-is_summed.ensures.summed) in
+    told_both log (λ l. IsSummedOrNot false ds (now l)) (λ l. IsSummedOrNot false ds (now l)) (λ l. IsUnheld (now l)) other other (λ l o _. missummed_unheld (now l) ds o)

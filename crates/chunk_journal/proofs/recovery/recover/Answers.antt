@@ -47,23 +47,23 @@ pub returns-in_default-clause-opened : goal.returns-in_default-clause-opened
 returns-in_default-clause-opened g c =
     let at = goal.at.returns-in_default-clause-opened g c in
     let none : Told (g.D.Reads.log c.settle.new.folder) (Looks None) = subst (λ (o : Option (Vec Deed Global)). Told (g.D.Reads.log c.settle.new.folder) (Looks o)) c.in_default.is c.in_ok-deeds.ensures.found in
-    subst (λ (o : Option Log). Changes (g.D.Reads.log c.args.folder.now) o HasOpened) (sym c.open_batch.ensures.log)
+    subst (λ (o : Option Log). Changes (g.D.Reads.log c.args.folder.now) o HasOpened) (sym c.batch_to_redo.ensures.log)
     (changed_by (g.D.Reads.log c.args.folder.now) (g.D.Reads.log c.settle.new.folder) (λ x y. HasSettled x y × Looks None y) HasOpened (λ x y p. opened_closed x y y p.0 p.1.1 p.1.0 refl) (with_new (g.D.Reads.log c.args.folder.now) (g.D.Reads.log c.settle.new.folder) HasSettled (Looks None) (settled g at.In_ok-settle) none))
 
 pub returns-in_default-clause-opening : goal.returns-in_default-clause-opening
 returns-in_default-clause-opening g c =
     let at = goal.at.returns-in_default-clause-opening g c in
-    subst (λ (o : Option Log). Changes (g.D.Reads.log c.args.folder.now) o IsOpening) (sym c.open_batch.ensures.log) (changed_by (g.D.Reads.log c.args.folder.now) (g.D.Reads.log c.settle.new.folder) HasSettled IsOpening (λ x y p. unopened x y y p refl) (settled g at.In_ok-settle))
+    subst (λ (o : Option Log). Changes (g.D.Reads.log c.args.folder.now) o IsOpening) (sym c.batch_to_redo.ensures.log) (changed_by (g.D.Reads.log c.args.folder.now) (g.D.Reads.log c.settle.new.folder) HasSettled IsOpening (λ x y p. unopened x y y p refl) (settled g at.In_ok-settle))
 
 pub returns-in_default-clause-any_moment : goal.returns-in_default-clause-any_moment
 returns-in_default-clause-any_moment g c =
     let at = goal.at.returns-in_default-clause-any_moment g c in
-    subst (λ (o : Option Log). Changes (g.D.Reads.log c.args.folder.now) o StaysOpening) (sym c.open_batch.ensures.log) (changed_by (g.D.Reads.log c.args.folder.now) (g.D.Reads.log c.settle.new.folder) HasSettled StaysOpening (λ x y p. inr (unopened x y y p refl)) (settled g at.In_ok-settle))
+    subst (λ (o : Option Log). Changes (g.D.Reads.log c.args.folder.now) o StaysOpening) (sym c.batch_to_redo.ensures.log) (changed_by (g.D.Reads.log c.args.folder.now) (g.D.Reads.log c.settle.new.folder) HasSettled StaysOpening (λ x y p. inr (unopened x y y p refl)) (settled g at.In_ok-settle))
 
 -- what doing it again leaves, as far as it came
-again : (g : Over) (c : After-redo g) → Changes (g.D.Reads.log c.open_batch.new.folder) (g.D.Reads.log c.redo.new.folder) LogGoesOn → Changes (g.D.Reads.log c.open_batch.new.folder) (g.D.Reads.log c.redo.new.folder) (Stays (plains c.deref.result.now)) → Changes (g.D.Reads.log c.settle.new.folder) (g.D.Reads.log c.redo.new.folder) (λ x y. LogGoesOn x y × Stays (plains c.in-Some.deeds.items) x y)
+again : (g : Over) (c : After-redo g) → Changes (g.D.Reads.log c.batch_to_redo.new.folder) (g.D.Reads.log c.redo.new.folder) LogGoesOn → Changes (g.D.Reads.log c.batch_to_redo.new.folder) (g.D.Reads.log c.redo.new.folder) (Stays (plains c.deref.result.now)) → Changes (g.D.Reads.log c.settle.new.folder) (g.D.Reads.log c.redo.new.folder) (λ x y. LogGoesOn x y × Stays (plains c.in-Some.deeds.items) x y)
 again g c grown stays =
-    redone_stays (plains c.in-Some.deeds.items) (g.D.Reads.log c.settle.new.folder) (g.D.Reads.log c.open_batch.new.folder) (g.D.Reads.log c.redo.new.folder) c.open_batch.ensures.log grown (subst (λ (ds : List Deed). Changes (g.D.Reads.log c.open_batch.new.folder) (g.D.Reads.log c.redo.new.folder) (Stays (plains ds))) c.deref.ensures.value stays)
+    redone_stays (plains c.in-Some.deeds.items) (g.D.Reads.log c.settle.new.folder) (g.D.Reads.log c.batch_to_redo.new.folder) (g.D.Reads.log c.redo.new.folder) c.batch_to_redo.ensures.log grown (subst (λ (ds : List Deed). Changes (g.D.Reads.log c.batch_to_redo.new.folder) (g.D.Reads.log c.redo.new.folder) (Stays (plains ds))) c.deref.ensures.value stays)
 
 pub returns-in_err-redo-clause-any_moment : goal.returns-in_err-redo-clause-any_moment
 returns-in_err-redo-clause-any_moment g c =
@@ -77,9 +77,9 @@ returns-in_err-redo-clause-damaged g c =
     let bs = plains c.in-Some.deeds.items in
     let at = goal.at.returns-in_err-redo-clause-damaged g c in
     let q = err_from_is_err_and c.from_residual-in_err-redo.result c.from_residual-in_err-redo.ensures.1 in
-    rw (q.1, q.2) (damaged_by c.in_err-redo.field-0.0 (λ at. Told (g.D.Reads.log c.open_batch.new.folder) (λ l. IsUnfitAt (now l) at ⊎ LeavesFolder (now l) at)) (λ at. Told (g.D.Reads.log c.args.folder.now) (λ l. IsDamagedAt (now l) at ⊎ LeavesFolder (now l) at))
+    rw (q.1, q.2) (damaged_by c.in_err-redo.field-0.0 (λ at. Told (g.D.Reads.log c.batch_to_redo.new.folder) (λ l. IsUnfitAt (now l) at ⊎ LeavesFolder (now l) at)) (λ at. Told (g.D.Reads.log c.args.folder.now) (λ l. IsDamagedAt (now l) at ⊎ LeavesFolder (now l) at))
     (λ n t. told_earlier (g.D.Reads.log c.args.folder.now) (g.D.Reads.log c.settle.new.folder) (λ x y. HasSettled x y × Finds bs y) (λ l. IsUnfitAt (now l) n ⊎ LeavesFolder (now l) n) (λ l. IsDamagedAt (now l) n ⊎ LeavesFolder (now l) n) (λ x y p h. redone_damage bs n x y p.0 p.1 h)
-    (found g at.In-Some (settled g at.In_ok-settle)) (subst (λ (o : Option Log). Told o (λ l. IsUnfitAt (now l) n ⊎ LeavesFolder (now l) n)) c.open_batch.ensures.log t))
+    (found g at.In-Some (settled g at.In_ok-settle)) (subst (λ (o : Option Log). Told o (λ l. IsUnfitAt (now l) n ⊎ LeavesFolder (now l) n)) c.batch_to_redo.ensures.log t))
     c.in_err-redo.ensures.damaged)
 
 pub returns-clause-opened : goal.returns-clause-opened
@@ -87,7 +87,7 @@ returns-clause-opened g c =
     let bs = plains c.in-Some.deeds.items in
     let at = goal.at.returns-clause-opened g c in
     through (g.D.Reads.log c.args.folder.now) (g.D.Reads.log c.settle.new.folder) (g.D.Reads.log c.redo.new.folder) (λ x y. HasSettled x y × Finds bs y) (HasRedone bs) HasOpened (opened_by bs) (found g at.In-Some (settled g at.In_ok-settle))
-    (subst (λ (o : Option Log). Changes o (g.D.Reads.log c.redo.new.folder) (HasRedone bs)) c.open_batch.ensures.log (subst (λ (ds : List Deed). Changes (g.D.Reads.log c.open_batch.new.folder) (g.D.Reads.log c.redo.new.folder) (HasRedone (plains ds))) c.deref.ensures.value c.in_ok-redo.ensures.redone))
+    (subst (λ (o : Option Log). Changes o (g.D.Reads.log c.redo.new.folder) (HasRedone bs)) c.batch_to_redo.ensures.log (subst (λ (ds : List Deed). Changes (g.D.Reads.log c.batch_to_redo.new.folder) (g.D.Reads.log c.redo.new.folder) (HasRedone (plains ds))) c.deref.ensures.value c.in_ok-redo.ensures.redone))
 
 pub returns-clause-opening : goal.returns-clause-opening
 returns-clause-opening g c =
@@ -107,7 +107,7 @@ pub returns-in_err-deeds-clause-left : goal.returns-in_err-deeds-clause-left
 returns-in_err-deeds-clause-left g c =
     let at = goal.at.returns-in_err-deeds-clause-left g c in
     let q = err_from_is_err_and c.from_residual-in_err-deeds.result c.from_residual-in_err-deeds.ensures.1 in
-    rw (q.1, q.2) (damaged_by c.in_err-deeds.field-0.0 (λ n. Told (g.D.Reads.log c.settle.new.folder) (λ l. HasFolder (now l) ⊎ IsUnheld (now l))) (λ n. Changes (g.D.Reads.log c.args.folder.now) (g.D.Reads.log c.open_batch.new.folder) IsLeftApplied)
+    rw (q.1, q.2) (damaged_by c.in_err-deeds.field-0.0 (λ n. Told (g.D.Reads.log c.settle.new.folder) (λ l. HasFolder (now l) ⊎ IsUnheld (now l))) (λ n. Changes (g.D.Reads.log c.args.folder.now) (g.D.Reads.log c.batch_to_redo.new.folder) IsLeftApplied)
     (λ n unheld. subst (λ (o : Option Log). Changes (g.D.Reads.log c.args.folder.now) o IsLeftApplied) (sym c.in_err-deeds.ensures.log)
     (changed_by (g.D.Reads.log c.args.folder.now) (g.D.Reads.log c.settle.new.folder) (λ x y. HasSettled x y × (HasFolder (now y) ⊎ IsUnheld (now y))) IsLeftApplied (λ x y p. left_unread x y p.0 p.1)
     (with_new (g.D.Reads.log c.args.folder.now) (g.D.Reads.log c.settle.new.folder) HasSettled (λ l. HasFolder (now l) ⊎ IsUnheld (now l)) (settled g at.In_ok-settle) unheld)))
@@ -119,7 +119,7 @@ returns-in_err-redo-clause-left g c =
     let at = goal.at.returns-in_err-redo-clause-left g c in
     let q = err_from_is_err_and c.from_residual-in_err-redo.result c.from_residual-in_err-redo.ensures.1 in
     let A = λ (ds : List PlainDeed) (old new : Log). Applies (in_order ds) (now old) (now new) in
-    rw (q.1, q.2) (damaged_by c.in_err-redo.field-0.0 (λ n. Changes (g.D.Reads.log c.open_batch.new.folder) (g.D.Reads.log c.redo.new.folder) (A (plains c.deref.result.now))) (λ n. Changes (g.D.Reads.log c.args.folder.now) (g.D.Reads.log c.redo.new.folder) IsLeftApplied)
+    rw (q.1, q.2) (damaged_by c.in_err-redo.field-0.0 (λ n. Changes (g.D.Reads.log c.batch_to_redo.new.folder) (g.D.Reads.log c.redo.new.folder) (A (plains c.deref.result.now))) (λ n. Changes (g.D.Reads.log c.args.folder.now) (g.D.Reads.log c.redo.new.folder) IsLeftApplied)
     (λ n applied. through (g.D.Reads.log c.args.folder.now) (g.D.Reads.log c.settle.new.folder) (g.D.Reads.log c.redo.new.folder) (λ x y. HasSettled x y × Finds bs y) (A bs) IsLeftApplied (λ x y z p h. left_redone bs x y z p h) (found g at.In-Some (settled g at.In_ok-settle))
-    (subst (λ (o : Option Log). Changes o (g.D.Reads.log c.redo.new.folder) (A bs)) c.open_batch.ensures.log (subst (λ (ds : List Deed). Changes (g.D.Reads.log c.open_batch.new.folder) (g.D.Reads.log c.redo.new.folder) (A (plains ds))) c.deref.ensures.value applied)))
+    (subst (λ (o : Option Log). Changes o (g.D.Reads.log c.redo.new.folder) (A bs)) c.batch_to_redo.ensures.log (subst (λ (ds : List Deed). Changes (g.D.Reads.log c.batch_to_redo.new.folder) (g.D.Reads.log c.redo.new.folder) (A (plains ds))) c.deref.ensures.value applied)))
     c.in_err-redo.ensures.left)

@@ -1,4 +1,4 @@
-use Rattle.std.proofs.Common.{◌≡◌, ◌≤◌, ◌-◌, length, take}
+use Rattle.std.proofs.Common.{◌≡◌, ◌<◌, ◌≤◌, ◌-◌, length, take}
 use Rattle.outside.specs.Calls.{Changes}
 use Rattle.outside.specs.Images.{now}
 use Rattle.deeds.specs.Grammar.{behind_gate}
@@ -12,6 +12,7 @@ invariant-loop-at g l = record {
   keeps : Changes (g.D.Reads.log l.fn.folder) (g.D.Reads.log l.folder) KeepsShut;
   within : l.at ≤ length (behind_gate (plains l.deeds));
   long : l.len ≡ length (behind_gate (plains l.deeds));
+  room : 0 < length l.piece;
   later : g.D.Reads.faults l.fn.folder ≤ g.D.Reads.faults l.folder;
 }
 
