@@ -12,7 +12,7 @@ use pending_files::Pending;
 use std::test::Fail;
 use untold_folder::Untelling;
 use vault_path::VaultPath;
-use write_back::{SealedChunks, WriteBack};
+use write_back::{Headers, SealedChunks, WriteBack};
 
 type Back = WriteBack<Untelling<MemFolder>>;
 
@@ -70,9 +70,9 @@ const STEPS: [Step; 5] = [
     },
 ];
 
-// Setting up is two changing calls. The one flush makes the journal in two, puts its batch in one piece behind the gate, opens the
-// gate, writes the one chunk that no later step cut off and cuts the file, and closes the gate.
-const CALLS: u64 = 2 + 2 + 1 + 1 + 2 + 1;
+// Setting up is two changing calls. The one flush makes the journal in two, puts its batch in one piece behind the gate, the sum
+// behind that and the file's header behind both, opens the gate, writes the one chunk that no later step cut off and cuts the file, and closes the gate.
+const CALLS: u64 = 2 + 2 + 3 + 1 + 2 + 1;
 
 // A call of the folder, counted from 0, that fails in the flush of the first step, and what the file then shows once its journal
 // is opened again.
@@ -82,16 +82,22 @@ struct Failure {
     shows: [u8; 4],
 }
 
-// Setting up is calls 0 and 1, and opening 2 to 4. The flush looks for the journal by call 5, makes it by 6 to 9, puts the batch
-// behind the gate by 10 and 11, opens the gate by 12 and 13, and then begins the deed.
-const FAILURES: [Failure; 5] = [
+// Setting up is calls 0 and 1, and opening 2 to 4. The flush looks at the file by call 5 and for the journal by call 6, makes that
+// by 7 to 10, puts the batch and its sum behind the gate by 11 and 12, reads the file's header and puts that behind them by 13 to 15, opens the gate
+// by 16 and 17, and then begins the deed.
+const FAILURES: [Failure; 9] = [
     Failure {
         call: 5,
         size: 32_964,
         shows: [2, 2, 3, 3],
     },
     Failure {
-        call: 10,
+        call: 6,
+        size: 32_964,
+        shows: [2, 2, 3, 3],
+    },
+    Failure {
+        call: 11,
         size: 32_964,
         shows: [2, 2, 3, 3],
     },
@@ -102,11 +108,26 @@ const FAILURES: [Failure; 5] = [
     },
     Failure {
         call: 13,
+        size: 32_964,
+        shows: [2, 2, 3, 3],
+    },
+    Failure {
+        call: 14,
+        size: 32_964,
+        shows: [2, 2, 3, 3],
+    },
+    Failure {
+        call: 16,
+        size: 32_964,
+        shows: [2, 2, 3, 3],
+    },
+    Failure {
+        call: 17,
         size: 32_880,
         shows: [2, 2, 9, 9],
     },
     Failure {
-        call: 14,
+        call: 18,
         size: 32_880,
         shows: [2, 2, 9, 9],
     },
@@ -116,7 +137,11 @@ fn opened(rt: &HostRuntime, folder: MemFolder) -> Result<Back, Fail> {
     let journal = Journal::open(rt.alloc(), Untelling::over(folder))
         .ok()
         .ok_or("an opened journal")?;
-    Ok(WriteBack::new(journal, Pending::new(rt.alloc())?))
+    Ok(WriteBack::new(
+        journal,
+        Pending::new(rt.alloc())?,
+        Headers::new(rt.alloc())?,
+    ))
 }
 
 fn change_of(step: &Step) -> SealedChunks<'static> {
@@ -127,8 +152,8 @@ fn change_of(step: &Step) -> SealedChunks<'static> {
     }
 }
 
-// Whether the change is a cut or one chunk, and can be made of a file of this length.
-fn fits(len: u64, change: &SealedChunks<'_>) -> bool
+/// Whether the change is a cut or one chunk, and can be made of a file of this length.
+pub fn fits(len: u64, change: &SealedChunks<'_>) -> bool
     ensures can { IsTrue result → CanPutChunks change.now.size len change.now.first (rewriting_of change.now).sealed }
     ensures few { IsTrue result → length (rewriting_of change.now).sealed ≤ 1 }
 {
@@ -151,8 +176,8 @@ fn puts(back: &mut Back, path: &VaultPath, len: u64, change: &SealedChunks<'_>) 
     true
 }
 
-// The size of a file, where it has these bytes at a place.
-fn size_showing<R: Reads>(
+/// The size of a file, where it has these bytes at a place.
+pub fn size_showing<R: Reads>(
     folder: &mut R,
     path: &VaultPath,
     place: u64,

@@ -14,4 +14,6 @@ mod flushes;
 #[cfg(test)]
 mod loose;
 #[cfg(test)]
+mod meddled;
+#[cfg(test)]
 mod reads;

@@ -214,3 +214,32 @@ few_without path xs few room = ⊎_elim
     (λ (none : file_of path xs ≡ None). let e = ap length (none_without path xs none) in omega (arith, e, room none))
     (λ (less : length (without path xs) < length xs). omega (arith, less, few))
     (shorter path xs)
+
+-- ---- without a file
+
+short_without : (path : Path) (xs : List PlainDeed) → length (without path xs) ≤ length xs
+short_without path xs = ⊎_elim
+    (λ (none : file_of path xs ≡ None). omega (arith, ap length (none_without path xs none)))
+    (λ (less : length (without path xs) < length xs). omega (arith, less))
+    (shorter path xs)
+
+pub pending_without : (path : Path) (xs : List PlainDeed) → ArePending xs → ArePending (without path xs)
+pending_without path xs are = record {
+  each = each_without IsWaiting path xs are.each;
+  apart = apart_without path xs are.apart;
+  few_files = omega (arith, short_without path xs, are.few_files);
+  few_chunks = omega (arith, count_without path xs, are.few_chunks);
+}
+
+-- one of them, and the others
+pub each_at : {X : Type 0} (P : X → Type 0) (xs : List X) (i : ℕ) (x : X) (rest : List X) → drop i xs ≡ x ∷ rest → AllByRecursion P xs → P x
+each_at P [] zero x rest at each = absurd cc
+each_at P (y ∷ xs) zero x rest at each = let same : y ≡ x = cc in subst P same each.0
+each_at P [] (suc i) x rest at each = absurd cc
+each_at P (y ∷ xs) (suc i) x rest at each = each_at P xs i x rest at each.1
+
+pub each_removed : {X : Type 0} (P : X → Type 0) (xs : List X) (i : ℕ) → AllByRecursion P xs → AllByRecursion P (remove xs i)
+each_removed P [] zero each = each
+each_removed P (y ∷ xs) zero each = each.1
+each_removed P [] (suc i) each = each
+each_removed P (y ∷ xs) (suc i) each = (each.0, each_removed P xs i each.1)

@@ -7,3 +7,4 @@ pub mod Written
 pub mod Later
 pub mod RoomLeft
 pub mod Laying
+pub mod Covered

@@ -8,9 +8,9 @@ ghost use Rattle.deeds.specs.Deeds.{DoesAll, in_order};
 ghost use Rattle.deeds.specs.Grammar.{IsBatch};
 ghost use Rattle.deeds.specs.Plain.{plains};
 ghost use Rattle.deeds.specs.Repeatable.{IsRepeatable};
-ghost use Rattle.pending_files.specs.Pending.{IsPlace, HasRoom, ArePending, put_in, cut_in, file_of, sealed_length};
+ghost use Rattle.pending_files.specs.Pending.{IsPlace, HasRoom, ArePending, put_in, cut_in, file_of, without, sealed_length};
 
-use crate::places::file_in;
+use crate::places::{file_in, index_of};
 use crate::reading::read_reshaped;
 use crate::room::{MOST, add, cut_ranges, forget, new_buffers, new_lists, put_range, take_ranges};
 use deeds::{Deed, Range};
@@ -106,6 +106,18 @@ impl Pending {
         let mut ranges = take_ranges(&mut self.deeds, &mut self.lists, path);
         cut_ranges(&mut ranges, len, &mut self.buffers);
         add(&mut self.deeds, Deed::Reshape(path.copied(), len, ranges));
+    }
+
+    /// Forgets what waits for a file, and keeps the room. It takes no memory.
+    pub fn drop_file(&mut self, path: &VaultPath)
+        ensures dropped { self.new ≡ without path.now self.old }
+        ensures pending { ArePending self.new }
+    {
+        let Some(index) = index_of(&self.deeds, path) else {
+            return;
+        };
+        let deed = self.deeds.remove(index);
+        forget(deed, &mut self.lists, &mut self.buffers);
     }
 
     /// Forgets all that waits, and keeps the room. It takes no memory.

@@ -1,12 +1,12 @@
 //! Reads of a file whose ranges are still to be written.
 
-ghost use Rattle.std.specs.Prelude.{◌≡◌, ◌≤◌, ◌-◌, ℕ, List, Some, length, take, drop, min, IfOk, IsErrOf};
+ghost use Rattle.std.specs.Prelude.{◌≡◌, ◌≤◌, ◌<◌, ◌-◌, ◌+◌, ℕ, List, Some, length, take, drop, min, IfOk, IsErrOf, IsTrue};
 ghost use Rattle.outside.specs.Disk.{node_at, file, IsFile};
 ghost use Rattle.outside.specs.Calls.{HasCause, Told, IsUnfit, KeepsFrom};
 ghost use Rattle.outside.specs.Changes.{overwritten};
 ghost use Rattle.outside.specs.Images.{disk_in};
 ghost use Rattle.deeds.specs.Plain.{plain_ranges};
-ghost use Rattle.deeds.specs.Reshape.{written, CanWrite};
+ghost use Rattle.deeds.specs.Reshape.{written, CanWrite, IsUncovered};
 ghost use Rattle.deeds.specs.Deeds.{reshaped};
 ghost use Rattle.pending_files.specs.Later.{Shows};
 
@@ -14,7 +14,8 @@ use deeds::Range;
 use outside::{FolderErr, Reads};
 use vault_path::VaultPath;
 
-/// Reads a file from byte `at` on as it will be once its ranges are written and it is cut to a length.
+/// Reads a file from byte `at` on as it will be once its ranges are written and it is cut to a length. The folder is read
+/// only if the ranges leave a gap in what is shown.
 pub(crate) fn read_reshaped<R: Reads>(
     folder: &mut R,
     path: &VaultPath,
@@ -37,7 +38,9 @@ pub(crate) fn read_reshaped<R: Reads>(
 {
     let count = shown_count(len, at, out.len());
     let shown = &mut out[..count];
-    folder.read(path, at, shown)?;
+    if !covers(ranges, at, count) {
+        folder.read(path, at, shown)?;
+    }
     overlay(ranges, at, shown);
     Ok(count)
 }
@@ -52,6 +55,19 @@ fn shown_count(len: u64, at: u64, room: usize) -> usize
     } else {
         room
     }
+}
+
+// Whether ranges cover a window of this length that begins at byte `at`. Ranges that don't rise may be missed.
+fn covers(ranges: &[Range], at: u64, count: usize) -> bool
+    ensures { IsTrue result → (i : ℕ) → at ≤ i → i < at + count → IsUncovered (plain_ranges ranges.now) i → ⊥ }
+{
+    let mut end = at;
+    for Range { at: start, bytes } in ranges {
+        if *start <= end {
+            end = end.max(start.saturating_add(bytes.len() as u64));
+        }
+    }
+    end - at >= count as u64
 }
 
 // Lays ranges of a file in their order over a window of it that begins at byte `at`.

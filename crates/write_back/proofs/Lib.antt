@@ -6,3 +6,5 @@ pub mod Chunkwise
 pub mod Showing
 pub mod WaitingLogs
 pub mod Flushing
+pub mod Fitting
+pub mod KeptHeaders

@@ -14,8 +14,9 @@ use Rattle.pending_files.specs.Pending.{file_of}
 use Rattle.pending_files.specs.Later.{IsReshaped}
 use Rattle.pending_files.specs.Laid.{laid, laid_log, CanWait, outline}
 use Rattle.pending_files.proofs.Doing.{later_file, later_other}
-use Rattle.pending_files.proofs.Laying.{laid_tree, same_kinds}
+use Rattle.pending_files.proofs.Laying.{laid_tree, same_kinds, none_waits}
 use Rattle.write_back.specs.View.{WriteBackView}
+use Rattle.write_back.specs.Headers.{AreHeaders}
 use Rattle.write_back.specs.Shown.{kind_with}
 
 -- of what clauses see
@@ -26,6 +27,24 @@ at_view P d ds view is holds = subst (λ (v : WriteBackView _). P v.folder v.wai
 pub if_ok : {A E : Type 0} (P Q : A → Type 0) (r : Result A E) → ((a : A) → P a → Q a) → IfOk r P → IfOk r Q
 if_ok P Q (Ok a) more is = more a is
 if_ok P Q (Err e) more is = is
+
+-- what holds of what waits, and of the headers that are kept
+pub can_of : (log : Option Log) (ds : List PlainDeed) (headers : List (Path × List ℕ)) → Told log (λ l. CanWait ds (now l) × AreHeaders headers (now l)) → Told log (λ l. CanWait ds (now l))
+can_of None ds headers both = tt
+can_of (Some l) ds headers both = both.0
+
+pub headers_of : (log : Option Log) (ds : List PlainDeed) (headers : List (Path × List ℕ)) → Told log (λ l. CanWait ds (now l) × AreHeaders headers (now l)) → Told log (λ l. AreHeaders headers (now l))
+headers_of None ds headers both = tt
+headers_of (Some l) ds headers both = both.1
+
+pub both_of : (log : Option Log) (ds : List PlainDeed) (headers : List (Path × List ℕ)) → Told log (λ l. CanWait ds (now l)) → Told log (λ l. AreHeaders headers (now l)) → Told log (λ l. CanWait ds (now l) × AreHeaders headers (now l))
+both_of None ds headers can are = tt
+both_of (Some l) ds headers can are = (can, are)
+
+pub none_of : (log : Option Log) (ds : List PlainDeed) (headers : List (Path × List ℕ)) → ds ≡ [] → headers ≡ [] → Told log (λ l. CanWait ds (now l) × AreHeaders headers (now l))
+none_of None ds headers none empty = tt
+none_of (Some l) ds headers none empty =
+    (subst (λ (x : List PlainDeed). CanWait x (now l)) (sym none) (none_waits (now l)), subst (λ (h : List (Path × List ℕ)). AreHeaders h (now l)) (sym empty) tt)
 
 -- ---- kinds
 

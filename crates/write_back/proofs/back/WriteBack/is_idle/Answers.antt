@@ -3,7 +3,7 @@ use Rattle.outside.specs.Calls.{Told}
 use Rattle.outside.specs.Images.{now}
 use Rattle.pending_files.specs.Laid.{CanWait}
 use Rattle.write_back.specs.View.{WriteBackView}
-use Rattle.write_back.proofs.Showing.{at_view}
+use Rattle.write_back.proofs.Showing.{can_of, at_view}
 use Rattle.write_back.proofs.Flushing.{are_none, are_empty}
 use Rattle.write_back.proofs.back.WriteBack.is_idle.Goals as goal
 
@@ -15,4 +15,4 @@ returns-clause-idle g c =
     )
 
 pub returns-clause-waits : goal.returns-clause-waits
-returns-clause-waits g c = at_view (λ f w. Told (g.D.Reads.log f) (λ l. CanWait w (now l))) _ _ _ c.self.view_is c.self.invariant
+returns-clause-waits g c = at_view (λ f w. Told (g.D.Reads.log f) (λ l. CanWait w (now l))) _ _ _ c.self.view_is (can_of (g.D.Reads.log c.self.inside.journal) c.self.inside.pending c.self.inside.headers c.self.invariant)
