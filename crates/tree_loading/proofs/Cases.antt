@@ -5,7 +5,7 @@ use Rattle.std.specs.Option.{option_map}
 use Rattle.std.specs.FinMap.{get}
 use Rattle.std.proofs.lemmas.List.{take_all, length-take}
 use Rattle.std.proofs.lemmas.Slice.Eq.{bytes_eq-Decides}
-use Rattle.outside.specs.Disk.{Disk, Node as Thing, folder as Folder, file as Bytes, IsFile, IsTree}
+use Rattle.outside.specs.Disk.{Disk, Node as Thing, folder as Folder, file as Bytes, IsFile, IsFolder, IsTree}
 use Rattle.clear_tree.specs.Walk.{Sealing, Kind, Plain, Bare, is_name}
 use Rattle.clear_tree.specs.Places.{text_dirid, text_name, text_dir, text_symlink, text_contents, host_folder, host_entry, host_inner, bytes_of, folder_kind, known, kind_where, long_kind as held_kind, either_kind, short_at as short_kind_at, folder_at, long_at, entry_at, seen_at, entry_where, entry_of}
 use Rattle.clear_tree.specs.Marks.{IsNodeEntry, IsForeign, HasFurther, known_at}
@@ -19,7 +19,7 @@ use Rattle.tree_loading.specs.Ciphers.{AreCiphers, is_long_entry}
 use Rattle.tree_loading.specs.Scanned.{shown_of, found_of}
 use Rattle.tree_loading.specs.Reading.{file_at, name_limit, name_in, short_at, known_file, HoldsFurther}
 use Rattle.tree_loading.specs.Showing.{IsPlace}
-use Rattle.tree_loading.specs.Entries.{IsThere, IsOpened, IsLongName, IsNoLongName, IsNodeOf}
+use Rattle.tree_loading.specs.Entries.{IsThere, IsOpened, IsLongName, IsNoLongName, IsNodeOf, HasNoNode}
 
 -- ---- options and tests
 
@@ -324,6 +324,12 @@ module _ (s : Sealing) (laws : AreCiphers s) (d : Disk) (i : List ℕ) where
     pub long_unnamed : IsNoLongName s d i u → IsForeign s d i u
     long_unnamed none = long_foreign (λ is. none is.name is.text is.is)
 
+    -- a name is held within a folder
+    pub long_no_folder : ¬ IsFolder d (host_entry h u) → IsForeign s d i u
+    long_no_folder none = long_unnamed (λ n t is.
+        let held : IsSome (get d (host_inner h u text_name)) = bytes_some (get d (host_inner h u text_name)) t is.holds.held in
+        none (there.tree.parents (host_inner h u text_name) held))
+
     pub long_twin : (n t : List ℕ) → IsLongName s d i u n t → entry_at s d h t ≢ None → IsForeign s d i u
     long_twin n t name twin = long_foreign (λ is.
         let same : is.text ≡ t = (let both : Some is.text ≡ Some t = sym is.is.holds.held ∙ name.holds.held in cc) in
@@ -398,6 +404,14 @@ module _ (s : Sealing) (laws : AreCiphers s) (d : Disk) (i : List ℕ) where
     short_bare part bare = short_foreign (λ is.
         let at : entry_at s d h u ≡ get d (host_entry h u) = ap (λ (b : Bool). cond b (get d (host_entry h u)) None) part in
         is.known (bare is.kind (ap (λ (e : Option Thing). either_kind e (short_kind_at d h u) None) (sym at) ∙ is.shown)))
+
+  -- an entry at the short place of a name that is no node's takes it from the long place
+  pub taken_none : (u n : List ℕ) → IsOpened s i u n → s.is_part u ≡ true → IsThere s d i u → IsForeign s d i u → HasNoNode s d i n
+  taken_none u n opened part there foreign kind shown known =
+      let at : entry_at s d h u ≡ get d (host_entry h u) = ap (λ (b : Bool). cond b (get d (host_entry h u)) None) part in
+      let some : entry_at s d h u ≢ None = λ none. there.there (sym at ∙ none) in
+      let here : entry_of s d h u ≡ u = entry_some (entry_at s d h u) u (s.long_of u) some in
+      foreign.no_node (record { name = n; kind = kind; shown = shown; known = known; place = sym here ∙ ap (entry_of s d h) opened.sealed })
 
   record ShortFacts (u n : List ℕ) (place : Showing) (twin : Bool) (node : FoundNode) : Type 0 where
     pub there : IsThere s d i u

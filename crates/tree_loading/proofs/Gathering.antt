@@ -1,5 +1,5 @@
 -- What one more entry adds to the nodes and the mark of those before it.
-use Rattle.std.proofs.Common.{◌≡◌, ◌≢◌, ◌↔◌, ℕ, Bool, true, false, cond, List, [], ◌∷◌, ◌++◌, Option, Some, IsSome, IsTrue, Contains, inl, inr, refl, sym, ap, subst, ◌∙◌, append_assoc}
+use Rattle.std.proofs.Common.{◌≡◌, ◌≢◌, ◌↔◌, ℕ, Bool, true, false, cond, List, [], ◌∷◌, ◌++◌, Option, Some, None, IsSome, IsTrue, Contains, inl, inr, refl, sym, ap, subst, ◌∙◌, append_assoc}
 use Rattle.std.specs.Ordering.{nat_cmp}
 use Rattle.std.specs.Cmp.{eq_by_cmp_equiv}
 use Rattle.std.specs.Cmp.Lexicographic.{slice_cmp, nat_list_cmp_total}
@@ -19,10 +19,10 @@ use Rattle.clear_tree.specs.Marks.{IsNodeEntry, IsForeign}
 use Rattle.clear_tree.specs.Scan.{IsFound, ShowsAs}
 use Rattle.tree_loading.specs.declared.found.FoundNode.{FoundNode}
 use Rattle.tree_loading.specs.declared.entry.Entry.{Entry}
-use Rattle.tree_loading.specs.declared.entry.Entry.TheVariants.{Node, Foreign, Copy}
+use Rattle.tree_loading.specs.declared.entry.Entry.TheVariants.{Node, Taken, Foreign, Copy}
 use Rattle.tree_loading.specs.Ciphers.{AreCiphers}
 use Rattle.tree_loading.specs.Scanned.{shown_of, found_of}
-use Rattle.tree_loading.specs.Entries.{IsNodeOf, IsEntry, IsReadable, AreThere, node_named, IsGathered}
+use Rattle.tree_loading.specs.Entries.{IsNodeOf, IsEntry, IsReadable, AreThere, HasNoNode, node_named, IsGathered}
 use Rattle.tree_loading.proofs.Cases.{one_name}
 
 abbrev Nodes : Type 0
@@ -150,7 +150,64 @@ module _ (begun now : Option Log) (stayed : now ≡ begun) (s : Sealing) (laws :
   told_foreign is = told_more nodes true (λ d entry_is gathered.
       gathered_foreign s laws d i before u nodes b (subst (λ (x : Entry). IsEntry s d i u x) is entry_is) gathered)
 
+  pub told_taken : (name : List ℕ) → e ≡ Taken name → Told (disk_in begun) (λ d. AreThere s d i entries → IsGathered s d i (before ++ u ∷ []) nodes true)
+  told_taken name is = told_more nodes true (λ d entry_is gathered.
+      let found = subst (λ (x : Entry). IsEntry s d i u x) is entry_is in
+      gathered_foreign s laws d i before u nodes b found.0 gathered)
+
+  -- and one name more that is taken
+  pub told_names : (names more : List (List ℕ)) (name : List ℕ) → e ≡ Taken name → more ≡ names ++ name ∷ []
+      → Told (disk_in begun) (λ d. AreThere s d i entries → (n : List ℕ) → Contains names n → HasNoNode s d i n)
+      → Told (disk_in begun) (λ d. AreThere s d i entries → (n : List ℕ) → Contains more n → HasNoNode s d i n)
+  told_names names more name is pushed were =
+      told_both (disk_in begun) (λ d. AreThere s d i entries → (n : List ℕ) → Contains names n → HasNoNode s d i n)
+      (λ d. IsReadable s d i u e)
+      (λ d. AreThere s d i entries → (n : List ℕ) → Contains more n → HasNoNode s d i n) were
+      (subst (λ (l : Option Log). Told (disk_in l) (λ d. IsReadable s d i u e)) stayed told)
+      (λ d none readable there n among.
+      let inside : Contains entries u =
+      subst (λ (ns : List (List ℕ)). Contains ns u) (one_more before u old after entries first split)
+      (Contains-append_left (before ++ u ∷ []) after u (Contains-push before u)) in
+      let found = subst (λ (x : Entry). IsEntry s d i u x) is (readable (there u inside)) in
+      elim (Contains-push_cases names name n (subst (λ (ns : List (List ℕ)). Contains ns n) pushed among)) [
+        | inl was ↦ none there n was
+        | inr same ↦ subst (λ (x : List ℕ). HasNoNode s d i x) same found.1
+      ])
+
   pub told_copy : e ≡ Copy → Told (disk_in begun) (λ d. AreThere s d i entries → IsGathered s d i (before ++ u ∷ []) nodes b)
   told_copy is = told_more nodes b (λ d entry_is gathered.
       let found = subst (λ (x : Entry). IsEntry s d i u x) is entry_is in
       gathered_copy s laws d i before u nodes b found.0 found.1 gathered)
+
+-- ---- nodes that are left out
+
+cond_some : (b : Bool) (x : Option FoundNode) (node : FoundNode) → cond b None x ≡ Some node → x ≡ Some node
+cond_some true x node h = absurd cc
+cond_some false x node h = h
+
+module _ (old new : Nodes) (name : List ℕ) (out : (q : List ℕ) → node_named new q ≡ cond (is_at (slice_cmp nat_cmp name) q) None (node_named old q)) where
+  pub out_fewer : (q : List ℕ) (node : FoundNode) → node_named new q ≡ Some node → node_named old q ≡ Some node
+  out_fewer q node is = cond_some (is_at (slice_cmp nat_cmp name) q) (node_named old q) node (sym (out q) ∙ is)
+
+  pub out_others : (q : List ℕ) → name ≢ q → node_named new q ≡ node_named old q
+  out_others q other = elim (cases_Bool (is_at (slice_cmp nat_cmp name) q)) [
+    | inl here ↦ absurd (other (tells_apart exact_bytes name q here))
+    | inr away ↦ out q ∙ ap (λ (t : Bool). cond t None (node_named old q)) away
+  ]
+
+-- the nodes without those of names that no node has are the same
+pub told_left : (contents : Option Disk) (s : Sealing) (i : List ℕ) (entries all taken : List (List ℕ)) (nodes less : Nodes) (b : Bool) → all ≡ entries
+    → ((q : List ℕ) (node : FoundNode) → node_named less q ≡ Some node → node_named nodes q ≡ Some node)
+    → ((q : List ℕ) → ¬ Contains taken q → node_named less q ≡ node_named nodes q)
+    → Told contents (λ d. AreThere s d i entries → IsGathered s d i all nodes b)
+    → Told contents (λ d. AreThere s d i entries → (n : List ℕ) → Contains taken n → HasNoNode s d i n)
+    → Told contents (λ d. AreThere s d i entries → IsGathered s d i entries less b)
+told_left contents s i entries all taken nodes less b whole fewer others gathered none =
+    told_both contents (λ d. AreThere s d i entries → IsGathered s d i all nodes b)
+    (λ d. AreThere s d i entries → (n : List ℕ) → Contains taken n → HasNoNode s d i n)
+    (λ d. AreThere s d i entries → IsGathered s d i entries less b) gathered none
+    (λ d g no there. subst (λ (es : List (List ℕ)). IsGathered s d i es less b) whole (record {
+      sound = λ name node is. (g there).sound name node (fewer name node is);
+      complete = λ name kind shown known among. subst IsSome (sym (others name (λ inside. no there name inside kind shown known))) ((g there).complete name kind shown known among);
+      marked = (g there).marked;
+    }))

@@ -1,19 +1,19 @@
 -- What the functions over a folder learn: a host file at a short place, and the name that a `name.c9s` holds.
-use Rattle.std.proofs.Common.{◌≡◌, ◌≢◌, ℕ, ◌-◌, ◌≤◌, true, false, List, [], ◌∷◌, ◌++◌, length, take, Option, Some, None, IsSome, refl, sym, ap, subst, ◌∙◌, arith, length-append}
+use Rattle.std.proofs.Common.{◌≡◌, ◌≢◌, ◌↔◌, ℕ, ◌-◌, ◌≤◌, Bool, true, false, IsTrue, List, [], ◌∷◌, ◌++◌, length, take, Option, Some, None, IsSome, Contains, refl, sym, ap, subst, ◌∙◌, arith, length-append}
 use Rattle.std.specs.Option.{option_map}
 use Rattle.std.specs.FinMap.{get}
 use Rattle.std.proofs.lemmas.List.{take_all, take_at, length-take}
 use Rattle.outside.specs.declared.folder.Kind.TheVariants.{File as FileKind}
-use Rattle.outside.specs.Disk.{Disk, Path, Node as Thing, folder as Folder, file as Bytes, kind_of, kind_at, parent, IsFile, IsTree}
+use Rattle.outside.specs.Disk.{Disk, Path, Node as Thing, folder as Folder, file as Bytes, kind_of, kind_at, parent, IsFile, IsFolder, IsListing, IsTree}
 use Rattle.vault_keys.specs.Keys.{KeyPair}
 use Rattle.vault_names.specs.Sealed.{opened_name, IsSealedName}
 use Rattle.vault_names.specs.Places.{ReadsLong}
 use Rattle.vault_names.specs.Folder.{base32, hash_of}
 use Rattle.clear_tree.specs.Walk.{Plain}
-use Rattle.clear_tree.specs.Places.{either_kind, host_entry, host_inner, text_name}
+use Rattle.clear_tree.specs.Places.{bytes_of, either_kind, host_entry, host_inner, text_name}
 use Rattle.tree_loading.specs.declared.found.Shown.TheVariants.{File}
 use Rattle.tree_loading.specs.Format.{sealing_of}
-use Rattle.tree_loading.specs.Reading.{file_at, name_in, name_limit, short_at, short_kind}
+use Rattle.tree_loading.specs.Reading.{file_at, name_in, name_limit, short_at, short_kind, is_further, HoldsFurther}
 use Rattle.tree_loading.specs.Showing.{IsPlace}
 use Rattle.tree_loading.specs.Entries.{IsLongName, IsNoLongName}
 
@@ -54,7 +54,29 @@ file_place d node size tree kind =
       },
     )
 
+-- ---- the names in a node folder
+
+not_none : (o : Option Thing) → IsSome o → o ≢ None
+not_none o some none = let bad : IsSome {T = Thing} None = subst IsSome none some in cc
+
+-- its further entries, by its names
+pub further_listed : (d : Disk) (node : Path) (names : List (List ℕ)) (known : List ℕ) (long further : Bool) → IsListing d node names
+    → IsTrue further ↔ ((name : List ℕ) × Contains names name × IsTrue (is_further known long name)) → IsTrue further ↔ HoldsFurther d node known long
+further_listed d node names known long further listing is = (
+  λ yes. let found = is.0 yes in (found.0, found.2, not_none (get d (node ++ found.0 ∷ [])) ((listing.exact found.0).0 found.1)),
+  λ has. is.1 (has.0, (listing.exact has.0).1 (some_from (get d (node ++ has.0 ∷ [])) has.2), has.1),
+)
+
 -- ---- the name that a node folder's `name.c9s` holds
+
+some_named : (o : Option Thing) (text : List ℕ) → option_map (take name_limit) (bytes_of o) ≡ Some text → IsSome o
+some_named None text h = absurd cc
+some_named (Some x) text h = refl
+
+pub no_folder_unnamed : (d : Disk) (node : Path) (text : List ℕ) → IsTree d → ¬ IsFolder d node → name_in d node ≡ Some text → ⊥
+no_folder_unnamed d node text tree none read =
+    let folder : get d (parent (node ++ text_name ∷ [])) ≡ Some Folder = tree.parents (node ++ text_name ∷ []) (some_named (get d (node ++ text_name ∷ [])) text read) in
+    none (ap (λ (p : Path). get d p) (sym (parent_is node text_name)) ∙ folder)
 
 whole : (o : Option (List ℕ)) (t : List ℕ) → length t ≤ 1392 → Some t ≡ option_map (take name_limit) o → o ≡ Some t
 whole None t short e = absurd cc

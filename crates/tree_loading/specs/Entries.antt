@@ -12,7 +12,7 @@ use Rattle.clear_tree.specs.Places.{folders_of, host_entry, host_inner, entry_of
 use Rattle.clear_tree.specs.Marks.{IsNodeEntry, IsForeign}
 use Rattle.clear_tree.specs.Scan.{Found, IsFound}
 use Rattle.tree_loading.specs.declared.entry.Entry.{Entry}
-use Rattle.tree_loading.specs.declared.entry.Entry.TheVariants.{Node, Foreign, Copy}
+use Rattle.tree_loading.specs.declared.entry.Entry.TheVariants.{Node, Taken, Foreign, Copy}
 use Rattle.tree_loading.specs.declared.found.FoundNode.{FoundNode}
 use Rattle.tree_loading.specs.Reading.{file_at}
 use Rattle.tree_loading.specs.Scanned.{found_of}
@@ -46,9 +46,14 @@ pub record IsNodeOf (s : Sealing) (d : Disk) (i u : List ℕ) (found : Found) : 
   pub is : IsFound s d i found
   pub place : found.entry ≡ u
 
+-- no node of the directory has this name
+abbrev pub HasNoNode : Sealing → Disk → List ℕ → List ℕ → Type 0
+HasNoNode s d i name = (kind : Kind) → look s (folders_of s d) i name ≡ Some kind → kind ≢ Bare → ⊥
+
 -- what an entry is
 abbrev pub IsEntry : Sealing → Disk → List ℕ → List ℕ → Entry → Type 0
 IsEntry s d i u (Node name node) = IsNodeOf s d i u (found_of (name, node))
+IsEntry s d i u (Taken name) = IsForeign s d i u × HasNoNode s d i name
 IsEntry s d i u Foreign = IsForeign s d i u
 IsEntry s d i u Copy = (IsForeign s d i u → ⊥) × (IsNodeEntry s d i u → ⊥)
 

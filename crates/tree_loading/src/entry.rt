@@ -1,6 +1,5 @@
-ghost use Rattle.std.specs.Prelude.{◌≡◌, ◌≢◌, true, false, IsTrue, IfOk, IfSome, IsErrOf, MatchOption};
+ghost use Rattle.std.specs.Prelude.{◌≡◌, ◌≢◌, true, false, IsTrue, IfOk, IsErrOf, MatchOption};
 ghost use Rattle.vault_path.specs.Parts.{is_part};
-ghost use Rattle.outside.specs.Disk.{IsFolder};
 ghost use Rattle.outside.specs.Calls.{HasCause, Told};
 ghost use Rattle.outside.specs.Images.{disk_in};
 ghost use Rattle.clear_tree.specs.Places.{host_entry, host_folder, text_dirid};
@@ -11,7 +10,7 @@ ghost use Rattle.tree_loading.specs.Entries.{IsLongName, IsNoLongName, IsReadabl
 use crate::found::FoundNode;
 use crate::laws::are_ciphers;
 use crate::place::{long_place, short_place};
-use crate::reading::{has_twin, is_there, name_in};
+use crate::reading::{has_twin, is_there, name_in, names_in};
 use crate::scan_fault::ScanErr;
 use outside::{Kind, Reads};
 use std::alloc::Global;
@@ -27,7 +26,9 @@ const LONG_SUFFIX: &str = ".c9s";
 pub(crate) enum Entry {
     /// A node of the directory.
     Node(Name, FoundNode),
-    /// An entry that isn't the vault's.
+    /// An entry that isn't the vault's at the short place of a name, which has no node then.
+    Taken(Name),
+    /// Another entry that isn't the vault's.
     Foreign,
     /// The copy of the directory's identifier.
     Copy,
@@ -110,6 +111,9 @@ fn long_entry<R: Reads>(
     ensures cause { HasCause (R.faults from.old) (R.faults from.new) (IsErrOf result ScanErr.Device) }
 {
     are_ciphers(keys);
+    let Some(names) = names_in(alloc, from, node)? else {
+        return Ok(Entry::Foreign);
+    };
     let Some((name, text)) = long_name(alloc, from, keys, identifier, entry.as_bytes(), node)?
     else {
         return Ok(Entry::Foreign);
@@ -117,7 +121,7 @@ fn long_entry<R: Reads>(
     if is_there(from, folder, text.as_bytes())? {
         return Ok(Entry::Foreign);
     }
-    let Some(place) = long_place(alloc, from, node)? else {
+    let Some(place) = long_place(alloc, from, node, &names)? else {
         return Ok(Entry::Foreign);
     };
     let found = FoundNode {
@@ -143,7 +147,6 @@ fn long_name<R: Reads>(
     ensures name { IfOk result (λ found. Told (disk_in (R.log from.old)) (λ d. MatchOption found
         (IsNoLongName (sealing_of keys.now) d identifier.now entry.now)
         (λ f. IsLongName (sealing_of keys.now) d identifier.now entry.now f.0 f.1))) }
-    ensures folder { IfOk result (λ found. IfSome found (λ _. Told (disk_in (R.log from.old)) (λ d. IsFolder d node.now))) }
     ensures log { R.log from.new ≡ R.log from.old }
     ensures changes { R.changes from.new ≡ R.changes from.old }
     ensures cause { HasCause (R.faults from.old) (R.faults from.new) (IsErrOf result ScanErr.Device) }
@@ -185,7 +188,7 @@ fn short_entry<R: Reads>(
         return Ok(Entry::Foreign);
     };
     let Some(place) = short_place(alloc, from, node)? else {
-        return Ok(Entry::Foreign);
+        return Ok(Entry::Taken(name));
     };
     let twin = has_twin(alloc, from, folder, entry.as_bytes())?;
     let shadowed = place.is_shadowed(twin);

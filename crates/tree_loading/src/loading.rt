@@ -26,7 +26,8 @@ use vault_names::folder_of;
 
 /// Loads the tree of a vault's folder: each directory by its identifier from the root on, breadth first, in O(n log n) for
 /// n nodes and entries. `threshold` is the vault's shortening threshold; it decides nothing, since a name of any length is
-/// read at its short place and at its long one. No changing call is made.
+/// read at its short place and at its long one. A directory whose folder may not be listed is a Bad node, but for the root: `Device`.
+/// No changing call is made.
 pub fn load<R: Reads>(
     alloc: Global,
     from: &mut R,
@@ -47,6 +48,8 @@ pub fn load<R: Reads>(
     if !is_there(from, &root)? {
         return Err(LoadErr::NoRoot);
     }
+    // A directory that can't be listed is a Bad node, but the root can't be one.
+    from.list(alloc, &root)?;
     let mut loading = root_alone(alloc, keys)?;
     walk(alloc, from, keys, &mut loading)?;
     let Loading { tree, claims: _ } = loading;

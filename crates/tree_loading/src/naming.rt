@@ -14,8 +14,10 @@ ghost use Rattle.tree_loading.specs.Settled.{IsSettled, Claims};
 use crate::folders::characters_of;
 use crate::found::Shown;
 use crate::load_fault::LoadErr;
+use crate::reading::names_in;
 use clear_tree::{What, host_folder};
 use outside::{Kind, Reads};
+use std::alloc::Global;
 use std::collections::BTreeSet;
 use vault_keys::VaultKeys;
 use vault_layout::IDENTIFIER_LIMIT;
@@ -30,6 +32,7 @@ pub(crate) struct Settled {
 
 /// Settles what a node is that shows this, by the folders that are named so far, and names the one that it names.
 pub(crate) fn settle<R: Reads>(
+    alloc: Global,
     from: &mut R,
     keys: &VaultKeys,
     claims: &mut BTreeSet<[u8; 32]>,
@@ -53,12 +56,14 @@ pub(crate) fn settle<R: Reads>(
             what: What::Link { size },
             again: false,
         }),
-        Shown::Directory(text) => settle_text(from, keys, claims, text),
+        Shown::Directory(text) => settle_text(alloc, from, keys, claims, text),
     }
 }
 
-// A directory, if the text is an identifier whose folder is there and isn't named already, and else a Bad node.
+// A directory, if the text is an identifier whose folder is there and isn't named already, and else a Bad node. A folder that
+// may not be listed is as none.
 fn settle_text<R: Reads>(
+    alloc: Global,
     from: &mut R,
     keys: &VaultKeys,
     claims: &mut BTreeSet<[u8; 32]>,
@@ -87,7 +92,7 @@ fn settle_text<R: Reads>(
         });
     }
     let path = host_folder(&folder);
-    if !is_there(from, &path)? {
+    if !is_listed(alloc, from, &path)? {
         return Ok(Settled {
             what: What::Bad { text },
             again: false,
@@ -98,6 +103,21 @@ fn settle_text<R: Reads>(
         what: What::Dir { identifier, folder },
         again: false,
     })
+}
+
+// Whether a host folder is at a path that may be listed.
+fn is_listed<R: Reads>(alloc: Global, from: &mut R, path: &VaultPath) -> Result<bool, LoadErr>
+    ensures listed { IfOk result (λ listed. Told (disk_in (R.log from.old)) (λ d. listed ≡ is_folder (node_at d path.now))) }
+    ensures root_is_there { IsErrOf result LoadErr.NoRoot → ⊥ }
+    ensures few { (n : ℕ) → IsErrOf result (LoadErr.TooMany n) → ⊥ }
+    ensures log { R.log from.new ≡ R.log from.old }
+    ensures changes { R.changes from.new ≡ R.changes from.old }
+    ensures cause { HasCause (R.faults from.old) (R.faults from.new) (IsErrOf result LoadErr.Device) }
+{
+    match names_in(alloc, from, path)? {
+        Some(_) => Ok(true),
+        None => Ok(false),
+    }
 }
 
 /// Whether a host folder is at a path.

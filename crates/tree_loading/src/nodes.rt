@@ -15,6 +15,7 @@ use crate::load_fault::LoadErr;
 use crate::naming::{Settled, settle};
 use clear_tree::{Node, Tree};
 use outside::Reads;
+use std::alloc::Global;
 use std::collections::BTreeSet;
 use vault_keys::VaultKeys;
 use vault_names::Name;
@@ -28,6 +29,7 @@ pub(crate) struct Loading {
 
 /// Puts a node that was found in the directory of a number after the others.
 pub(crate) fn add_node<R: Reads>(
+    alloc: Global,
     from: &mut R,
     keys: &VaultKeys,
     loading: &mut Loading,
@@ -52,7 +54,7 @@ pub(crate) fn add_node<R: Reads>(
         shown,
         shadowed,
     } = found;
-    let Settled { what, again } = settle(from, keys, &mut loading.claims, shown)?;
+    let Settled { what, again } = settle(alloc, from, keys, &mut loading.claims, shown)?;
     let node = Node::new(parent, name.into_text(), what, entry, long, shadowed);
     loading.tree.push(node)?;
     if again {
@@ -63,6 +65,7 @@ pub(crate) fn add_node<R: Reads>(
 
 /// Puts the nodes that were found in the directory of a number after the others.
 pub(crate) fn add_nodes<R: Reads>(
+    alloc: Global,
     from: &mut R,
     keys: &VaultKeys,
     loading: &mut Loading,
@@ -83,7 +86,7 @@ pub(crate) fn add_nodes<R: Reads>(
     ensures cause { HasCause (R.faults from.old) (R.faults from.new) (IsErrOf result LoadErr.Device) }
 {
     for (name, found) in nodes {
-        add_node(from, keys, loading, parent, name, found)?;
+        add_node(alloc, from, keys, loading, parent, name, found)?;
     }
     Ok(())
 }

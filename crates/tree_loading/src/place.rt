@@ -1,17 +1,17 @@
-ghost use Rattle.std.specs.Prelude.{◌≡◌, ◌↔◌, ◌||◌, true, false, Some, IsTrue, IfOk, IsErrOf};
-ghost use Rattle.outside.specs.Disk.{IsFolder, IsTree};
+ghost use Rattle.std.specs.Prelude.{◌≡◌, ◌↔◌, ◌||◌, ℕ, List, true, false, Some, IsTrue, IfOk, IsErrOf, Contains};
+ghost use Rattle.outside.specs.Disk.{IsFolder, IsListing, IsTree};
 ghost use Rattle.outside.specs.Calls.{HasCause, Told};
 ghost use Rattle.outside.specs.Images.{disk_in};
-ghost use Rattle.tree_loading.specs.Reading.{CanHoldParts, HoldsFurther, Shows, is_further, known_file, long_kind, short_at, short_kind};
+ghost use Rattle.tree_loading.specs.Reading.{CanHoldParts, Shows, is_further, known_file, long_kind, short_at, short_kind};
 ghost use Rattle.tree_loading.specs.Showing.{IsPlace};
 
 use crate::found::Shown;
-use crate::reading::{inner, size_at, text_at};
+use crate::reading::{inner, listing, size_at, text_at};
 use crate::scan_fault::ScanErr;
 use outside::{Kind, Reads};
 use std::alloc::Global;
 use vault_layout::{CONTENTS_FILE, DIRECTORY_FILE, IDENTIFIER_LIMIT, LINK_FILE, NAME_FILE};
-use vault_path::VaultPath;
+use vault_path::{Text, VaultPath};
 
 // No more of a `dir.c9r` is kept than shows whether it is an identifier.
 const TEXT_LIMIT: usize = IDENTIFIER_LIMIT + 1;
@@ -55,7 +55,7 @@ pub(crate) fn short_place<R: Reads>(
     }
 }
 
-// What a node folder shows at a short place.
+// What a node folder shows at a short place, if it may be listed.
 fn short_folder<R: Reads>(
     alloc: Global,
     from: &mut R,
@@ -68,21 +68,25 @@ fn short_folder<R: Reads>(
     ensures changes { R.changes from.new ≡ R.changes from.old }
     ensures cause { HasCause (R.faults from.old) (R.faults from.new) (IsErrOf result ScanErr.Device) }
 {
+    let Some(names) = listing(alloc, from, node)? else {
+        return Ok(None);
+    };
     let Some(shown) = short_shown(alloc, from, node)? else {
         return Ok(None);
     };
-    let further = has_further(alloc, from, node, &shown, false)?;
+    let further = has_further(&names, &shown, false);
     Ok(Some(Showing { shown, further }))
 }
 
-/// What a node folder shows at a long place, if it has a known file there.
+/// What a node folder of these names shows at a long place, if it has a known file there.
 pub(crate) fn long_place<R: Reads>(
     alloc: Global,
     from: &mut R,
     node: &VaultPath,
+    names: &[Text],
 ) -> Result<Option<Showing>, ScanErr>
     requires parts { CanHoldParts node.now }
-    requires folder { Told (disk_in (R.log from.old)) (λ d. IsFolder d node.now) }
+    requires listed { Told (disk_in (R.log from.old)) (λ d. IsListing d node.now names.now) }
     ensures place { IfOk result (λ place. Told (disk_in (R.log from.old)) (λ d. IsPlace d node.now true (Some (long_kind d node.now)) place)) }
     ensures log { R.log from.new ≡ R.log from.old }
     ensures changes { R.changes from.new ≡ R.changes from.old }
@@ -91,7 +95,7 @@ pub(crate) fn long_place<R: Reads>(
     let Some(shown) = long_shown(alloc, from, node)? else {
         return Ok(None);
     };
-    let further = has_further(alloc, from, node, &shown, true)?;
+    let further = has_further(names, &shown, true);
     Ok(Some(Showing { shown, further }))
 }
 
@@ -138,28 +142,14 @@ fn long_shown<R: Reads>(
     }
 }
 
-// Whether a node folder has entries beside the known file of what it shows, and `name.c9s` of a long one.
-fn has_further<R: Reads>(
-    alloc: Global,
-    from: &mut R,
-    node: &VaultPath,
-    shown: &Shown,
-    long: bool,
-) -> Result<bool, ScanErr>
-    requires { Told (disk_in (R.log from.old)) (λ d. IsFolder d node.now) }
-    ensures further { IfOk result (λ further. Told (disk_in (R.log from.old))
-        (λ d. IsTrue further ↔ HoldsFurther d node.now (known_file shown.now) long)) }
-    ensures log { R.log from.new ≡ R.log from.old }
-    ensures changes { R.changes from.new ≡ R.changes from.old }
-    ensures cause { HasCause (R.faults from.old) (R.faults from.new) (IsErrOf result ScanErr.Device) }
+// Whether a node folder of these names has entries beside the known file of what it shows, and `name.c9s` of a long one.
+fn has_further(names: &[Text], shown: &Shown, long: bool) -> bool
+    ensures { IsTrue result ↔ ((name : List ℕ) × Contains names.now name × IsTrue (is_further (known_file shown.now) long name)) }
 {
     let known = known_file(shown);
-    let entries = from.list(alloc, node)?;
-    Ok(
-        entries
-            .iter()
-            .any(|entry| is_further(known, long, entry.as_bytes())),
-    )
+    names
+        .iter()
+        .any(|name| is_further(known, long, name.as_bytes()))
 }
 
 // The known file of a node folder, by what it shows.

@@ -1,14 +1,14 @@
-ghost use Rattle.std.specs.Prelude.{◌≡◌, ◌≢◌, ◌↔◌, [], ◌∷◌, ◌++◌, take, length, None, Some, IsTrue, IfOk, IsErrOf};
+ghost use Rattle.std.specs.Prelude.{◌≡◌, ◌≢◌, ◌↔◌, [], ◌∷◌, ◌++◌, take, length, None, Some, IsTrue, IfOk, IsErrOf, MatchOption};
 ghost use Rattle.std.specs.Option.{option_map};
 ghost use Rattle.vault_path.specs.Parts.{is_path};
-ghost use Rattle.outside.specs.Disk.{IsTree};
+ghost use Rattle.outside.specs.Disk.{IsFolder, IsListing, IsTree};
 ghost use Rattle.outside.specs.Calls.{HasCause, Told};
 ghost use Rattle.outside.specs.Images.{disk_in};
 ghost use Rattle.vault_names.specs.Places.{long_folder};
 ghost use Rattle.tree_loading.specs.Reading.{CanHoldNodes, CanHoldParts, entry_in, file_at, name_in};
 
 use crate::scan_fault::ScanErr;
-use outside::{Kind, Reads};
+use outside::{FolderErr, Kind, Reads};
 use std::alloc::Global;
 use vault_layout::NAME_FILE;
 use vault_names::{LONGEST_TEXT, long_folder};
@@ -26,6 +26,43 @@ pub(crate) fn inner(folder: &VaultPath, entry: &[u8]) -> VaultPath
         unreachable!();
     };
     path
+}
+
+/// The names in the host folder at a path, if there is one. A folder that may not be listed is as none.
+pub(crate) fn names_in<R: Reads>(
+    alloc: Global,
+    from: &mut R,
+    path: &VaultPath,
+) -> Result<Option<Vec<Text>>, ScanErr>
+    ensures names { IfOk result (λ names. Told (disk_in (R.log from.old)) (λ d. MatchOption names (¬ IsFolder d path.now) (λ listed. IsFolder d path.now × IsListing d path.now listed.items))) }
+    ensures tree { IfOk result (λ _. Told (disk_in (R.log from.old)) IsTree) }
+    ensures log { R.log from.new ≡ R.log from.old }
+    ensures changes { R.changes from.new ≡ R.changes from.old }
+    ensures cause { HasCause (R.faults from.old) (R.faults from.new) (IsErrOf result ScanErr.Device) }
+{
+    match from.kind(path)? {
+        Some(Kind::Dir) => listing(alloc, from, path),
+        Some(Kind::File(_)) | None => Ok(None),
+    }
+}
+
+/// The names in what is a folder, if it may be listed.
+pub(crate) fn listing<R: Reads>(
+    alloc: Global,
+    from: &mut R,
+    folder: &VaultPath,
+) -> Result<Option<Vec<Text>>, ScanErr>
+    ensures names { IfOk result (λ names. Told (disk_in (R.log from.old)) (λ d. MatchOption names (¬ IsFolder d folder.now) (λ listed. IsFolder d folder.now × IsListing d folder.now listed.items))) }
+    ensures log { R.log from.new ≡ R.log from.old }
+    ensures changes { R.changes from.new ≡ R.changes from.old }
+    ensures cause { HasCause (R.faults from.old) (R.faults from.new) (IsErrOf result ScanErr.Device) }
+{
+    match from.list(alloc, folder) {
+        Ok(names) => Ok(Some(names)),
+        Err(FolderErr::Unfit) => Ok(None),
+        Err(FolderErr::Failed) => Err(ScanErr::Device),
+        Err(FolderErr::Memory) => Err(ScanErr::Memory),
+    }
 }
 
 /// Whether anything is at an entry of a folder. Nothing is if no path can name it.
@@ -115,6 +152,9 @@ pub(crate) fn has_twin<R: Reads>(
     ensures cause { HasCause (R.faults from.old) (R.faults from.new) (IsErrOf result ScanErr.Device) }
 {
     let node = inner(folder, &long_folder(text));
+    let Some(_) = names_in(alloc, from, &node)? else {
+        return Ok(false);
+    };
     match name_in(alloc, from, &node)? {
         Some(held) => Ok(held.as_bytes() == text),
         None => Ok(false),

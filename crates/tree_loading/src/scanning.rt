@@ -1,4 +1,4 @@
-ghost use Rattle.std.specs.Prelude.{◌≡◌, IfOk, IsErrOf};
+ghost use Rattle.std.specs.Prelude.{◌≡◌, ℕ, List, Some, Contains, IfOk, IsErrOf};
 ghost use Rattle.std.specs.Ordering.{nat_cmp};
 ghost use Rattle.std.specs.Cmp.Lexicographic.{slice_cmp};
 ghost use Rattle.std.specs.List.Sorted.{IsStrictlySortedBy};
@@ -9,14 +9,16 @@ ghost use Rattle.outside.specs.Images.{disk_in};
 ghost use Rattle.clear_tree.specs.Places.{host_folder};
 ghost use Rattle.clear_tree.specs.Scan.{IsScanned, names_of};
 ghost use Rattle.tree_loading.specs.Format.{sealing_of};
-ghost use Rattle.tree_loading.specs.Entries.{AreThere, IsGathered};
+ghost use Rattle.tree_loading.specs.declared.found.FoundNode.{FoundNode};
+ghost use Rattle.tree_loading.specs.Entries.{AreThere, IsGathered, node_named};
 
 use crate::entry::{Entry, entry_of};
 use crate::found::FoundNode;
 use crate::laws::are_ciphers;
+use crate::reading::names_in;
 use crate::scan_fault::ScanErr;
 use crate::scanned::Scanned;
-use outside::{Kind, Reads};
+use outside::Reads;
 use std::alloc::{AllocError, Global};
 use std::collections::BTreeMap;
 use vault_keys::VaultKeys;
@@ -24,7 +26,7 @@ use vault_names::Name;
 use vault_path::{Text, VaultPath};
 
 /// Reads the folder of the directory with this identifier: which nodes it shows, in the order of their names' bytes, and
-/// whether it has foreign entries, in O(n log n) for n entries. Of a `name.c9s` at most 1,393 bytes are read, of a
+/// whether it has foreign entries, in O(n log n) for n entries. A folder that may not be listed shows nothing. Of a `name.c9s` at most 1,393 bytes are read, of a
 /// `dir.c9r` at most 1,001. No changing call is made.
 pub fn scan<R: Reads>(
     alloc: Global,
@@ -42,10 +44,9 @@ pub fn scan<R: Reads>(
     ensures cause { HasCause (R.faults from.old) (R.faults from.new) (IsErrOf result ScanErr.Device) }
 {
     are_ciphers(keys);
-    if from.kind(folder)? != Some(Kind::Dir) {
+    let Some(entries) = names_in(alloc, from, folder)? else {
         return Ok(Scanned::new(Vec::new(alloc), false));
-    }
-    let entries = from.list(alloc, folder)?;
+    };
     let gathered = gather(alloc, from, keys, identifier, folder, entries)?;
     let nodes = in_order(alloc, gathered.nodes)?;
     let scanned = Scanned::new(nodes, gathered.foreign);
@@ -77,17 +78,34 @@ fn gather<R: Reads>(
 {
     are_ciphers(keys);
     let mut nodes = BTreeMap::new(alloc);
+    let mut taken = Vec::new(alloc);
     let mut foreign = false;
     for entry in entries {
         match entry_of(alloc, from, keys, identifier, folder, entry)? {
             Entry::Node(name, node) => {
                 nodes.insert(name, node)?;
             }
+            Entry::Taken(name) => {
+                taken.push(name)?;
+                foreign = true;
+            }
             Entry::Foreign => foreign = true,
             Entry::Copy => {}
         }
     }
+    // At a short place that a link of the host has, `kind` has found nothing.
+    leave_out(&mut nodes, taken);
     Ok(Gathered { nodes, foreign })
+}
+
+// Leaves out the nodes of these names.
+fn leave_out(nodes: &mut BTreeMap<Name, FoundNode>, names: Vec<Name>)
+    ensures fewer { (name : List ℕ) (node : FoundNode) → node_named nodes.new.entries name ≡ Some node → node_named nodes.old.entries name ≡ Some node }
+    ensures others { (name : List ℕ) → ¬ Contains names.items name → node_named nodes.new.entries name ≡ node_named nodes.old.entries name }
+{
+    for name in names {
+        nodes.remove(&name);
+    }
 }
 
 // The nodes in the order of their names' bytes.

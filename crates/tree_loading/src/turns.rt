@@ -48,7 +48,7 @@ pub(crate) fn turn<R: Reads>(
     if nodes.len() > NODE_LIMIT - loading.tree.len() {
         return Err(LoadErr::TooMany(NODE_LIMIT as u64 + 1));
     }
-    add_nodes(from, keys, loading, number, nodes)?;
+    add_nodes(alloc, from, keys, loading, number, nodes)?;
     loading.tree.mark_foreign(number, foreign);
     Ok(())
 }

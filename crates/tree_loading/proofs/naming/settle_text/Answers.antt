@@ -30,7 +30,7 @@ returns-then-not-branch-2-clause-settled g c =
     let valid : is_identifier c.args.text ≡ true = ap is_identifier (sym c.as_bytes.ensures) ∙ sym c.if-not-is_identifier.ensures in
     let has : HasFolder c.args.keys.now c.args.text c.characters_of-folder.result = subst (λ (z : List ℕ). HasFolder c.args.keys.now z c.characters_of-folder.result) c.as_bytes-2.ensures c.characters_of-folder.ensures in
     told_absent (disk_in (g.R.Reads.log c.args.from.now)) c.args.keys.now c.args.text c.characters_of-folder.result c.host_folder-path.result c.args.claims.now _ valid has
-    (was_free _ c.in_ok-insert.field-0 c.in_ok-insert.ensures.added c.if-not-branch.false) c.host_folder-path.ensures c.in_ok-is_there.ensures.there c.if-not-branch-2.true
+    (was_free _ c.in_ok-insert.field-0 c.in_ok-insert.ensures.added c.if-not-branch.false) c.host_folder-path.ensures c.in_ok-is_listed.ensures.listed c.if-not-branch-2.true
 
 pub returns-clause-claims : goal.returns-clause-claims
 returns-clause-claims g c =
@@ -43,4 +43,4 @@ returns-clause-settled g c =
     let valid : is_identifier c.args.text ≡ true = ap is_identifier (sym c.as_bytes.ensures) ∙ sym c.if-not-is_identifier.ensures in
     let has : HasFolder c.args.keys.now c.args.text c.characters_of-folder.result = subst (λ (z : List ℕ). HasFolder c.args.keys.now z c.characters_of-folder.result) c.as_bytes-2.ensures c.characters_of-folder.ensures in
     told_present (disk_in (g.R.Reads.log c.args.from.now)) c.args.keys.now c.args.text c.characters_of-folder.result c.host_folder-path.result c.args.claims.now _ valid has
-    (was_free _ c.in_ok-insert.field-0 c.in_ok-insert.ensures.added c.if-not-branch.false) c.host_folder-path.ensures c.in_ok-is_there.ensures.there c.if-not-branch-2.false
+    (was_free _ c.in_ok-insert.field-0 c.in_ok-insert.ensures.added c.if-not-branch.false) c.host_folder-path.ensures c.in_ok-is_listed.ensures.listed c.if-not-branch-2.false
