@@ -24,7 +24,7 @@ moved_gone q to old new free (inl (done, is)) = ap (λ (d : Disk). node_at d q) 
 moved_gone q to old new free (inr (can, is)) =
     ap (λ (d : Disk). node_at d q) is
     ∙ by_path q to
-    (λ e. let w : ◌≡◌ {A = Option Thing} None (Some (Bytes can.there.0)) = sym free ∙ ap (node_at old) (sym e) ∙ can.there.1 in absurd cc)
+    (λ e. let w : ◌≡◌ {A = Option Thing} None (Some (Bytes can.0.there.0)) = sym free ∙ ap (node_at old) (sym e) ∙ can.0.there.1 in absurd cc)
     (λ ne. set_there (set_at old q None) to (node_at old q) q ne ∙ set_here old q None q refl)
 
 -- what is gone isn't made by a removal

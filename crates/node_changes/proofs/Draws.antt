@@ -10,6 +10,8 @@ use Rattle.outside.proofs.Told.{told_then, told_both, told_always, unchanged, ch
 use Rattle.deeds.specs.Deeds.{PlainDeed, DoesAll, in_order}
 use Rattle.deeds.proofs.Doing.{told_disk}
 use Rattle.chunk_journal.specs.Journal.{AnyMoment, HasCommitted}
+use Rattle.batch_looks.specs.declared.misfit.Misfit.{Misfit}
+use Rattle.batch_looks.specs.declared.misfit.Misfit.TheVariants as misfits
 use Rattle.vault_keys.specs.Keys.{KeyPair}
 use Rattle.tree_model.specs.declared.refusal.Refusal.{Refusal}
 use Rattle.tree_model.specs.declared.refusal.Refusal.TheVariants as refusals
@@ -27,7 +29,7 @@ use Rattle.name_places.specs.Laws.{EntriesAreParts}
 use Rattle.name_places.specs.Asked.{IsTaken}
 use Rattle.name_places.specs.Asked.{identifier_in as drawn_in}
 use Rattle.node_changes.specs.declared.site.Site.{Site}
-use Rattle.node_changes.specs.Causes.{RefusalCause}
+use Rattle.node_changes.specs.Causes.{RefusalCause, misfit_refusal}
 use Rattle.node_changes.specs.Changed.{IsAtRest, IsStepAnswer, MakesStep, MayRefuse}
 use Rattle.node_changes.specs.Placed.{taken_for, DrawsHeader, DrawsIdentifier, IsIdentifierOf, GoesOn}
 use Rattle.node_changes.proofs.Committing.{late_by}
@@ -226,6 +228,18 @@ module _ {keys : KeyPair} {live : HeldTree} {parent : ℕ} {site : Site} {name :
       refused = told_always disk (IsRefusal k (create parent name is_directory mode) second drawn refusals.OutOfMemory live claims) (λ d contents stands. λ others more. never_removed asked is_directory mode second others);
       found = never_taken is_directory drew drew' refusals.OutOfMemory (λ path is. absurd cc);
     }
+
+    -- the folder doesn't fit the deeds, which remove no folder
+    pub misfit_refused : (drawn : Option (List ℕ)) → IsDraw is_directory drawn drew drew' → (misfit : Misfit) → (misfit ≡ misfits.Foreign → ⊥)
+        → HasRefused keys (create parent name is_directory mode) is_directory second live claims drew drew' disk (misfit_refusal misfit)
+    misfit_refused drawn draw misfits.Device own = record {
+      drawn = drawn;
+      draw = draw;
+      refused = told_always disk (IsRefusal k (create parent name is_directory mode) second drawn refusals.DeviceFault live claims) (late_refused drawn);
+      found = never_taken is_directory drew drew' refusals.DeviceFault (λ path is. absurd cc);
+    }
+    misfit_refused drawn draw misfits.Foreign own = absurd (own refl)
+    misfit_refused drawn draw misfits.Memory own = memory_refused drawn draw
 
   module _ (parts : EntriesAreParts keys) (disk : Option Disk) (drawn : Option NewDirectory) (own : IfSome drawn (λ (directory : NewDirectory). directory.folder ≡ (sealing_of keys).folder_of directory.identifier)) where
     pub place_refused : (failed : Type 0) (refusal : Refusal) → IsPlaceRefusal site drawn live claims disk failed refusal

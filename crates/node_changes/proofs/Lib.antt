@@ -14,3 +14,4 @@ pub mod Sites
 pub mod Makings
 pub mod Draws
 pub mod Beside
+pub mod Misfits

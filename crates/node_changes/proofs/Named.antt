@@ -1,5 +1,5 @@
 -- What a node's new name comes to, on the disk that the tree in memory stands for.
-use Rattle.std.proofs.Common.{◌≡◌, ◌≢◌, ℕ, Bool, true, false, List, Option, Some, None, is_some, sym, ap, ap₂, ◌∙◌, subst, inl, inr, ◌⊎◌}
+use Rattle.std.proofs.Common.{◌≡◌, ◌≢◌, ℕ, Bool, true, false, List, Option, Some, None, is_some, refl, sym, ap, ap₂, ◌∙◌, subst, inl, inr, ◌⊎◌}
 use Rattle.std.specs.Option.{unwrap_or}
 use Rattle.outside.specs.Disk.{Disk}
 use Rattle.outside.specs.Calls.{Told, Changes}
@@ -9,6 +9,8 @@ use Rattle.deeds.specs.Deeds.{PlainDeed, DoesAll, in_order}
 use Rattle.deeds.specs.Repeatable.{IsRepeatable}
 use Rattle.deeds.proofs.Doing.{told_disk}
 use Rattle.chunk_journal.specs.Journal.{AnyMoment, HasCommitted}
+use Rattle.batch_looks.specs.declared.misfit.Misfit.{Misfit}
+use Rattle.batch_looks.specs.declared.misfit.Misfit.TheVariants as misfits
 use Rattle.vault_keys.specs.Keys.{KeyPair}
 use Rattle.tree_model.specs.declared.refusal.Refusal.{Refusal}
 use Rattle.tree_model.specs.declared.refusal.Refusal.TheVariants as refusals
@@ -34,6 +36,7 @@ use Rattle.name_places.specs.Asked.{IsTaken}
 use Rattle.name_places.specs.Laws.{ClaimsAreWhole, EntriesAreParts, KeptClaims}
 use Rattle.name_places.proofs.Lowest.{dating_keeps}
 use Rattle.node_changes.specs.declared.renaming.NewName.{NewName}
+use Rattle.node_changes.specs.Causes.{misfit_refusal}
 use Rattle.node_changes.specs.Changed.{StandsOn, IsAtRest, MayHaveChanged, MayRefuse}
 use Rattle.node_changes.specs.Placed.{taken_for}
 use Rattle.node_changes.specs.Removal.{place_in}
@@ -152,18 +155,16 @@ module _ {keys : KeyPair} {live : HeldTree} {claims : List (List ℕ × ℕ)} {n
 
   -- ---- it is given
 
-  -- the tree in memory has it, and the deeds give it to the node on the disk
-  pub record NamedTree (live' : HeldTree) (deeds : List PlainDeed) (d : Disk) : Type 0 where
+  -- the deeds give it to the node on the disk
+  pub record NamingDeeds (deeds : List PlainDeed) (d : Disk) : Type 0 where
     pub texts : AreTexts (sealing_of keys)
     pub kept : KeptClaims keys
     pub whole : ClaimsAreWhole
     pub naming : AreNaming live number new deeds
-    pub named : IsNamedTree live live' number new modified second
-    pub rows : RowsAreNamed live live' number new.name modified second
     pub untaken : IsTaken new.folder new.place None live claims None d
 
-  module _ {live' : HeldTree} {deeds : List PlainDeed} {d : Disk} (new_tree : NamedTree live' deeds d) where
-    open new_tree use {texts, kept, whole, naming, named, rows, untaken}
+  module _ {deeds : List PlainDeed} {d : Disk} (ready : NamingDeeds deeds d) where
+    open ready use {texts, kept, whole, naming, untaken}
 
     module _ (contents : ℕ → Content) (stands : StandsOn (sealing_of keys) d live claims contents) where
       abbrev can : CanRename k d live number is.held is.above.above is.identifier new.name new.place.long
@@ -180,6 +181,29 @@ module _ {keys : KeyPair} {live : HeldTree} {claims : List (List ℕ × ℕ)} {n
       abbrev on_disk : Renaming keys d live number deeds is.held is.above.above is.identifier new.name new.place.long
       on_disk = record { texts = texts; kept = kept; whole = whole; there = is.node.there; can = can; deeds_are = deeds_are }
 
+      pub can_be_done : (after : Disk) × DoesAll (in_order deeds) d after
+      can_be_done = ((leads on_disk claims second contents stands).after, does_in_order (leads on_disk claims second contents stands))
+
+  -- the folder doesn't fit them: on a disk that the tree in memory stands for they can be done
+  pub misfit_refused : (deeds : List PlainDeed) (disk : Option Disk) → Told disk (NamingDeeds deeds) → (misfit : Misfit) → (misfit ≡ misfits.Foreign → Told disk (λ (d : Disk). (after : Disk) → DoesAll (in_order deeds) d after → ⊥))
+      → Told disk (IsRenameRefusal (sealing_of keys) number new.name modified second (misfit_refusal misfit) live claims)
+  misfit_refused deeds None ready misfit cannot = tt
+  misfit_refused deeds (Some d) ready misfits.Device cannot = λ c contents renaming stands. λ others more. ap is_some (renaming d others more).none
+  misfit_refused deeds (Some d) ready misfits.Foreign cannot = λ c contents renaming stands.
+      let can = can_be_done ready contents stands in
+      absurd (cannot refl can.0 can.1)
+  misfit_refused deeds (Some d) ready misfits.Memory cannot = memory_refused (sealing_of keys) live claims number new.name modified second d
+
+  -- and the tree in memory has it
+  pub record NamedTree (live' : HeldTree) (deeds : List PlainDeed) (d : Disk) : Type 0 where
+    pub ready : NamingDeeds deeds d
+    pub named : IsNamedTree live live' number new modified second
+    pub rows : RowsAreNamed live live' number new.name modified second
+
+  module _ {live' : HeldTree} {deeds : List PlainDeed} {d : Disk} (new_tree : NamedTree live' deeds d) where
+    open new_tree use {ready, named, rows, ready.{untaken}}
+
+    module _ (contents : ℕ → Content) (stands : StandsOn (sealing_of keys) d live claims contents) where
       live_is : live' ≡ dated_if (renamed live number is.held.kept.parent new.name (place_of k is.identifier new.name new.place.long).entry new.place.long second) number modified
       live_is = named is.held is.node.there ∙ ap (λ (e : List ℕ). dated_if (renamed live number is.held.kept.parent new.name e new.place.long second) number modified) is.place.entry
 
@@ -197,10 +221,10 @@ module _ {keys : KeyPair} {live : HeldTree} {claims : List (List ℕ × ℕ)} {n
 
       pub can_be_given : CanBeGiven (sealing_of keys) number new.name modified second live live' claims claims deeds d
       can_be_given = record {
-        after = (leads on_disk claims second contents stands).after;
-        does = does_in_order (leads on_disk claims second contents stands);
+        after = (can_be_done ready contents stands).0;
+        does = (can_be_done ready contents stands).1;
         gives = λ c renaming. record {
-          makes = makes on_disk claims second live' (change number c) goes_on (shown c renaming) contents stands;
+          makes = makes (on_disk ready contents stands) claims second live' (change number c) goes_on (shown c renaming) contents stands;
           answer_is = λ others more. answer_is d c others more (renaming d others more);
           untaken = taken_is keys parts live claims d contents stands number new is c modified (renaming d contents stands) ∙ free keys parts live claims d contents stands number new is untaken;
         };

@@ -1,9 +1,12 @@
 -- The deeds of a removal that the step doesn't refuse lead to the tree without the node, on the disk and in memory.
-use Rattle.std.proofs.Common.{◌≡◌, ℕ, Bool, true, false, List, ◌∷◌, Option, Some, None, MatchOption, IsTrue, refl, sym, ap, ap₂, ◌∙◌, subst, inl, inr, ◌⊎◌}
+use Rattle.std.proofs.Common.{◌≡◌, ℕ, Bool, true, false, List, ◌∷◌, Option, Some, None, is_some, MatchOption, IsTrue, refl, sym, ap, ap₂, ◌∙◌, subst, inl, inr, ◌⊎◌}
 use Rattle.std.specs.Option.{option_and_then, option_map_or}
 use Rattle.outside.specs.Disk.{Disk}
-use Rattle.deeds.specs.Deeds.{PlainDeed, DoesAll}
+use Rattle.outside.specs.Calls.{Told}
+use Rattle.deeds.specs.Deeds.{PlainDeed, DoesAll, in_order}
 use Rattle.deeds.specs.Repeatable.{IsRepeatable}
+use Rattle.batch_looks.specs.declared.misfit.Misfit.{Misfit}
+use Rattle.batch_looks.specs.declared.misfit.Misfit.TheVariants as misfits
 use Rattle.vault_keys.specs.Keys.{KeyPair}
 use Rattle.tree_model.specs.declared.refusal.Refusal.{Refusal}
 use Rattle.tree_model.specs.declared.refusal.Refusal.TheVariants as refusals
@@ -36,14 +39,14 @@ use Rattle.name_places.proofs.Lowest.{removing_keeps}
 use Rattle.live_tree_laws.specs.Strays.{KeepsStrays}
 use Rattle.live_tree_laws.proofs.Laws.{removed_directory_keeps, removed_file_keeps, removed_link_keeps}
 use Rattle.node_changes.specs.Changed.{StandsOn, MakesStep, LeadsOn, MayRefuse, ShowsRows, IsStepAnswer}
-use Rattle.node_changes.specs.Causes.{RefusalCause}
+use Rattle.node_changes.specs.Causes.{RefusalCause, misfit_refusal}
 use Rattle.node_changes.specs.Within.{AreWithin}
 use Rattle.node_changes.specs.Removal.{AreRemoval, IsMisplaced, IsRemovalRefusal, IsFolderAbove, IsUnclaimed, place_in}
 use Rattle.node_changes.proofs.Committing.{early_step}
 use Rattle.node_changes.proofs.Nodes.{IsBelow, is_below, place_is}
 use Rattle.node_changes.proofs.Within.{removal_within}
 use Rattle.node_changes.proofs.Refusing.{IsRemovable, removable, is_there, node_there}
-use Rattle.node_changes.proofs.Stepping.{LeadsTo, leads_to, makes_step}
+use Rattle.node_changes.proofs.Stepping.{LeadsTo, does_in_order, leads_to, makes_step}
 
 -- a folder that a number's node names is that of its node on the disk
 record IsClaimant (s : Sealing) (d : Disk) (tree : Tree) (of : IsTreeOf s d tree) (live : HeldTree) (number : ℕ) (folder : List ℕ) : Type 0 where
@@ -85,22 +88,16 @@ module _ (keys : KeyPair) (kept : KeptClaims keys) (d : Disk) (tree : Tree) (of 
         one_number live holds.is_tree a.path other number (subst (λ (q : Path). IsAt live q other) path b.at) a.at;
   }
 
--- a node leaves its directory, by deeds that remove it from the disk
-pub record Leaving (keys : KeyPair) (live live' : HeldTree) (claims claims' : List (List ℕ × ℕ)) (number now : ℕ) (deeds : List PlainDeed) (held : HeldNode) (folder : List ℕ) : Type 0 where
+-- deeds that remove a node from the disk
+pub record Removing (keys : KeyPair) (live : HeldTree) (number : ℕ) (deeds : List PlainDeed) (held : HeldNode) (folder : List ℕ) : Type 0 where
   pub texts : AreTexts (sealing_of keys)
-  pub kept : KeptClaims keys
-  pub none : IsRemovalRefusal live number None
   pub there : node_of live number ≡ Some held
   pub can : IsRemovable live number held
   pub above : IsFolderAbove live held folder
   pub deeds_are : deeds ≡ remove_deeds (place_in folder held) held.kept.what
-  pub gone : live' ≡ removed live number held.kept.parent now
-  pub rows : RowsAreRemoved live live' number now
-  pub unclaimed : IsUnclaimed held claims claims'
 
-module _ {keys : KeyPair} {live live' : HeldTree} {claims claims' : List (List ℕ × ℕ)} {number now : ℕ} {deeds : List PlainDeed} {held : HeldNode} {folder : List ℕ}
-    (leaving : Leaving keys live live' claims claims' number now deeds held folder) (d : Disk) where
-  open leaving use {texts, kept, none, there, can, above, deeds_are, gone, rows, unclaimed}
+module _ {keys : KeyPair} {live : HeldTree} {number : ℕ} {deeds : List PlainDeed} {held : HeldNode} {folder : List ℕ} (removing : Removing keys live number deeds held folder) (claims : List (List ℕ × ℕ)) (d : Disk) where
+  open removing use {texts, there, can, above, deeds_are}
 
   abbrev k : Sealing
   k = sealing_of keys
@@ -148,27 +145,48 @@ module _ {keys : KeyPair} {live live' : HeldTree} {claims claims' : List (List �
     spared : KeepsStrays k d leads.after
     spared = spares it.node refl leads.after (subst (λ (ds : List PlainDeed). DoesAll ds d leads.after) (sym same_deeds) leads.does)
 
-    -- ---- in memory
+-- by which it leaves its directory
+pub record Leaving (keys : KeyPair) (live live' : HeldTree) (claims claims' : List (List ℕ × ℕ)) (number now : ℕ) (deeds : List PlainDeed) (held : HeldNode) (folder : List ℕ) : Type 0 where
+  pub removing : Removing keys live number deeds held folder
+  pub kept : KeptClaims keys
+  pub none : IsRemovalRefusal live number None
+  pub gone : live' ≡ removed live number held.kept.parent now
+  pub rows : RowsAreRemoved live live' number now
+  pub unclaimed : IsUnclaimed held claims claims'
 
-    claimed_is : claimed_at k live number ≡ claimed_in k held.kept.what
-    claimed_is = ap (option_and_then (λ (node : HeldNode). claimed_in k node.kept.what)) there
+module _ {keys : KeyPair} {live live' : HeldTree} {claims claims' : List (List ℕ × ℕ)} {number now : ℕ} {deeds : List PlainDeed} {held : HeldNode} {folder : List ℕ}
+    (leaving : Leaving keys live live' claims claims' number now deeds held folder) (d : Disk) where
+  open leaving use {removing, kept, none, gone, rows, unclaimed, removing.{there, can, deeds_are}}
+
+  abbrev k' : Sealing
+  k' = sealing_of keys
+
+  module _ (contents : ℕ → Content) (stands : StandsOn (sealing_of keys) d live claims contents) where
+    abbrev its : IsBelow k' stands.tree live number held
+    its = it removing claims d contents stands
+
+    abbrev led_to : laws.Leads k' d deeds (tree' removing claims d contents stands)
+    led_to = leads removing claims d contents stands
+
+    claimed_is : claimed_at k' live number ≡ claimed_in k' held.kept.what
+    claimed_is = ap (option_and_then (λ (node : HeldNode). claimed_in k' node.kept.what)) there
 
     claims_by : (what : What) → held.kept.what ≡ what → MatchOption (folder_in what) (claims' ≡ claims) (λ folder. Shrinks claims claims' folder)
-        → AreClaimsOf k (removed live number held.kept.parent now) claims'
-    claims_by (KeptFile size) e same = subst (AreClaimsOf k (removed live number held.kept.parent now)) (sym same) (removing_keeps k live claims number held.kept.parent now stands.claimed (claimed_is ∙ ap (claimed_in k) e))
-    claims_by (KeptLink size) e same = subst (AreClaimsOf k (removed live number held.kept.parent now)) (sym same) (removing_keeps k live claims number held.kept.parent now stands.claimed (claimed_is ∙ ap (claimed_in k) e))
+        → AreClaimsOf k' (removed live number held.kept.parent now) claims'
+    claims_by (KeptFile size) e same = subst (AreClaimsOf k' (removed live number held.kept.parent now)) (sym same) (removing_keeps k' live claims number held.kept.parent now stands.claimed (claimed_is ∙ ap (claimed_in k') e))
+    claims_by (KeptLink size) e same = subst (AreClaimsOf k' (removed live number held.kept.parent now)) (sym same) (removing_keeps k' live claims number held.kept.parent now stands.claimed (claimed_is ∙ ap (claimed_in k') e))
     claims_by (KeptDir identifier own) e shrinks =
-        shrinks k live number held.kept.parent now stands.claimed
-        (is_only keys kept d tree stands.is live stands.holds number own (can.bare identifier own e).1 (record { below = can.below; claimed = claimed_is ∙ ap (claimed_in k) e }))
+        shrinks k' live number held.kept.parent now stands.claimed
+        (is_only keys kept d stands.tree stands.is live stands.holds number own (can.bare identifier own e).1 (record { below = can.below; claimed = claimed_is ∙ ap (claimed_in k') e }))
     claims_by (KeptBad text) e same = absurd (can.good text e)
 
-    stands_after : StandsOn k leads.after live' claims' contents
-    stands_after = subst (λ (l : HeldTree). StandsOn k leads.after l claims' contents) (sym gone) (record {
-      tree = tree';
-      is = leads.clear;
-      holds = removing_holds k tree live it.path held.kept.parent number it.name now stands.holds it.at_dir it.named can.childless;
+    stands_after : StandsOn k' led_to.after live' claims' contents
+    stands_after = subst (λ (l : HeldTree). StandsOn k' led_to.after l claims' contents) (sym gone) (record {
+      tree = tree' removing claims d contents stands;
+      is = led_to.clear;
+      holds = removing_holds k' stands.tree live its.path held.kept.parent number its.name now stands.holds its.at_dir its.named can.childless;
       claimed = claims_by held.kept.what refl unclaimed;
-      are = removing_keeps_contents k tree live it.path held.kept.parent number it.name now contents stands.holds it.at_dir it.named can.childless stands.are;
+      are = removing_keeps_contents k' stands.tree live its.path held.kept.parent number its.name now contents stands.holds its.at_dir its.named can.childless stands.are;
     })
 
     found : row_of (live_rows contents live) number ≡ Some (live_row contents (number, held))
@@ -178,15 +196,15 @@ module _ {keys : KeyPair} {live live' : HeldTree} {claims claims' : List (List �
     step_is = step_worked (live_rows contents live) (remove number) now (live_row contents (number, held)) found
         (sym (ap (λ (o : Option Row). option_map_or (λ row. early (live_rows contents live) row (remove number)) o (Some refusals.Removed)) found) ∙ none contents)
 
-    shows : ShowsRows k (step (live_rows contents live) (remove number) now).rows leads.after live' claims'
+    shows : ShowsRows k' (step (live_rows contents live) (remove number) now).rows led_to.after live' claims'
     shows = record {
       contents = contents;
       stands = stands_after;
       shows = rows contents (live_row contents (number, held)) found ∙ ap wrapped (sym (ap (λ (w : Stepped). w.rows) step_is));
     }
 
-    led : LeadsTo k (step (live_rows contents live) (remove number) now).rows deeds d live' claims'
-    led = leads_to leads spared shows
+    led : LeadsTo k' (step (live_rows contents live) (remove number) now).rows deeds d live' claims'
+    led = leads_to led_to (spared removing claims d contents stands) shows
 
   pub makes : (contents : ℕ → Content) → StandsOn (sealing_of keys) d live claims contents → MakesStep (sealing_of keys) (remove number) now deeds d live live' claims claims'
   makes = makes_step (subst AreWithin (sym deeds_are) (removal_within (place_in folder held) held.kept.what)) led
@@ -196,18 +214,24 @@ module _ {keys : KeyPair} {live live' : HeldTree} {claims claims' : List (List �
 
 -- ---- as a whole
 
+removing_by : (keys : KeyPair) → AreTexts (sealing_of keys) → (live : HeldTree) (number : ℕ) (deeds : List PlainDeed) → IsTree live → IsRemovalRefusal live number None → (removal : AreRemoval live number deeds)
+    → Removing keys live number deeds removal.held removal.folder
+removing_by keys texts live number deeds is none removal = record {
+  texts = texts;
+  there = removal.there;
+  can = removable live is number removal.held removal.there none;
+  above = removal.above;
+  deeds_are = removal.are;
+}
+
 pub removed_leads : (keys : KeyPair) → AreTexts (sealing_of keys) → KeptClaims keys → (live live' : HeldTree) (claims claims' : List (List ℕ × ℕ)) (number now : ℕ) (deeds : List PlainDeed) → IsTree live → IsRemovalRefusal live number None
     → AreRemoval live number deeds → ((held : HeldNode) → node_of live number ≡ Some held → live' ≡ removed live number held.kept.parent now) → RowsAreRemoved live live' number now
     → ((held : HeldNode) → node_of live number ≡ Some held → IsUnclaimed held claims claims') → LeadsOn (sealing_of keys) (remove number) now (says done) live live' claims claims' deeds
 removed_leads keys texts kept live live' claims claims' number now deeds is none removal gone rows unclaimed d contents stands =
     let leaving : Leaving keys live live' claims claims' number now deeds removal.held removal.folder = record {
-      texts = texts;
+      removing = removing_by keys texts live number deeds is none removal;
       kept = kept;
       none = none;
-      there = removal.there;
-      can = removable live is number removal.held removal.there none;
-      above = removal.above;
-      deeds_are = removal.are;
       gone = gone removal.held removal.there;
       rows = rows;
       unclaimed = unclaimed removal.held removal.there;
@@ -314,3 +338,15 @@ module _ (keys : KeyPair) (parts : EntriesAreParts keys) (live : HeldTree) (clai
       let same : done ≡ refused refusals.Removed = ap (λ (a : Answer). a.reply) (sym (answered contents) ∙ e) in
       cc)
   deeds_refused refusal (inr amiss) d = subst (λ (r : Refusal). MayRefuse o (remove number) second None r d live claims) (sym amiss.0) (λ contents stands. absurd (never_misplaced amiss.1 d contents stands))
+
+-- the folder doesn't fit the deeds: on a disk that the tree in memory stands for they can be done
+pub misfit_refused : (keys : KeyPair) → AreTexts (sealing_of keys) → EntriesAreParts keys → (live : HeldTree) (claims : List (List ℕ × ℕ)) (number second : ℕ) (deeds : List PlainDeed) → IsTree live → IsRemovalRefusal live number None
+    → AreRemoval live number deeds → (disk : Option Disk) (misfit : Misfit) → (misfit ≡ misfits.Foreign → Told disk (λ (d : Disk). (after : Disk) → DoesAll (in_order deeds) d after → ⊥))
+    → Told disk (λ (d : Disk). MayRefuse (sealing_of keys) (remove number) second None (misfit_refusal misfit) d live claims)
+misfit_refused keys texts parts live claims number second deeds is none removal None misfit cannot = tt
+misfit_refused keys texts parts live claims number second deeds is none removal (Some d) misfits.Device cannot = λ contents stands. ap is_some (none contents)
+misfit_refused keys texts parts live claims number second deeds is none removal (Some d) misfits.Foreign cannot = λ contents stands.
+    let led = leads (removing_by keys texts live number deeds is none removal) claims d contents stands in
+    absurd (cannot refl led.after (does_in_order led))
+misfit_refused keys texts parts live claims number second deeds is none removal (Some d) misfits.Memory cannot =
+    deeds_refused keys parts live claims number second is none refusals.OutOfMemory (inl refl) d

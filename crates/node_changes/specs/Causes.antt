@@ -3,6 +3,8 @@ use Rattle.std.specs.Prelude.{◌≡◌, ℕ, List, Option, ⊤}
 use Rattle.outside.specs.Images.{Log}
 use Rattle.tree_model.specs.declared.refusal.Refusal.{Refusal}
 use Rattle.tree_model.specs.declared.refusal.Refusal.TheVariants as refusals
+use Rattle.batch_looks.specs.declared.misfit.Misfit.{Misfit}
+use Rattle.batch_looks.specs.declared.misfit.Misfit.TheVariants.{Device, Foreign, Memory}
 use Rattle.tree_model.specs.Asked.{PlainRequest}
 use Rattle.tree_model.specs.History.{MayLackMemory, MayPlace}
 use Rattle.live_tree.specs.Held.{HeldTree}
@@ -22,6 +24,12 @@ RefusalCause request folder entropy refusal = ⊤
 abbrev pub ErrCause : PlainRequest → Type 0 → Type 0 → ChangeErr → Type 0
 ErrCause request folder entropy (Refused refusal) = RefusalCause request folder entropy refusal
 ErrCause request folder entropy Broken = folder
+
+-- what refuses deeds that the folder doesn't fit
+abbrev pub misfit_refusal : Misfit → Refusal
+misfit_refusal Device = refusals.DeviceFault
+misfit_refusal Foreign = refusals.Foreign
+misfit_refusal Memory = refusals.OutOfMemory
 
 -- P of the refusal
 abbrev pub IfRefused : ChangeErr → (Refusal → Type 0) → Type 0

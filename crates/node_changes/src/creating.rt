@@ -1,4 +1,4 @@
-ghost use Rattle.std.specs.Prelude.{◌≡◌, ◌≤◌, ℕ, List, true, false, Ok, Some, None, IfOk, IfErr, IsErr, IsSome, OnErr, OnOk};
+ghost use Rattle.std.specs.Prelude.{◌≡◌, ◌≤◌, ℕ, List, true, false, Ok, Some, None, IfOk, IfErr, IsErr, IsErrOf, IsSome, OnErr, OnOk};
 ghost use Rattle.vault_layout.specs.Limits.{max_threshold};
 ghost use Rattle.outside.specs.Calls.{Changes, HasCause, Rose, Told};
 ghost use Rattle.outside.specs.Images.{disk_in};
@@ -24,8 +24,10 @@ ghost use Rattle.node_changes.specs.Placed.{GoesOn};
 ghost use Rattle.node_changes.specs.Creating.{DrawsHead, DrawsIf, HasRefused, IsReady, IsSite, MakesOn, new_qid};
 
 use crate::error::ChangeErr;
+use crate::misfit::refusal_of;
 use crate::site::Site;
 use crate::tree::VaultTree;
+use batch_looks::{Misfit, look};
 use chunk_journal::Journal;
 use clear_tree::What;
 use deeds::Deed;
@@ -44,7 +46,8 @@ use vault_path::Text;
 impl VaultTree {
     /// Makes a file without content, or a directory, of a name in the directory of a number, at a second since 1970-01-01, and
     /// returns its qid. For a directory 16 bytes are drawn for its identifier, for a file a nonce and a content key for its header.
-    /// Memory is taken before anything changes. After `Broken` the folder's count of faults rose, and the tree in memory is the
+    /// Memory is taken, and the folder looked at, before anything changes: it is `DeviceFault` if the folder failed, or if another
+    /// program took away what the node is to be in. After `Broken` the folder's count of faults rose, and the tree in memory is the
     /// one with the node. It takes O(log n) steps, if n numbers were given so far.
     pub fn create<D: Folder, E: Entropy>(
         &mut self,
@@ -115,30 +118,32 @@ impl VaultTree {
         };
         self.check_places(folder, &site, directory.as_ref())?;
         match directory {
-            Some(directory) => match self.make_directory(parent, site, &directory, now) {
+            Some(directory) => match self.make_directory(folder, parent, site, &directory, now) {
                 Ok(deeds) => Ok(deeds),
-                Err(_) => Err(Refusal::OutOfMemory),
+                Err(misfit) => Err(refusal_of(misfit)),
             },
             None => {
                 let Ok(header) = draw_header(&self.keys, entropy) else {
                     return Err(Refusal::RandomFault);
                 };
-                match self.make_file(parent, site, &header, now) {
+                match self.make_file(folder, parent, site, &header, now) {
                     Ok(deeds) => Ok(deeds),
-                    Err(_) => Err(Refusal::OutOfMemory),
+                    Err(misfit) => Err(refusal_of(misfit)),
                 }
             }
         }
     }
 
-    // Makes a file at a site in the tree in memory, and returns the deeds that make it. If memory runs out nothing changed.
-    fn make_file(
+    // Makes a file at a site in the tree in memory, and returns the deeds that make it. If the folder doesn't fit them, or memory
+    // runs out, nothing changed.
+    fn make_file<R: Reads>(
         &mut self,
+        folder: &mut R,
         parent: u64,
         site: Site,
         header: &[u8; HEADER_LENGTH],
         now: u32,
-    ) -> Result<Vec<Deed>, AllocError>
+    ) -> Result<Vec<Deed>, Misfit>
         requires site { IsSite (sealing_of self.old.keys) self.old.live parent site }
         requires header { IsSome (header_opens self.old.keys header.now) }
         ensures makes { (name : List ℕ) (mode : ℕ) → clear_name name ≡ Ok site.name → IfOk result (λ deeds.
@@ -147,8 +152,11 @@ impl VaultTree {
         ensures deeds { IfOk result (λ deeds. (place : PlainPlace) × (text : List ℕ) × (plains deeds.items ≡ file_deeds_of place text header.now)) }
         ensures batch { IfOk result (λ deeds. IsBatch (plains deeds.items)) }
         ensures repeatable { IfOk result (λ deeds. IsRepeatable (plains deeds.items)) }
+        ensures own { IsErrOf result Misfit.Foreign → ⊥ }
         ensures same_live { OnErr result (self.new.live ≡ self.old.live) }
         ensures same_claims { OnErr result (self.new.claims ≡ self.old.claims) }
+        ensures log { R.log folder.new ≡ R.log folder.old }
+        ensures cause { HasCause (R.faults folder.old) (R.faults folder.new) (IsErrOf result Misfit.Device) }
         ensures keys { self.new.keys ≡ self.old.keys }
         ensures threshold { self.new.threshold ≡ self.old.threshold }
     {
@@ -163,6 +171,7 @@ impl VaultTree {
             long: site.place.long,
         };
         let deeds = create_file_deeds(self.alloc, &place, site.place.text.as_bytes(), bytes)?;
+        look(self.alloc, folder, &deeds)?;
         let what = What::File {
             size: HEADER_LENGTH as u64,
         };
@@ -171,13 +180,14 @@ impl VaultTree {
     }
 
     // The same for a directory that was drawn.
-    fn make_directory(
+    fn make_directory<R: Reads>(
         &mut self,
+        folder: &mut R,
         parent: u64,
         site: Site,
         directory: &NewDirectory,
         now: u32,
-    ) -> Result<Vec<Deed>, AllocError>
+    ) -> Result<Vec<Deed>, Misfit>
         requires site { IsSite (sealing_of self.old.keys) self.old.live parent site }
         requires directory { (bytes : List ℕ) × IsNewDirectory (sealing_of self.old.keys) bytes directory.now }
         ensures makes { (name : List ℕ) (mode : ℕ) → clear_name name ≡ Ok site.name → IfOk result (λ deeds.
@@ -187,8 +197,11 @@ impl VaultTree {
             × (plains deeds.items ≡ dir_deeds_of place text directory.now.folder directory.now.identifier)) }
         ensures batch { IfOk result (λ deeds. IsBatch (plains deeds.items)) }
         ensures repeatable { IfOk result (λ deeds. IsRepeatable (plains deeds.items)) }
+        ensures own { IsErrOf result Misfit.Foreign → ⊥ }
         ensures same_live { OnErr result (self.new.live ≡ self.old.live) }
         ensures same_claims { OnErr result (self.new.claims ≡ self.old.claims) }
+        ensures log { R.log folder.new ≡ R.log folder.old }
+        ensures cause { HasCause (R.faults folder.old) (R.faults folder.new) (IsErrOf result Misfit.Device) }
         ensures keys { self.new.keys ≡ self.old.keys }
         ensures threshold { self.new.threshold ≡ self.old.threshold }
     {
@@ -208,17 +221,18 @@ impl VaultTree {
             &directory.folder,
             &directory.identifier,
         )?;
+        look(self.alloc, folder, &deeds)?;
         let identifier = Vec::from_slice(self.alloc, &directory.identifier)?;
         let what = What::Dir {
             identifier: Text::from_vec(identifier),
             folder: directory.folder,
         };
         let is_new = self.claims.insert(directory.folder, self.live.next())?;
-        if let Err(error) = self.add(parent, site, what, now) {
+        if let Err(_) = self.add(parent, site, what, now) {
             if is_new {
                 self.claims.remove(&directory.folder);
             }
-            return Err(error);
+            return Err(Misfit::Memory);
         }
         Ok(deeds)
     }

@@ -8,12 +8,14 @@
 //! ```
 //!
 //! Each change is refused as the plain file tree's step refuses it, or for the cause that its answer names, and then changes
-//! nothing; or it is committed, and the tree in memory goes on to that of the disk after it. All memory is taken before.
-//! `removal_refusal` says what refuses a removal before its work begins.
+//! nothing; or it is committed, and the tree in memory goes on to that of the disk after it. All memory is taken before, and the
+//! folder is looked at: an entry that another program left in a folder which goes is `Foreign`, and what isn't there any more a
+//! `DeviceFault`. `removal_refusal` says what refuses a removal before its work begins.
 #![tactic(auto)]
 
 mod creating;
 mod error;
+mod misfit;
 mod places;
 mod removing;
 mod renaming;

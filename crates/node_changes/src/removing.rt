@@ -2,7 +2,6 @@ ghost use Rattle.std.specs.Prelude.{◌≡◌, ◌≢◌, ◌≤◌, ◌⊎◌, 
 ghost use Rattle.std.specs.Option.{option_and_then};
 ghost use Rattle.vault_path.specs.Parts.{is_path};
 ghost use Rattle.outside.specs.Calls.{Changes, Rose, Told};
-ghost use Rattle.outside.specs.Disk.{Disk};
 ghost use Rattle.outside.specs.Images.{disk_in};
 ghost use Rattle.deeds.specs.Grammar.{IsBatch};
 ghost use Rattle.deeds.specs.Plain.{plains};
@@ -23,21 +22,25 @@ ghost use Rattle.node_changes.specs.Causes.{ErrCause, IfBroken, IfRefused, IsUnc
 ghost use Rattle.node_changes.specs.Removal.{AreRemoval, IsFolderAbove, IsMisplaced, IsRemovalRefusal, IsUnclaimed};
 
 use crate::error::ChangeErr;
+use crate::misfit::refusal_of;
 use crate::places::{directory_above, is_host_part};
 use crate::tree::VaultTree;
+use batch_looks::look;
 use chunk_journal::Journal;
 use clear_tree::What;
 use deeds::Deed;
 use live_tree::{LiveNode, LiveTree};
 use name_places::{Claims, are_texts, entries_are_parts, kept_claims};
 use node_deeds::{Place, remove_deeds};
-use outside::Folder;
+use outside::{Folder, Reads};
 use std::alloc::Global;
 use tree_model::Refusal;
 
 impl VaultTree {
-    /// Removes the node of a number at a second since 1970-01-01. It takes memory before anything changes. After `Broken` the
-    /// folder's count of faults rose, and the tree in memory is the one without the node.
+    /// Removes the node of a number at a second since 1970-01-01. What `removal_refusal` names refuses it, and then what the folder
+    /// has now: `Foreign` for an entry in a folder that goes, which isn't the node's, and `DeviceFault` for a folder that failed, or
+    /// of which another program changed what the removal needs. Memory is taken before anything changes. After `Broken` the folder's
+    /// count of faults rose, and the tree in memory is the one without the node.
     pub fn remove<D: Folder>(
         &mut self,
         journal: &mut Journal<D>,
@@ -58,7 +61,7 @@ impl VaultTree {
         ensures keys { self.new.keys ≡ self.old.keys }
         ensures threshold { self.new.threshold ≡ self.old.threshold }
     {
-        match self.take_out(number, now) {
+        match self.take_out(journal, number, now) {
             Ok(deeds) => match journal.commit(&deeds) {
                 Ok(()) => Ok(()),
                 Err(_) => Err(ChangeErr::Broken),
@@ -68,16 +71,23 @@ impl VaultTree {
     }
 
     // Takes a node out of the tree in memory, and returns the deeds that remove it. If it is refused nothing changed.
-    fn take_out(&mut self, number: u64, now: u32) -> Result<Vec<Deed>, Refusal>
+    fn take_out<R: Reads>(
+        &mut self,
+        folder: &mut R,
+        number: u64,
+        now: u32,
+    ) -> Result<Vec<Deed>, Refusal>
         ensures made { IfOk result (λ deeds.
             LeadsOn (sealing_of self.old.keys) (remove number) now (says done) self.old.live self.new.live self.old.claims self.new.claims (plains deeds.items)) }
         ensures batch { IfOk result (λ deeds. IsBatch (plains deeds.items)) }
         ensures repeatable { IfOk result (λ deeds. IsRepeatable (plains deeds.items)) }
-        ensures refused { IfErr result (λ refusal. (d : Disk)
-            → MayRefuse (sealing_of self.old.keys) (remove number) now None refusal d self.old.live self.old.claims) }
-        ensures cause { IfErr result (RefusalCause (remove number) ⊥ ⊥) }
+        ensures refused { IfErr result (λ refusal. Told (disk_in (R.log folder.old))
+            (λ d. MayRefuse (sealing_of self.old.keys) (remove number) now None refusal d self.old.live self.old.claims)) }
+        ensures cause { IfErr result (RefusalCause (remove number) (Rose (R.faults folder.old) (R.faults folder.new)) ⊥) }
         ensures same_live { OnErr result (self.new.live ≡ self.old.live) }
         ensures same_claims { OnErr result (self.new.claims ≡ self.old.claims) }
+        ensures log { R.log folder.new ≡ R.log folder.old }
+        ensures later { R.faults folder.old ≤ R.faults folder.new }
         ensures keys { self.new.keys ≡ self.old.keys }
         ensures threshold { self.new.threshold ≡ self.old.threshold }
     {
@@ -88,6 +98,9 @@ impl VaultTree {
             return Err(refusal);
         }
         let deeds = removal_deeds(self.alloc, &self.live, number)?;
+        if let Err(misfit) = look(self.alloc, folder, &deeds) {
+            return Err(refusal_of(misfit));
+        }
         self.forget(number, now);
         Ok(deeds)
     }
@@ -125,7 +138,7 @@ fn folder_of(live: &LiveTree, number: u64) -> Option<[u8; 32]>
     live.node(number)?.folder().copied()
 }
 
-/// What refuses that the node of a number is removed, before any work begins. It is the first of these:
+/// What refuses that the node of a number is removed, before any work begins and as the tree was loaded. It is the first of these:
 ///
 /// - `Removed`: the number has no node.
 /// - `NotPermitted` of the root, and `Damaged` of a Bad node.

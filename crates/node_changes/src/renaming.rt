@@ -20,8 +20,10 @@ ghost use Rattle.node_changes.specs.Renaming.{HasRenamed, IsRenaming};
 ghost use Rattle.node_changes.specs.NewName.{AreNaming, IsNameRefusal, IsNameable, IsNamedTree, IsNewName, IsPlaceRefusal, IsRenameRefusal, IsStuck, RenamesOn, RowsAreNamed};
 
 use crate::error::ChangeErr;
+use crate::misfit::refusal_of;
 use crate::places::{directory_above, is_host_part};
 use crate::tree::VaultTree;
+use batch_looks::look;
 use chunk_journal::Journal;
 use clear_tree::What;
 use deeds::Deed;
@@ -50,8 +52,9 @@ pub(crate) struct NewName {
 
 impl VaultTree {
     /// Gives the node of a number another name in its directory, and an mtime if one is asked for, at a second since 1970-01-01.
-    /// It is refused as the plain file tree's step refuses it, if the new place is taken (`PlaceTaken`), if the folder failed
-    /// (`DeviceFault`) and if memory ran out (`OutOfMemory`), and then nothing changed. After `Broken` the folder's count of
+    /// It is refused as the plain file tree's step refuses it, if the new place is taken (`PlaceTaken`), if the folder that goes
+    /// has an entry now that isn't the node's (`Foreign`), if the folder failed or another program changed what the new name needs
+    /// of it (`DeviceFault`), and if memory ran out (`OutOfMemory`), and then nothing changed. After `Broken` the folder's count of
     /// faults rose, and the tree in memory is the one with the new name.
     pub fn rename<D: Folder>(
         &mut self,
@@ -123,6 +126,9 @@ impl VaultTree {
         let new = self.new_name(number, name)?;
         self.check_place(folder, &new)?;
         let deeds = naming_deeds(self.alloc, &self.live, number, &new)?;
+        if let Err(misfit) = look(self.alloc, folder, &deeds) {
+            return Err(refusal_of(misfit));
+        }
         match self.put_name(number, new, modified, now) {
             Ok(()) => Ok(deeds),
             Err(_) => Err(Refusal::OutOfMemory),

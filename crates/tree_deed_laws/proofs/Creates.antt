@@ -6,6 +6,7 @@ use Rattle.deeds.specs.Deeds.{PlainDeed, Puts, DoesAll, AreApart, Unnamed, in_or
 use Rattle.deeds.specs.Repeatable.{IsRepeatable, journal_file, new_file}
 use Rattle.deeds.proofs.Amid.{tree_run}
 use Rattle.deeds.proofs.Doing.{does_then}
+use Rattle.deeds.proofs.Putting.{none_held}
 use Rattle.clear_tree.specs.Walk.{Path, same_path, Sealing, Kind, Plain, Named, Node, File, Dir, node_at, claimed, new_owner}
 use Rattle.clear_tree.specs.Places.{entry_at, folders_of, host_two, host_folder, host_entry, host_inner, entry_of, entry_where, seen_at, text_d, text_dir, text_dirid, text_contents, text_name}
 use Rattle.clear_tree.specs.Marks.{Marks, IsShadowed, known_at}
@@ -60,7 +61,7 @@ module _ {s : Sealing} {d : Disk} {marks : Marks} {long : Path → Bool} {o : Li
     can = record { inside = here; free = inl (subst IsNone (sym raw_free) refl) }
 
     pub plain_does : DoesAll (create_file_at false F X X header) d plain_disk
-    plain_does = (plain_disk, inr (can, refl), refl)
+    plain_does = (plain_disk, inr ((can, none_held (host_entry F X) header d raw_free), refl), refl)
 
     kept : (g u l : List ℕ) → get plain_disk (host_inner g u l) ≡ get d (host_inner g u l)
     kept g u l = get_put_other d (host_entry F X) (Bytes header) (host_inner g u l) (inner_entry g u l F X)
@@ -151,7 +152,10 @@ module _ {s : Sealing} {d : Disk} {marks : Marks} {long : Path → Bool} {o : Li
 
     pub node_does : DoesAll (make_node b F E X ++ Puts (host_inner F E kn) t ∷ []) d0 node_disk
     node_does = does_then (make_node b F E X) (Puts (host_inner F E kn) t ∷ []) d0 made.0 node_disk made.1.does
-        (node_disk, inr (record { inside = made.1.entry; free = inl (subst IsNone (sym (made.1.none kn (λ z h. kind_name b kn t kk kind h))) refl) }, refl), refl)
+        (node_disk, inr ((record { inside = made.1.entry; free = inl (subst IsNone (sym none) refl) }, none_held (host_inner F E kn) t made.0 none), refl), refl)
+      where
+        none : get made.0 (host_inner F E kn) ≡ None
+        none = made.1.none kn (λ z h. kind_name b kn t kk kind h)
 
     -- if the long place is its own, the short one stays free
     short1 : b ≡ true → entry_at s made.0 F X ≡ None

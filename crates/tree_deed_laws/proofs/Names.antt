@@ -7,6 +7,7 @@ use Rattle.deeds.specs.Deeds.{DoesAll, AreApart, Unnamed, Renames as Renaming, i
 use Rattle.deeds.specs.Repeatable.{IsRepeatable, journal_file, new_file}
 use Rattle.deeds.proofs.Amid.{tree_run}
 use Rattle.deeds.proofs.Doing.{does_then}
+use Rattle.deeds.proofs.Moving.{none_there}
 use Rattle.clear_tree.specs.Walk.{Path, Sealing, Kind, Plain, Bare, Node, look, node, node_at, claimed, NamedOnce}
 use Rattle.clear_tree.specs.Places.{entry_at, folders_of, host_folder, host_entry, host_inner, entry_of, entry_where, seen_at, text_dirid, text_contents, text_name}
 use Rattle.clear_tree.specs.Marks.{Marks, IsShadowed, HasTwin, known_at}
@@ -187,7 +188,10 @@ module _ {s : Sealing} {d : Disk} {marks : Marks} {long : Path → Bool} {o : Li
       node_does = does_then (make_node e F E' Y) (Renaming (host_inner F E kn) (host_inner F E' kn) ∷ clear_node b F E) d made.0 node_disk made.1.does (
         d2,
         inr (
-          record { there = (t, its1); inside = made.1.entry; free = inl (made.1.none kn (λ h. kind_name b kn t has.0 kind)) },
+          (
+            record { there = (t, its1); inside = made.1.entry; free = inl (made.1.none kn (λ h. kind_name b kn t has.0 kind)) },
+            none_there (host_inner F E kn) (host_inner F E' kn) made.0 (made.1.none kn (λ h. kind_name b kn t has.0 kind)),
+          ),
           sym (ap (λ (z : Option Thing). set_at w (host_inner F E' kn) z) its1),
         ),
         (cleared s texts d2 F X b text_x there2 bare2 name2).1.does,
@@ -281,7 +285,7 @@ module _ {s : Sealing} {d : Disk} {marks : Marks} {long : Path → Bool} {o : Li
       plain_disk = insert away (host_entry F Y) (Bytes y)
 
       pub plain_does : DoesAll (rename_file_at false false F X Y Y) d plain_disk
-      plain_does = (plain_disk, inr (record { there = (y, it); inside = here; free = inl raw_y }, sym (ap (λ (z : Option Thing). set_at away (host_entry F Y) z) it)), refl)
+      plain_does = (plain_disk, inr ((record { there = (y, it); inside = here; free = inl raw_y }, none_there (host_entry F X) (host_entry F Y) d raw_y), sym (ap (λ (z : Option Thing). set_at away (host_entry F Y) z) it)), refl)
 
       p_inner : (g u l : List ℕ) → get plain_disk (host_inner g u l) ≡ get d (host_inner g u l)
       p_inner g u l = get_put_other away _ (Bytes y) _ (inner_entry g u l F Y) ∙ get_gone_other d _ _ (inner_entry g u l F X)
@@ -359,7 +363,10 @@ module _ {s : Sealing} {d : Disk} {marks : Marks} {long : Path → Bool} {o : Li
     long_does = does_then (make_node true F L Y) (Renaming (host_entry F X) (host_inner F L text_contents) ∷ []) d made_long.0 long_disk made_long.1.does (
       long_disk,
       inr (
-        record { there = (y, it1); inside = made_long.1.entry; free = inl (made_long.1.none text_contents (λ z h. cc)) },
+        (
+          record { there = (y, it1); inside = made_long.1.entry; free = inl (made_long.1.none text_contents (λ z h. cc)) },
+          none_there (host_entry F X) (host_inner F L text_contents) made_long.0 (made_long.1.none text_contents (λ z h. cc)),
+        ),
         sym (ap (λ (z : Option Thing). set_at left (host_inner F L text_contents) z) it1),
       ),
       refl,
@@ -458,7 +465,7 @@ module _ {s : Sealing} {d : Disk} {marks : Marks} {long : Path → Bool} {o : Li
     pub short_does : DoesAll (Renaming (host_inner F E text_contents) (host_entry F Y) ∷ clear_node b F E) d short_disk
     short_does = (
       put_in,
-      inr (record { there = (t, was.main); inside = here; free = inl raw_free }, sym (ap (λ (z : Option Thing). set_at taken_out (host_entry F Y) z) was.main)),
+      inr ((record { there = (t, was.main); inside = here; free = inl raw_free }, none_there (host_inner F E text_contents) (host_entry F Y) d raw_free), sym (ap (λ (z : Option Thing). set_at taken_out (host_entry F Y) z) was.main)),
       (cleared s texts put_in F X b text_x s_there s_bare s_name).1.does,
     )
 

@@ -4,6 +4,7 @@ use Rattle.std.specs.FinMap.{get, insert, remove}
 use Rattle.outside.specs.Disk.{Disk, folder as Folder, file as Bytes, Path as HostPath}
 use Rattle.outside.specs.Changes.{IsFree}
 use Rattle.deeds.specs.Deeds.{DoesAll}
+use Rattle.deeds.proofs.Putting.{none_held}
 use Rattle.clear_tree.specs.Places.{host_folder, host_entry, host_inner, text_name}
 use Rattle.tree_deed_laws.specs.Deeds.{make_node, clear_node}
 use Rattle.tree_deed_laws.proofs.Disk.{get_put, get_put_other, get_gone, get_gone_other, entry_inner, inner_entry}
@@ -34,7 +35,7 @@ make d true F e X there free none = (
     does = (
       d1,
       inr (record { inside = there; free = inl (subst IsNone (sym free) refl) }, refl),
-      (d2, inr (record { inside = get_put d (host_entry F e) Folder; free = inl (subst IsNone (sym none1) refl) }, refl), refl),
+      (d2, inr ((record { inside = get_put d (host_entry F e) Folder; free = inl (subst IsNone (sym none1) refl) }, none_held (host_inner F e text_name) X d1 none1), refl), refl),
     );
     entry = get_put_other d1 _ (Bytes X) (host_entry F e) (entry_inner F e F e text_name) ∙ get_put d (host_entry F e) Folder;
     name = λ z. get_put d1 (host_inner F e text_name) (Bytes X);

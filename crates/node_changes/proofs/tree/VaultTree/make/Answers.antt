@@ -4,6 +4,7 @@ use Rattle.outside.specs.Calls.{Rose, Told}
 use Rattle.outside.specs.Images.{disk_in}
 use Rattle.outside.proofs.Told.{changed_by, told_always}
 use Rattle.deeds.specs.Plain.{plains}
+use Rattle.deeds.proofs.Phases.{rose_before}
 use Rattle.tree_model.specs.Asked.{create, qid}
 use Rattle.tree_model.specs.Step.{says}
 use Rattle.tree_loading.specs.Format.{sealing_of}
@@ -12,7 +13,8 @@ use Rattle.name_places.specs.Asked.{IsTaken}
 use Rattle.name_places.specs.Asked.{identifier_in as drawn_in}
 use Rattle.node_changes.specs.Placed.{GoesOn, IsIdentifierOf}
 use Rattle.node_changes.specs.Creating.{DrawsHead, DrawsIf, IsPlaceRefusal, IsRefusal, IsUntaken, MakesOn, new_qid}
-use Rattle.node_changes.proofs.Draws.{no_draw, file_draw, drew_directory, found_taken, own_folder, directory_drawn, header_drawn, head_changes, header_partly, cause_more, site_refused, random_refused, memory_refused, place_refused, untaken}
+use Rattle.node_changes.proofs.Draws.{no_draw, file_draw, drew_directory, found_taken, own_folder, directory_drawn, header_drawn, head_changes, header_partly, cause_more, site_refused, random_refused, misfit_refused, place_refused, untaken}
+use Rattle.node_changes.proofs.Misfits.{misfit_cause}
 use Rattle.node_changes.proofs.Makings.{asked_of}
 use Rattle.node_changes.proofs.tree.VaultTree.make.Goals as goal
 
@@ -102,8 +104,16 @@ returns-in-Err-clause-refused g c = λ mode.
     let asked = asked_of c.args.self.now c.args.parent c.in_ok-site.site c.in_ok-site.ensures.site c.len-count.ensures.tree c.args.name.now c.in_ok-site.ensures.name in
     let drew = g.E.Entropy.drawn c.args.entropy.now in
     let drew' = g.E.Entropy.drawn c.draw_directory.new.entropy in
-    memory_refused asked c.args.self.now.claims c.args.is_dir mode c.args.now (disk_in (g.R.Reads.log c.args.folder.now)) drew drew' (drawn_in c.in-Ok.directory)
-    (drew_directory c.args.self.now.keys c.args.is_dir c.in-Ok.directory drew drew' c.in-Ok.ensures.drawn)
+    rw c.refusal_of.ensures (misfit_refused asked c.args.self.now.claims c.args.is_dir mode c.args.now (disk_in (g.R.Reads.log c.args.folder.now)) drew drew' (drawn_in c.in-Ok.directory)
+    (drew_directory c.args.self.now.keys c.args.is_dir c.in-Ok.directory drew drew' c.in-Ok.ensures.drawn) c.in-Err.misfit (λ is. c.in-Err.ensures.own (rw is refl)))
+
+pub returns-in-Err-clause-cause : goal.returns-in-Err-clause-cause
+returns-in-Err-clause-cause g c = λ mode.
+    let a = g.R.Reads.faults c.args.folder.now in
+    let b = g.R.Reads.faults c.check_places.new.folder in
+    let d = g.R.Reads.faults c.make_directory.new.folder in
+    rw c.refusal_of.ensures (misfit_cause (create c.args.parent c.args.name.now c.args.is_dir mode) (Rose a d) (Rose (g.E.Entropy.faults c.args.entropy.now) (g.E.Entropy.faults c.draw_directory.new.entropy))
+    c.in-Err.misfit tt (λ is. rose_before a b d c.in_ok-check_places.ensures.later (c.in-Err.ensures.cause.rose (rw is refl))))
 
 pub returns-in-Ok-make_file-clause-ready : goal.returns-in-Ok-make_file-clause-ready
 returns-in-Ok-make_file-clause-ready g c = λ mode.
@@ -135,5 +145,14 @@ returns-in-Err-make_file-clause-refused g c = λ mode.
     let mid = g.E.Entropy.drawn c.draw_directory.new.entropy in
     let drew' = g.E.Entropy.drawn c.draw_header.new.entropy in
     let none = subst (λ (o : Option NewDirectory). DrawsIf c.args.self.now.keys c.args.is_dir o (g.E.Entropy.drawn c.args.entropy.now) (g.E.Entropy.drawn c.draw_directory.new.entropy)) c.in-None.is c.in-Ok.ensures.drawn in
-    memory_refused asked c.args.self.now.claims c.args.is_dir mode c.args.now (disk_in (g.R.Reads.log c.args.folder.now)) drew drew' None
+    rw c.refusal_of-in-Err-make_file.ensures (misfit_refused asked c.args.self.now.claims c.args.is_dir mode c.args.now (disk_in (g.R.Reads.log c.args.folder.now)) drew drew' None
     (file_draw c.args.is_dir drew drew' none.0 (header_partly drew mid drew' none.1 (head_changes c.args.self.now.keys mid drew' c.in-Ok-draw_header.header c.in-Ok-draw_header.ensures.drawn)))
+    c.in-Err-make_file.misfit (λ is. c.in-Err-make_file.ensures.own (rw is refl)))
+
+pub returns-in-Err-make_file-clause-cause : goal.returns-in-Err-make_file-clause-cause
+returns-in-Err-make_file-clause-cause g c = λ mode.
+    let a = g.R.Reads.faults c.args.folder.now in
+    let b = g.R.Reads.faults c.check_places.new.folder in
+    let d = g.R.Reads.faults c.make_file.new.folder in
+    rw c.refusal_of-in-Err-make_file.ensures (misfit_cause (create c.args.parent c.args.name.now c.args.is_dir mode) (Rose a d) (Rose (g.E.Entropy.faults c.args.entropy.now) (g.E.Entropy.faults c.draw_header.new.entropy))
+    c.in-Err-make_file.misfit tt (λ is. rose_before a b d c.in_ok-check_places.ensures.later (c.in-Err-make_file.ensures.cause.rose (rw is refl))))
