@@ -7,10 +7,16 @@
 //! `tree_of` spells them. `TEXT*N` stands for N times TEXT. `data/script.txt` has what is run with stops and faults, and `data/taken.txt`
 //! what is run with a random source that draws the same bytes for each request.
 //!
+//! `data/meddled.txt` has what is run while another program changes the folder. `!` is what it does in the next request, or as the vault is closed,
+//! before that one's call of a number, from 0: `remove` and a path, `cut`, a path and a length, or `put`, a path and a text. `closing` is said
+//! where that is to fail, and `=` is the tree that the folder holds in the end.
+//!
 //! It is printed how many were looked at, and each that is wrong. The status is 1 if something is wrong or can't be read.
 #![tactic(auto)]
 
+mod beside;
 mod error;
+mod meddled;
 mod parts;
 mod run;
 mod table;
@@ -25,6 +31,7 @@ use std::{fs, io};
 fn main(rt: HostRuntime) -> io::Result<ExitCode> {
     let script = fs::read_to_string(&rt, "script.txt")?;
     let taken = fs::read_to_string(&rt, "taken.txt")?;
+    let meddled = fs::read_to_string(&rt, "meddled.txt")?;
     let mut passed = true;
     for (what, table, part) in [
         ("requests", &script, Part::Requests(Manner::Looking)),
@@ -37,6 +44,7 @@ fn main(rt: HostRuntime) -> io::Result<ExitCode> {
         ("runs with a draw that fails", &script, Part::Draws),
         ("runs with a call that fails", &script, Part::Calls),
         ("images of stopped runs", &script, Part::Stops),
+        ("runs beside another program", &meddled, Part::Meddled),
     ] {
         match Tally::of_part(rt.alloc(), table.as_str(), part) {
             Ok(tally) => {

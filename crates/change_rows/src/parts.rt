@@ -1,6 +1,7 @@
 // What runs come to if nothing fails, if a draw or a call does, and if they are stopped.
 
 use crate::error::RunErr;
+use crate::meddled::check_meddled;
 use crate::run::{Ended, Manner, Progress, check_stop, run_script};
 use crate::table::{Script, read_scripts};
 use crate::vault::{seeded, tree_in};
@@ -29,6 +30,8 @@ pub(crate) enum Part {
     Calls,
     /// What each stop of a run may leave of the folder.
     Stops,
+    /// A run while another program changes the folder.
+    Meddled,
 }
 
 /// How many were looked at, and what was wrong, a line each.
@@ -54,6 +57,7 @@ impl Tally {
                 Part::Draws => tally.look_at_draws(script)?,
                 Part::Calls => tally.look_at_calls(script, false)?,
                 Part::Stops => tally.look_at_calls(script, true)?,
+                Part::Meddled => tally.add(script.about, check_meddled(script))?,
             }
         }
         Ok(tally)

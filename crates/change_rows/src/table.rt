@@ -3,6 +3,7 @@
 ghost use Rattle.std.specs.Prelude.{IfOk};
 ghost use Rattle.tree_model.specs.Asked.{CanAsk};
 
+use crate::beside::{Deed, Meddling};
 use crate::error::RunErr;
 use outside::Folder;
 use outside_mem::MemFolder;
@@ -26,6 +27,16 @@ struct Entry<'a> {
     text: Option<&'a str>,
 }
 
+// What another program does before a call of the step of a number.
+#[derive(Clone, Copy)]
+struct Planned<'a> {
+    step: usize,
+    call: u64,
+    verb: &'a str,
+    path: &'a str,
+    argument: &'a str,
+}
+
 /// A request, and its reply in words.
 #[derive(Drop)]
 pub(crate) struct Step<'a> {
@@ -45,6 +56,9 @@ pub(crate) struct Script<'a> {
     pub about: &'a str,
     pub steps: Vec<Step<'a>>,
     entries: Vec<Entry<'a>>,
+    planned: Vec<Planned<'a>>,
+    /// Whether what waits in the end is committed.
+    pub is_closed_well: bool,
     // The tree before the first request and after each.
     trees: Vec<String>,
 }
@@ -52,6 +66,14 @@ pub(crate) struct Script<'a> {
 fn number(field: Option<&str>) -> Result<u64, RunErr> {
     let field = field.ok_or(RunErr::Line)?;
     field.parse::<u64>().map_err(|_| RunErr::Line)
+}
+
+fn host_path(path: &str) -> Result<VaultPath, RunErr> {
+    let mut whole = VaultPath::root();
+    for name in path.split('/') {
+        whole = whole.join(name.as_bytes()).map_err(|_| RunErr::Line)?;
+    }
+    Ok(whole)
 }
 
 // A text in which TEXT*N between spaces stands for N times TEXT.
@@ -162,6 +184,8 @@ impl<'a> Script<'a> {
             about,
             steps: Vec::new(alloc),
             entries: Vec::new(alloc),
+            planned: Vec::new(alloc),
+            is_closed_well: true,
             trees: Vec::new(alloc),
         }
     }
@@ -176,6 +200,17 @@ impl<'a> Script<'a> {
             ">" => self.steps.push(Step::read(self.alloc, value)?)?,
             "<" => self.steps.last_mut().ok_or(RunErr::Line)?.reply = value,
             "=" => self.trees.push(expanded(self.alloc, value)?)?,
+            "!" => {
+                let mut words = value.split(' ');
+                self.planned.push(Planned {
+                    step: self.steps.len(),
+                    call: number(words.next())?,
+                    verb: words.next().ok_or(RunErr::Line)?,
+                    path: words.next().ok_or(RunErr::Line)?,
+                    argument: words.next().unwrap_or(""),
+                })?;
+            }
+            "closing" => self.is_closed_well = false,
             _ => return Err(RunErr::Line),
         }
         Ok(())
@@ -185,10 +220,7 @@ impl<'a> Script<'a> {
     pub(crate) fn folder(&self) -> Result<MemFolder, RunErr> {
         let mut folder = MemFolder::new(self.alloc)?;
         for entry in &self.entries {
-            let mut path = VaultPath::root();
-            for name in entry.path.split('/') {
-                path = path.join(name.as_bytes()).map_err(|_| RunErr::Line)?;
-            }
+            let path = host_path(entry.path)?;
             match entry.text {
                 None => folder.make_dir(&path)?,
                 Some(text) => folder.put(&path, text.as_bytes())?,
@@ -196,6 +228,33 @@ impl<'a> Script<'a> {
         }
         folder.sync()?;
         Ok(folder)
+    }
+
+    /// Before which requests another program changes the folder.
+    pub(crate) fn meddled_steps(&self) -> Result<Vec<usize>, RunErr> {
+        let mut steps = Vec::new(self.alloc);
+        for planned in &self.planned {
+            steps.push(planned.step)?;
+        }
+        Ok(steps)
+    }
+
+    /// The first deeds of another program, if the calls of their requests begin with these, the last one first.
+    pub(crate) fn meddlings(&self, begins: &[u64]) -> Result<Vec<Meddling>, RunErr> {
+        let mut meddlings = Vec::new(self.alloc);
+        for (planned, begin) in self.planned.iter().zip(begins).rev() {
+            meddlings.push(Meddling {
+                call: begin.saturating_add(planned.call),
+                path: host_path(planned.path)?,
+                deed: match planned.verb {
+                    "remove" => Deed::Remove,
+                    "cut" => Deed::Cut(number(Some(planned.argument))?),
+                    "put" => Deed::Put(expanded(self.alloc, planned.argument)?),
+                    _ => return Err(RunErr::Line),
+                },
+            })?;
+        }
+        Ok(meddlings)
     }
 
     /// A tree is the one after some number of requests, `least` to `most`.

@@ -2,7 +2,7 @@
 
 use crate::error::RunErr;
 use crate::words::{Node, first_node, words};
-use outside::Refused;
+use outside::{Folder, Refused};
 use outside_mem::{MemFolder, SeedEntropy};
 use std::alloc::Global;
 use tree_model::{Qid, Reply, Request};
@@ -30,7 +30,7 @@ pub(crate) fn seeded(alloc: Global) -> SeedEntropy {
 }
 
 /// Opens the vault in a folder, whose keys are zeros.
-pub(crate) fn open(alloc: Global, folder: MemFolder) -> Result<Vault, Refused<MemFolder, OpenErr>> {
+pub(crate) fn open<D: Folder>(alloc: Global, folder: D) -> Result<Store<D>, Refused<D, OpenErr>> {
     let keys = VaultKeys::new(&[0; 32], &[0; 32]);
     Store::open(alloc, folder, &keys, DEFAULT_THRESHOLD, OPENED)
 }

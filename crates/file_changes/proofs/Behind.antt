@@ -68,6 +68,10 @@ kept_waiting waiting waiting' log log' same =
     told_from log (λ (l : Log). waiting' ≡ waiting)
     (λ l is. (same_told waiting' waiting log' log same).1 (subst (λ (o : Option Log). IsSome o) (sym (kept_log waiting waiting' log log' same ∙ is)) refl))
 
+-- and if both stayed, so does what is laid
+pub laid_still : (waiting waiting' : List PlainDeed) (log log' : Option Log) → waiting' ≡ waiting → log' ≡ log → option_map (laid_log waiting') log' ≡ option_map (laid_log waiting) log
+laid_still waiting waiting' log log' same still = ap (λ (w : List PlainDeed). option_map (laid_log w) log') same ∙ ap (λ (o : Option Log). option_map (laid_log waiting) o) still
+
 -- what is told of a log with what waits is told of it as it is laid
 told_laid : (waiting : List PlainDeed) (log : Option Log) (P : Log → Type 0) → Told log (λ (l : Log). P (laid_log waiting l)) → Told (option_map (laid_log waiting) log) P
 told_laid waiting None P p = tt

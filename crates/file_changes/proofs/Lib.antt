@@ -6,3 +6,4 @@ pub mod Telling
 pub mod Putting
 pub mod Writes
 pub mod Behind
+pub mod Untold

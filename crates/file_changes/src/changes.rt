@@ -22,7 +22,7 @@ use content_writer::WriteErr;
 use node_changes::{ChangeErr, VaultTree};
 use outside::{Entropy, Folder};
 use tree_model::Refusal;
-use write_back::{WriteBack, deeds_rewrite};
+use write_back::{FlushErr, WriteBack, deeds_rewrite};
 
 impl FileChanges {
     /// Writes 1 to 65,537 bytes into the file of a number from byte `at` on, at a second since 1970-01-01. A gap of at most
@@ -30,8 +30,9 @@ impl FileChanges {
     /// written waits; if there is no room for it, what waited before is committed. It takes no memory.
     ///
     /// It is refused as `Damaged` if the file's header or a chunk that keeps a byte doesn't open, as `DeviceFault` if the folder
-    /// failed in a read, as `RandomFault` if the random source failed. After `Broken`, which is of what waited before, the folder's
-    /// count of faults rose, and the tree in memory is the one without the write.
+    /// failed in a read or another program changed a file for which something waited, as `RandomFault` if the random source
+    /// failed. After `Broken`, which is of what waited before, the folder's count of faults rose, and the tree in memory is the
+    /// one without the write.
     pub fn write<D: Folder, E: Entropy>(
         &mut self,
         tree: &mut VaultTree,
@@ -80,9 +81,15 @@ impl FileChanges {
             .writer
             .seal_write(back, tree.keys(), &file, at, bytes, entropy)
         {
-            Ok(()) => match self.put(tree, back, &file, number, now) {
-                Ok(()) => Ok(()),
-                Err(_) => Err(ChangeErr::Broken),
+            Ok(()) => {
+                if back.keep_header(&file.path).is_err() {
+                    return Err(ChangeErr::Refused(Refusal::DeviceFault));
+                }
+                match self.put(tree, back, &file, number, now) {
+                    Ok(()) => Ok(()),
+                    Err(FlushErr::Device) => Err(ChangeErr::Broken),
+                    Err(FlushErr::Dropped) => Err(ChangeErr::Refused(Refusal::DeviceFault)),
+                }
             },
             Err(cause) => Err(ChangeErr::Refused(refusal_of(cause))),
         }
@@ -91,9 +98,9 @@ impl FileChanges {
     /// Gives the file of a number the length 0, at a second since 1970-01-01. That waits as a write does; if there is no room for
     /// it, what waited before is committed. It takes no memory.
     ///
-    /// It is refused as `Damaged` if the file's header doesn't open, as `DeviceFault` if the folder failed in a read, as
-    /// `RandomFault` if the random source failed. After `Broken`, which is of what waited before, the folder's count of faults
-    /// rose, and the tree in memory is the one with the old length.
+    /// It is refused as `Damaged` if the file's header doesn't open, as `DeviceFault` if the folder failed in a read or another
+    /// program changed a file for which something waited, as `RandomFault` if the random source failed. After `Broken`, which is
+    /// of what waited before, the folder's count of faults rose, and the tree in memory is the one with the old length.
     pub fn truncate<D: Folder, E: Entropy>(
         &mut self,
         tree: &mut VaultTree,
@@ -144,9 +151,15 @@ impl FileChanges {
             .writer
             .seal_length(back, tree.keys(), &file, 0, entropy)
         {
-            Ok(()) => match self.put(tree, back, &file, number, now) {
-                Ok(()) => Ok(()),
-                Err(_) => Err(ChangeErr::Broken),
+            Ok(()) => {
+                if back.keep_header(&file.path).is_err() {
+                    return Err(ChangeErr::Refused(Refusal::DeviceFault));
+                }
+                match self.put(tree, back, &file, number, now) {
+                    Ok(()) => Ok(()),
+                    Err(FlushErr::Device) => Err(ChangeErr::Broken),
+                    Err(FlushErr::Dropped) => Err(ChangeErr::Refused(Refusal::DeviceFault)),
+                }
             },
             Err(cause) => Err(ChangeErr::Refused(refusal_of(cause))),
         }
@@ -157,8 +170,8 @@ impl FileChanges {
     /// takes no memory.
     ///
     /// It is refused as `Damaged` if the file's header or a chunk of which a part is kept doesn't open, as `DeviceFault` if the
-    /// folder failed in a read, as `RandomFault` if the random source failed. After `Broken` the folder's count of faults rose,
-    /// and the tree in memory is the one with the other length.
+    /// folder failed in a read or another program took the file away or cut it meanwhile, as `RandomFault` if the random source
+    /// failed. After `Broken` the folder's count of faults rose, and the tree in memory is the one with the other length.
     pub fn resize<D: Folder, E: Entropy>(
         &mut self,
         tree: &mut VaultTree,
@@ -213,7 +226,8 @@ impl FileChanges {
         {
             Ok(()) => match self.commit(tree, journal, &file, number, modified, now) {
                 Ok(()) => Ok(()),
-                Err(_) => Err(ChangeErr::Broken),
+                Err(FlushErr::Device) => Err(ChangeErr::Broken),
+                Err(FlushErr::Dropped) => Err(ChangeErr::Refused(Refusal::DeviceFault)),
             },
             Err(cause) => Err(ChangeErr::Refused(refusal_of(cause))),
         }

@@ -1,19 +1,24 @@
 -- A change of the mtime alone, or of nothing.
-use Rattle.std.proofs.Common.{◌≡◌, ℕ, ◌==◌, List, [], ◌∷◌, map, Bool, true, false, cond, Option, Some, None, is_some, unwrap_or, refl, sym, ap, subst, ◌∙◌, inl, inr, eqb-true, arith}
+use Rattle.std.proofs.Common.{◌≡◌, ℕ, ◌==◌, List, [], ◌∷◌, map, Bool, true, false, ◌||◌, ◌&&◌, not, cond, Option, Some, None, is_some, unwrap_or, refl, sym, ap, subst, ◌∙◌, inl, inr, eqb-true, arith}
 use Rattle.std.specs.Option.{option_map_or}
 use Rattle.std.proofs.lemmas.Option.{same_Some}
 use Rattle.outside.specs.Disk.{Disk, Path as HostPath}
-use Rattle.outside.specs.Images.{disk_in}
+use Rattle.outside.specs.Calls.{Told}
+use Rattle.outside.specs.Images.{Log, disk_in, now}
+use Rattle.deeds.specs.Deeds.{PlainDeed}
+use Rattle.pending_files.specs.Laid.{laid}
 use Rattle.outside.specs.Views.{FolderView, EntropyView}
-use Rattle.outside.proofs.Told.{told_always}
+use Rattle.outside.proofs.Told.{told_always, told_then}
 use Rattle.vault_keys.specs.Keys.{KeyPair}
 use Rattle.tree_model.specs.declared.reply.Reply.TheVariants as replies
 use Rattle.tree_model.specs.declared.refusal.Refusal.TheVariants as refusals
 use Rattle.tree_model.specs.Rows.{Content, Row, Rows, row_of}
-use Rattle.tree_model.specs.Asked.{PlainChange, change, done}
+use Rattle.tree_model.specs.Asked.{PlainChange, PlainReply, change, done}
 use Rattle.tree_model.specs.Step.{Stepped, early, new_length, new_name, place_step, says, set_row, step, stepped, with_mtime}
 use Rattle.tree_model.proofs.Steps.{step_worked}
-use Rattle.tree_model.specs.History.{Made, places, rows_then, IsAnswered}
+use Rattle.tree_model.specs.History.{Made, is_refusal, places, rows_then, IsAnswered}
+use Rattle.crash_laws.specs.Stable.{is_kept}
+use Rattle.file_changes.specs.Waiting.{IsAtRestOver}
 use Rattle.clear_tree.specs.Walk.{Sealing}
 use Rattle.clear_tree.specs.Queue.{In}
 use Rattle.tree_loading.specs.Format.{sealing_of}
@@ -31,7 +36,7 @@ use Rattle.node_changes.proofs.Named.{dating_stands}
 use Rattle.vault_store.specs.Dated.{IsDated}
 use Rattle.vault_store.specs.Open.{running, counted}
 use Rattle.vault_store.specs.Outcome.{HasReply}
-use Rattle.vault_store.specs.Quiet.{IsStillTurn}
+use Rattle.vault_store.specs.Quiet.{IsStill, IsStillTurn}
 use Rattle.vault_store.specs.Sizes.{SizesAreHeld}
 use Rattle.vault_store.proofs.HostReads.{answer_of}
 use Rattle.vault_store.proofs.Replies.{said_unplaced}
@@ -143,3 +148,22 @@ module _ (keys keys' : KeyPair) (live live' : HeldTree) (claims claims' : List (
       formed = record { form = tt; count = tt; enters = refl; rest = refl };
       turn = record { turn = turn; same = refl; is = inl (idle_quiet (running keys live claims entries) (counted (running keys' live' claims' entries)) folder folder source source turn refl refl date_turn) };
     }
+
+    -- of what reads give, whatever waits
+    pub date_still : (buffer : List ℕ) → IsStill (running keys live claims entries) (running keys' live' claims' entries) folder folder source source (change number c) second replies.Done buffer buffer
+    date_still buffer = record { formed = record { form = tt; count = tt; enters = refl; rest = refl }; turn = record { turn = turn; same = refl; is = date_turn } }
+
+-- ---- with what waits
+
+-- an mtime alone is nothing that is to last
+pub date_loose : (number : ℕ) (c : PlainChange) (reply : PlainReply) → c.name ≡ None → c.length ≡ None → is_kept (change number c) reply ≡ false
+date_loose number c reply unnamed uncut = λ i. (is_some (unnamed i) || is_some (uncut i)) && not (is_refusal reply)
+
+dated_stands : (s : Sealing) (d : Disk) (live live' : HeldTree) (claims : List (List ℕ × ℕ)) (contents : ℕ → Content) (number : ℕ) (asked : Option ℕ) → IsDated live live' number asked → StandsOn s d live claims contents → StandsOn s d live' claims contents
+dated_stands s d live live' claims contents number None same stands = subst (λ (l : HeldTree). StandsOn s d l claims contents) (sym same) stands
+dated_stands s d live live' claims contents number (Some modified) is stands = subst (λ (l : HeldTree). StandsOn s d l claims contents) (sym is.0) (dating_stands s d live claims contents number (Some modified) stands)
+
+pub dated_rests : (s : Sealing) (live live' : HeldTree) (claims : List (List ℕ × ℕ)) (waiting : List PlainDeed) (number : ℕ) (asked : Option ℕ) (log : Option Log) → IsDated live live' number asked
+    → Told log (IsAtRestOver s live claims waiting) → Told log (IsAtRestOver s live' claims waiting)
+dated_rests s live live' claims waiting number asked log is rest = told_then log (IsAtRestOver s live claims waiting) (IsAtRestOver s live' claims waiting) rest
+    (λ l r. record { quiet = r.quiet; waits = r.waits; contents = r.contents; stands = dated_stands s (laid waiting (now l)) live live' claims r.contents number asked is r.stands })

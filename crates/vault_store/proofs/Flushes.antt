@@ -1,5 +1,5 @@
 -- Turns in which what waits is committed, or is to be.
-use Rattle.std.proofs.Common.{◌≡◌, ℕ, suc, ◌≤◌, List, [], Bool, true, false, cond, Option, Some, None, IsNone, IsErr, Result, Ok, Err, refl, sym, ap, subst, ◌∙◌, inl, inr, true≢false, arith}
+use Rattle.std.proofs.Common.{◌≡◌, ℕ, suc, ◌≤◌, List, [], Bool, true, false, cond, Option, Some, None, IsNone, IsErr, OnOk, Result, Ok, Err, refl, sym, ap, subst, ◌∙◌, inl, inr, true≢false, arith}
 use Rattle.std.specs.Option.{option_map}
 use Rattle.outside.specs.Calls.{Changes, Rose, Told}
 use Rattle.outside.specs.Disk.{Disk, Path as HostPath}
@@ -21,8 +21,9 @@ use Rattle.tree_model.specs.History.{Made, is_refusal, is_stopped, places, HasCa
 use Rattle.clear_tree.specs.Walk.{Sealing}
 use Rattle.tree_loading.specs.Format.{sealing_of}
 use Rattle.live_tree.specs.Held.{HeldTree, live_rows}
-use Rattle.file_changes.specs.Waiting.{HasPut, IsFlush, IsNotFlushed}
+use Rattle.file_changes.specs.Waiting.{HasPut, IsAtRestOver, IsFlush, IsNotFlushed}
 use Rattle.file_changes.specs.Causes.{ContentCause}
+use Rattle.file_changes.proofs.Untold.{still_untold, untold}
 use Rattle.live_tree_laws.specs.Strays.{KeepsStrays}
 use Rattle.node_changes.specs.Within.{AreWithin}
 use Rattle.node_changes.specs.declared.tree.VaultTree.{VaultTree}
@@ -37,6 +38,8 @@ use Rattle.store_laws.specs.Store.{StoreView, bounded}
 use Rattle.store_laws.specs.Turns.{IsFlushed, IsQuietTurn, IsTurn, Turn, made_of}
 use Rattle.node_changes.proofs.Committing.{early_step}
 use Rattle.vault_store.specs.declared.answering.Broken.{Broken}
+use Rattle.vault_store.specs.declared.flushing.Unflushed.{Unflushed}
+use Rattle.vault_store.specs.declared.flushing.Unflushed.TheVariants as unflushed
 use Rattle.vault_store.specs.Open.{running, counted, view_of}
 use Rattle.vault_store.specs.Outcome.{HasNotFlushed, HasReply, IsFormed, IsFrom, IsOutcome}
 use Rattle.vault_store.specs.Quiet.{IsStill}
@@ -260,14 +263,40 @@ module _ (keys keys' : KeyPair) (live live' : HeldTree) (claims claims' : List (
       (told_first before.log after.log Fails (λ log. IsLate (sealing_of keys) request (laid waiting (now log)) live claims) (λ x y is. is.late) failed)
       (changed_by before.log after.log Fails (AnyMoment waiting) (λ x y is. is.any_moment) failed))
 
--- the commit of what waits, before a request's own work
-pub flush_failed : (tree tree' : VaultTree) (waiting waiting' : List PlainDeed) (entries : ℕ) (before after : FolderView) (source : EntropyView) (request : PlainRequest) (second : ℕ) (broken : Broken) (buffer : List ℕ) → tree' ≡ tree
+-- A folder that tells nothing, of which a fault was counted: the request is refused as that, and what waited may be dropped.
+pub dropped : (tree tree' : VaultTree) (waiting waiting' : List PlainDeed) (entries : ℕ) (before after : FolderView) (source : EntropyView) (request : PlainRequest) (second : ℕ) (buffer : List ℕ) → tree' ≡ tree → before.log ≡ None → after.log ≡ None
+    → before.faults ≤ after.faults → Rose before.faults after.faults → IsOutcome (view_of tree waiting entries None) (view_of tree' waiting' entries None) before after source source request second (Ok (replies.Refused refusals.DeviceFault)) buffer buffer
+dropped tree tree' waiting waiting' entries before after source request second buffer same none none' later rose =
+    refused_outcome (view_of tree waiting entries None) (view_of tree' waiting' entries None) before after source source request second (untold before.log _ none) refusals.DeviceFault buffer
+    (content_refused tree.keys tree'.keys tree.live tree'.live tree.claims tree'.claims entries (over waiting before) (over waiting' after) source source request second
+    (come_undrawn tree.keys tree'.keys (over waiting before) (over waiting' after) source request (ap (λ (t : VaultTree). t.keys) same) later) refusals.DeviceFault buffer
+    (record {
+      live = ap (λ (t : VaultTree). t.live) same;
+      claims = ap (λ (t : VaultTree). t.claims) same;
+      log = same_over waiting waiting' before.log after.log (none' ∙ sym none) (untold before.log _ none);
+    }) rose rose
+    (told_shown waiting before.log (λ d. MayRefuse (sealing_of tree.keys) request second None refusals.DeviceFault d tree.live tree.claims) (untold before.log _ none)))
+
+-- what waited isn't all committed
+pub flush_err : (tree tree' : VaultTree) (waiting waiting' : List PlainDeed) (entries : ℕ) (before after : FolderView) (source : EntropyView) (request : PlainRequest) (second : ℕ) (cause : Unflushed) (result : Result Reply Broken) (buffer : List ℕ)
+    → (cause ≡ unflushed.Broken → IsErr result) → (cause ≡ unflushed.Dropped → result ≡ Ok (replies.Refused refusals.DeviceFault)) → (cause ≡ unflushed.Dropped → before.log ≡ None) → tree' ≡ tree
     → before.faults ≤ after.faults → Rose before.faults after.faults → MayCommit request → ((d : Disk) → IsLate (sealing_of tree.keys) request d tree.live tree.claims) → Changes before.log after.log (AnyMoment waiting)
-    → IsOutcome (view_of tree waiting entries None) (view_of tree' waiting' entries None) before after source source request second (Err broken) buffer buffer
-flush_failed tree tree' waiting waiting' entries before after source request second broken buffer same later rose can late any =
+    → IsOutcome (view_of tree waiting entries None) (view_of tree' waiting' entries None) before after source source request second result buffer buffer
+flush_err tree tree' waiting waiting' entries before after source request second unflushed.Broken (Ok reply) buffer broken drops none same later rose can late any = let no : false ≡ true = broken refl in absurd cc
+flush_err tree tree' waiting waiting' entries before after source request second unflushed.Broken (Err b) buffer broken drops none same later rose can late any =
     inl (not_flushed tree.keys tree'.keys tree.live tree'.live tree.claims tree'.claims waiting waiting' entries before after source source request second buffer
     (come_undrawn tree.keys tree'.keys before after source request (ap (λ (t : VaultTree). t.keys) same) later) (ap (λ (t : VaultTree). t.live) same) rose can
     (told_always before.log (λ log. IsLate (sealing_of tree.keys) request (laid waiting (now log)) tree.live tree.claims) (λ log. late (laid waiting (now log)))) any)
+flush_err tree tree' waiting waiting' entries before after source request second unflushed.Dropped result buffer broken drops none same later rose can late any =
+    subst (λ (r : Result Reply Broken). IsOutcome (view_of tree waiting entries None) (view_of tree' waiting' entries None) before after source source request second r buffer buffer) (sym (drops refl))
+    (dropped tree tree' waiting waiting' entries before after source request second buffer same (none refl) (still_untold before.log after.log (AnyMoment waiting) (none refl) any) later rose)
+
+-- and where that is answered the vault is at rest
+pub rests_unflushed : (s : Sealing) (live : HeldTree) (claims : List (List ℕ × ℕ)) (waiting waiting' : List PlainDeed) (before after : Option Log) (cause : Unflushed) (result : Result Reply Broken) → (cause ≡ unflushed.Broken → IsErr result)
+    → (cause ≡ unflushed.Dropped → before ≡ None) → Changes before after (AnyMoment waiting) → OnOk result (Told after (IsAtRestOver s live claims waiting'))
+rests_unflushed s live claims waiting waiting' before after cause (Err b) broken none any = tt
+rests_unflushed s live claims waiting waiting' before after unflushed.Broken (Ok reply) broken none any = let no : false ≡ true = broken refl in absurd cc
+rests_unflushed s live claims waiting waiting' before after unflushed.Dropped (Ok reply) broken none any = untold after (IsAtRestOver s live claims waiting') (still_untold before after (AnyMoment waiting) (none refl) any)
 
 -- ---- removals that are refused early
 

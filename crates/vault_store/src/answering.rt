@@ -27,7 +27,7 @@ use tree_answers::is_truncating;
 use tree_loading::load;
 use tree_model::{Reply, Request};
 use vault_keys::VaultKeys;
-use write_back::WriteBack;
+use write_back::{Headers, WriteBack};
 
 /// A commit failed: the folder's count of faults rose, and nothing can be answered any more.
 #[derive(Clone, Copy, Debug, PartialEq, Eq)]
@@ -99,6 +99,15 @@ impl<D: Folder> Vault<D> {
                 });
             }
         };
+        let headers = match Headers::new(alloc) {
+            Ok(headers) => headers,
+            Err(_) => {
+                return Err(Refused {
+                    folder,
+                    cause: OpenErr::Memory,
+                });
+            }
+        };
         let mut journal = match Journal::open(alloc, folder) {
             Ok(journal) => journal,
             Err(Refused { folder, cause }) => {
@@ -110,7 +119,7 @@ impl<D: Folder> Vault<D> {
         };
         match load_tree(alloc, &mut journal, keys, threshold, now) {
             Ok(tree) => Ok(Vault {
-                back: WriteBack::new(journal, pending),
+                back: WriteBack::new(journal, pending, headers),
                 tree,
                 reader,
                 files,

@@ -1,12 +1,13 @@
-ghost use Rattle.std.specs.Prelude.{◌≡◌, ◌≤◌, ℕ, List, [], Ok, IsErr};
+ghost use Rattle.std.specs.Prelude.{◌≡◌, ◌≤◌, ℕ, List, [], None, Ok, IsErr};
 ghost use Rattle.outside.specs.Views.{EntropyView, entropy_in};
 ghost use Rattle.tree_model.specs.declared.reply.Reply.TheVariants as replies;
 ghost use Rattle.tree_model.specs.Asked.{create as create_request, remove as remove_request, change as change_request, PlainChange};
 ghost use Rattle.request_checks.specs.Plans.{CanResize, IsPlanned};
+ghost use Rattle.request_checks.specs.declared.planning.Plan.TheVariants.{Date};
 ghost use Rattle.node_changes.specs.Causes.{IfBroken, IfRefused};
 ghost use Rattle.vault_store.specs.Dated.{IsDated};
-ghost use Rattle.vault_store.specs.Open.{IsIdle, Keeps};
-ghost use Rattle.vault_store.specs.Outcome.{HasWorked};
+ghost use Rattle.vault_store.specs.Open.{IsIdle, IsResting, Keeps};
+ghost use Rattle.vault_store.specs.Outcome.{HasAnswered, HasWorked};
 
 use crate::answering::{Broken, Vault};
 use crate::sizes::have_sizes;
@@ -93,6 +94,22 @@ impl<D: Folder> Vault<D> {
             }
             Plan::Resize(len) => self.resize_idle(number, len, modified, now, entropy),
         }
+    }
+}
+
+impl<D: Folder> Vault<D> {
+    /// Sets the mtime that a change asks for, which asks for nothing else. Nothing is committed: an mtime doesn't outlive the run.
+    pub(crate) fn date(&mut self, number: u64, modified: Option<u32>) -> Reply
+        requires rest { IsResting D.Reads self.old }
+        ensures outcome { (now : ℕ) (source : EntropyView) (buffer : List ℕ) (c : PlainChange) → c.modified ≡ modified → c.name ≡ None → c.length ≡ None
+            → IsPlanned self.old.tree.live number c Date
+            → HasAnswered D.Reads self.old self.new source source (change_request number c) now (Ok result) buffer buffer }
+        ensures rest { IsResting D.Reads self.new }
+        ensures keeps { Keeps D.Reads self.old self.new }
+    {
+        have_sizes(self.tree.keys());
+        set_mtime(&mut self.tree, number, modified);
+        Reply::Done
     }
 }
 

@@ -46,7 +46,7 @@ impl ClosedStore {
     ///
     /// # Errors
     ///
-    /// That commit failed, or an earlier one had.
+    /// That commit failed, or dropped what waited for a file that another program had changed; or an earlier commit had failed.
     pub fn committed(&self) -> Result<(), Failed>
         ensures { result ≡ self.now.committed }
     {

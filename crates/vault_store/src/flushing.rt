@@ -1,8 +1,11 @@
-ghost use Rattle.std.specs.Prelude.{◌≡◌, ◌≤◌, ℕ, List, [], None, OnOk, OnErr, IsErr};
+ghost use Rattle.std.specs.Prelude.{◌≡◌, ◌≤◌, ℕ, List, [], None, Ok, OnOk, OnErr, IsErr, IsErrOf, IsTrue};
 ghost use Rattle.outside.specs.Calls.{Changes, HasCause};
 ghost use Rattle.outside.specs.Views.{EntropyView, entropy_in, folder_in};
 ghost use Rattle.chunk_journal.specs.Journal.{AnyMoment};
+ghost use Rattle.tree_model.specs.declared.refusal.Refusal.TheVariants as refusals;
+ghost use Rattle.tree_model.specs.declared.reply.Reply.TheVariants as replies;
 ghost use Rattle.tree_model.specs.Asked.{change as change_request, create as create_request, plain_change, remove as remove_request, sync as sync_request};
+ghost use Rattle.request_checks.specs.declared.planning.Plan.TheVariants.{Date};
 ghost use Rattle.store_laws.specs.Turns.{IsFlushed};
 ghost use Rattle.vault_store.specs.Open.{IsIdle, IsResting, Keeps, idle_of, store_in};
 ghost use Rattle.vault_store.specs.Outcome.{HasAnswered};
@@ -11,18 +14,49 @@ use crate::answering::{Broken, Vault};
 use crate::sizes::have_sizes;
 use node_changes::removal_refusal;
 use outside::{Entropy, Folder};
-use request_checks::{creation_refusal, plan_change};
+use request_checks::{Plan, creation_refusal, plan_change};
 use tree_answers::sync;
 use tree_model::{Refusal, Reply, StatChange};
+use write_back::FlushErr;
 
-// Durable requests are committed as a batch of their own, after what waits. An early refusal commits nothing.
+/// Why what waited isn't all committed: the folder's count of faults rose.
+#[derive(Clone, Copy, Debug, PartialEq, Eq)]
+pub(crate) enum Unflushed {
+    /// The commit failed, and nothing can be answered any more.
+    Broken,
+    /// Another program took away, cut or replaced files whose changes waited. These are dropped, and all else is committed.
+    Dropped,
+}
+
+// What a durable request comes to if what waited isn't all committed.
+fn unflushed_outcome(cause: Unflushed) -> Result<Reply, Broken>
+    ensures broken { cause ≡ Unflushed.Broken → IsErr result }
+    ensures dropped { cause ≡ Unflushed.Dropped → result ≡ Ok (replies.Refused refusals.DeviceFault) }
+{
+    match cause {
+        Unflushed::Broken => Err(Broken),
+        Unflushed::Dropped => Ok(Reply::Refused(Refusal::DeviceFault)),
+    }
+}
+
+// Whether a change that was planned asks for an mtime alone, or for nothing.
+fn is_date_alone(plan: &Plan, change: &StatChange<'_>) -> bool
+    ensures date { IsTrue result → plan.now ≡ Date }
+    ensures name { IsTrue result → (plain_change change.now).name ≡ None }
+    ensures length { IsTrue result → (plain_change change.now).length ≡ None }
+{
+    matches!(plan, Plan::Date) && change.name.is_none() && change.length.is_none()
+}
+
+// Durable requests are committed as a batch of their own, after what waits. An early refusal commits nothing, and no more does an mtime.
 impl<D: Folder> Vault<D> {
-    /// Commits what waits.
-    pub(crate) fn flush(&mut self) -> Result<(), Broken>
+    /// Commits what waits. Afterwards nothing waits.
+    pub(crate) fn flush(&mut self) -> Result<(), Unflushed>
         requires rest { IsResting D.Reads self.old }
         ensures flushed { OnOk result ((entries : ℕ) → IsFlushed (store_in self.old entries None) (idle_of (store_in self.new entries None))
             (folder_in D.Reads self.old.folder) (folder_in D.Reads self.new.folder)) }
         ensures failed { OnErr result (Changes (D.log self.old.folder) (D.log self.new.folder) (AnyMoment self.old.waiting)) }
+        ensures dropped { IsErrOf result Unflushed.Dropped → D.log self.old.folder ≡ None }
         ensures cause { HasCause (D.faults self.old.folder) (D.faults self.new.folder) (IsErr result) }
         ensures idle { self.new.waiting ≡ [] }
         ensures rest { OnOk result (IsIdle D.Reads self.new) }
@@ -30,7 +64,8 @@ impl<D: Folder> Vault<D> {
     {
         match self.back.flush() {
             Ok(()) => Ok(()),
-            Err(_) => Err(Broken),
+            Err(FlushErr::Device) => Err(Unflushed::Broken),
+            Err(FlushErr::Dropped) => Err(Unflushed::Dropped),
         }
     }
 
@@ -54,8 +89,10 @@ impl<D: Folder> Vault<D> {
         if let Some(refusal) = creation_refusal(self.tree.live(), parent, name) {
             return Ok(Reply::Refused(refusal));
         }
-        self.flush()?;
-        self.create_idle(parent, name, is_dir, now, entropy)
+        match self.flush() {
+            Ok(()) => self.create_idle(parent, name, is_dir, now, entropy),
+            Err(cause) => unflushed_outcome(cause),
+        }
     }
 
     /// Removes a node.
@@ -69,8 +106,10 @@ impl<D: Folder> Vault<D> {
         if let Some(refusal) = removal_refusal(self.tree.live(), number) {
             return Ok(Reply::Refused(refusal));
         }
-        self.flush()?;
-        self.remove_idle(number, now)
+        match self.flush() {
+            Ok(()) => self.remove_idle(number, now),
+            Err(cause) => unflushed_outcome(cause),
+        }
     }
 
     /// Changes attributes of a node: its name or its length, and its mtime.
@@ -95,8 +134,13 @@ impl<D: Folder> Vault<D> {
             Ok(Err(refusal)) => return Ok(Reply::Refused(refusal)),
             Err(_) => return Ok(Reply::Refused(Refusal::OutOfMemory)),
         };
-        self.flush()?;
-        self.change_idle(number, plan, change.modified, now, entropy)
+        if is_date_alone(&plan, change) {
+            return Ok(self.date(number, change.modified));
+        }
+        match self.flush() {
+            Ok(()) => self.change_idle(number, plan, change.modified, now, entropy),
+            Err(cause) => unflushed_outcome(cause),
+        }
     }
 
     /// Makes everything acknowledged so far durable.
@@ -112,7 +156,9 @@ impl<D: Folder> Vault<D> {
         if let Reply::Refused(_) = reply {
             return Ok(reply);
         }
-        self.flush()?;
-        Ok(reply)
+        match self.flush() {
+            Ok(()) => Ok(reply),
+            Err(cause) => unflushed_outcome(cause),
+        }
     }
 }

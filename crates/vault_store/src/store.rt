@@ -1,4 +1,4 @@
-ghost use Rattle.std.specs.Prelude.{◌≡◌, ◌≤◌, ◌⊎◌, IsSome, IsNone, length, IfOk, IfErr, OnOk, IsErr};
+ghost use Rattle.std.specs.Prelude.{◌≡◌, ◌≤◌, ◌⊎◌, ◌↔◌, IsTrue, IsSome, IsNone, length, IfOk, IfErr, OnOk, IsErr};
 ghost use Rattle.vault_layout.specs.Limits.{max_threshold};
 ghost use Rattle.outside.specs.Calls.{Changes, Rose};
 ghost use Rattle.chunk_journal.specs.Journal.{AnyMoment};
@@ -67,7 +67,8 @@ impl<D: Folder> Store<D> {
     ///
     /// Each change of the tree's shape or of a length is committed before it is answered, and what waits before it; a write and a truncation
     /// wait, and reads show them at once. If a commit fails, that is answered as the folder's fault, and from then on each request is
-    /// answered that the store stopped there.
+    /// answered that the store stopped there. If another program took away, cut or replaced a file for which something waits, that is
+    /// dropped, and the request that was to commit it is refused as the folder's fault; all else is committed, and the store goes on.
     pub fn serve<E: Entropy>(
         &mut self,
         request: &Request<'_>,
@@ -100,8 +101,15 @@ impl<D: Folder> Store<D> {
         reply
     }
 
+    /// Whether a commit has failed, so that nothing more is done.
+    pub fn is_stopped(&self) -> bool
+        ensures { IsTrue result ↔ IsSome self.now.store.stopped }
+    {
+        self.stopped.is_some()
+    }
+
     /// Closes the vault: has what waits committed, and hands back its folder and what is left in memory. `committed` is `Failed` only if
-    /// that commit failed, which raised the folder's count of faults, or an earlier one did.
+    /// that commit failed or some of it was dropped, which raised the folder's count of faults, or an earlier commit failed.
     pub fn close(self) -> (D, ClosedStore)
         ensures idle { result.1.store ≡ idle_of self.store }
         ensures flushed { IsNone self.store.stopped → OnOk result.1.committed (IsFlushed self.store (idle_of self.store)

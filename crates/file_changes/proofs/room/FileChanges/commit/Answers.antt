@@ -9,5 +9,6 @@ pub commit-done-requires-clause-can : goal.commit-done-requires-clause-can
 commit-done-requires-clause-can g c =
     let r = c.args.self.now.writer in
     let same = same_rewriting r c.first.result c.size.result (chunks_of SEALED_LENGTH c.sealed.result.now) c.first.ensures c.sealed.ensures c.size.ensures in
+    rw c.still_fit.ensures.log (
     can_be_done (g.D.Reads.log c.args.journal.now) c.args.file.now.path c.args.file.now.size r _ c.deeds_rewrite.ensures c.requires.inside c.requires.puttable c.requires.can
-    (c.deeds.ensures.deeds ∙ c.put_chunks.ensures.deeds ∙ ap (deeds_of c.args.file.now.path) same)
+    (c.deeds-2.ensures.deeds ∙ c.put_chunks.ensures.deeds ∙ ap (deeds_of c.args.file.now.path) same))

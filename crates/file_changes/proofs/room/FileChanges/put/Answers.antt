@@ -1,4 +1,5 @@
 use Rattle.std.proofs.Common.{◌≡◌, ℕ, None, sym, ap, subst, arith, length}
+use Rattle.std.proofs.lemmas.Result.{err_from_is_err_and}
 use Rattle.outside.specs.Calls.{Changes, Told}
 use Rattle.outside.proofs.Told.{told_then}
 use Rattle.chunk_journal.specs.Journal.{IsQuiet}
@@ -24,6 +25,11 @@ make_room-requires-clause-quiet g c =
 
 pub make_room-requires-clause-few : goal.make_room-requires-clause-few
 make_room-requires-clause-few g c = omega (arith, c.requires.puttable.few, ap length c.sealed.ensures, chunk_count_is c.sealed.result.now SEALED_LENGTH)
+
+pub returns-in_err-make_room-clause-dropped : goal.returns-in_err-make_room-clause-dropped
+returns-in_err-make_room-clause-dropped g c =
+    let p = err_from_is_err_and c.from_residual.result c.from_residual.ensures.1 in
+    rw (p.1, p.2) c.in_err-make_room.ensures.dropped
 
 pub put-requires-clause-room : goal.put-requires-clause-room
 put-requires-clause-room g c =

@@ -5,8 +5,10 @@ use Rattle.tree_model.specs.Step.{says}
 use Rattle.vault_keys.specs.Keys.{KeyPair}
 use Rattle.tree_loading.specs.Format.{sealing_of}
 use Rattle.file_changes.specs.Waiting.{HasWritten, IsAtRestOver}
+use Rattle.tree_model.specs.declared.refusal.Refusal.TheVariants as refusals
+use Rattle.content_writer.specs.declared.error.WriteErr.TheVariants as write_errs
 use Rattle.file_changes.proofs.Telling.{never_early, content_refused, content_cause, request_cause}
-use Rattle.file_changes.proofs.Behind.{behind_read, changed_since, kept_log, kept_waiting, not_flushed, put_of, sealed_still, told_still}
+use Rattle.file_changes.proofs.Behind.{behind_read, changed_since, kept_log, kept_waiting, laid_still, not_flushed, put_of, sealed_still, told_still}
 use Rattle.file_changes.proofs.Writes.{writing_of}
 use Rattle.file_changes.proofs.room.FileChanges.write.Goals as goal
 use Rattle.file_changes.proofs.Standing.{file_of}
@@ -22,20 +24,22 @@ pub put-requires-clause-rest : goal.put-requires-clause-rest
 put-requires-clause-rest g c =
     let tree = c.args.tree.now in
     let back = c.args.back.now in
-    let between = c.seal_write.new.folder in
-    told_still back.waiting between.waiting (g.D.Reads.log back.folder) (g.D.Reads.log between.folder) c.in-Ok.ensures.log (IsAtRestOver (sealing_of tree.keys) tree.live tree.claims) c.requires.rest
+    let between = c.keep_header.new.self in
+    let same = laid_still c.seal_write.new.folder.waiting between.waiting (g.D.Reads.log c.seal_write.new.folder.folder) (g.D.Reads.log between.folder) c.keep_header.ensures.waiting c.keep_header.ensures.log in
+    told_still back.waiting between.waiting (g.D.Reads.log back.folder) (g.D.Reads.log between.folder) (same ∙ c.in-Ok.ensures.log) (IsAtRestOver (sealing_of tree.keys) tree.live tree.claims) c.requires.rest
 
 pub put-requires-clause-file : goal.put-requires-clause-file
 put-requires-clause-file g c = (c.requires.file.clear, c.sealed_file-file.ensures.file _ _ c.requires.file.is)
 
 -- what is sealed is still so on what was read
 sealed_amid : (g : Over) (c : goal.In-Ok-put g) → IsSealedIn c.args.tree.now.keys c.sealed_file-file.result.path c.sealed_file-file.result.size c.seal_write.new.self (λ content. written content c.args.at c.args.bytes.now)
-    (option_map (laid_log c.seal_write.new.folder.waiting) (g.D.Reads.log c.seal_write.new.folder.folder))
+    (option_map (laid_log c.keep_header.new.self.waiting) (g.D.Reads.log c.keep_header.new.self.folder))
 sealed_amid g c =
     let file = c.sealed_file-file.result in
     let back = c.args.back.now in
-    let between = c.seal_write.new.folder in
-    sealed_still back.waiting between.waiting (g.D.Reads.log back.folder) (g.D.Reads.log between.folder) c.in-Ok.ensures.log c.args.tree.now.keys c.keys-2.result.now file.path file.size c.seal_write.new.self
+    let between = c.keep_header.new.self in
+    let same = laid_still c.seal_write.new.folder.waiting between.waiting (g.D.Reads.log c.seal_write.new.folder.folder) (g.D.Reads.log between.folder) c.keep_header.ensures.waiting c.keep_header.ensures.log in
+    sealed_still back.waiting between.waiting (g.D.Reads.log back.folder) (g.D.Reads.log between.folder) (same ∙ c.in-Ok.ensures.log) c.args.tree.now.keys c.keys-2.result.now file.path file.size c.seal_write.new.self
     (λ content. written content c.args.at c.args.bytes.now) c.keys-2.ensures c.in-Ok.ensures.written
 
 pub returns-in-Ok-put-clause-nonces : goal.returns-in-Ok-put-clause-nonces
@@ -45,12 +49,13 @@ returns-in-Ok-put-clause-nonces g c =
     let file = file_of c.args.tree.now c.args.number c.sealed_file-file.result.size c.requires.file.clear (c.sealed_file-file.ensures.file _ _ c.requires.file.is) in
     let asked = writing_of file (sym (ap (λ (k : KeyPair). length k.enc) c.keys.ensures) ∙ c.have_32_bytes.ensures.enc) c.args.at c.args.bytes.now c.requires.some c.requires.file c.args.now in
     let back = c.args.back.now in
-    let between = c.seal_write.new.folder in
+    let between = c.keep_header.new.self in
+    let same = laid_still c.seal_write.new.folder.waiting between.waiting (g.D.Reads.log c.seal_write.new.folder.folder) (g.D.Reads.log between.folder) c.keep_header.ensures.waiting c.keep_header.ensures.log in
     let before = g.D.Reads.log back.folder in
     let amid = g.D.Reads.log between.folder in
     let drew = g.E.Entropy.drawn c.args.entropy.now in
     let drew' = g.E.Entropy.drawn c.seal_write.new.entropy in
-    changed_since back.waiting between.waiting before amid c.in-Ok.ensures.log
+    changed_since back.waiting between.waiting before amid (same ∙ c.in-Ok.ensures.log)
     (λ waiting. HasWritten (sealing_of tree.keys) asked.request c.args.now asked.answer tree.live new.live tree.claims new.claims waiting c.put.new.back.waiting drew drew') (g.D.Reads.log c.put.new.back.folder)
     (c.in-Ok-put.ensures.written asked.change asked.request asked.answer drew drew' (sealed_amid g c) asked.its c.in-Ok.ensures.drawn)
 
@@ -65,15 +70,38 @@ returns-in-Ok-put-clause-put g c =
 pub returns-in-Ok-put-clause-rest_after : goal.returns-in-Ok-put-clause-rest_after
 returns-in-Ok-put-clause-rest_after g c = c.in-Ok-put.ensures.rest (λ content. written content c.args.at c.args.bytes.now) (sealed_amid g c)
 
-pub returns-in-Err-put-clause-broken : goal.returns-in-Err-put-clause-broken
-returns-in-Err-put-clause-broken g c =
+pub returns-in-Err-Device-clause-broken : goal.returns-in-Err-Device-clause-broken
+returns-in-Err-Device-clause-broken g c =
     let file = file_of c.args.tree.now c.args.number c.sealed_file-file.result.size c.requires.file.clear (c.sealed_file-file.ensures.file _ _ c.requires.file.is) in
     let asked = writing_of file (sym (ap (λ (k : KeyPair). length k.enc) c.keys.ensures) ∙ c.have_32_bytes.ensures.enc) c.args.at c.args.bytes.now c.requires.some c.requires.file c.args.now in
     let back = c.args.back.now in
-    let between = c.seal_write.new.folder in
-    not_flushed back.waiting between.waiting (g.D.Reads.log back.folder) (g.D.Reads.log between.folder) c.in-Ok.ensures.log (sealing_of file.keys) asked.request file.live file.claims
+    let between = c.keep_header.new.self in
+    let same = laid_still c.seal_write.new.folder.waiting between.waiting (g.D.Reads.log c.seal_write.new.folder.folder) (g.D.Reads.log between.folder) c.keep_header.ensures.waiting c.keep_header.ensures.log in
+    not_flushed back.waiting between.waiting (g.D.Reads.log back.folder) (g.D.Reads.log between.folder) (same ∙ c.in-Ok.ensures.log) (sealing_of file.keys) asked.request file.live file.claims
     (never_early (sealing_of file.keys) file.live file.claims c.args.number asked.change None c.args.now asked.request asked.answer asked.its)
-    (g.D.Reads.log c.put.new.back.folder) c.in-Err-put.ensures.any_moment
+    (g.D.Reads.log c.put.new.back.folder) c.in-Err-Device.ensures.any_moment
+
+-- the header couldn't be read: nothing has changed
+pub returns-then-is_err-clause-refused : goal.returns-then-is_err-clause-refused
+returns-then-is_err-clause-refused g c =
+    let file = file_of c.args.tree.now c.args.number c.sealed_file-file.result.size c.requires.file.clear (c.sealed_file-file.ensures.file _ _ c.requires.file.is) in
+    let at = behind_read file c.sealed_file-file.result.path c.sealed_file-file.ensures.path c.keys-2.result.now c.keys-2.ensures c.args.back.now.waiting (g.D.Reads.log c.args.back.now.folder) c.requires.rest in
+    let asked = writing_of file (sym (ap (λ (k : KeyPair). length k.enc) c.keys.ensures) ∙ c.have_32_bytes.ensures.enc) c.args.at c.args.bytes.now c.requires.some c.requires.file c.args.now in
+    content_refused at asked write_errs.Device refusals.DeviceFault refl (λ no. absurd cc)
+
+pub returns-then-is_err-clause-unchanged : goal.returns-then-is_err-clause-unchanged
+returns-then-is_err-clause-unchanged g c =
+    let back = c.args.back.now in
+    let between = c.keep_header.new.self in
+    let same = laid_still c.seal_write.new.folder.waiting between.waiting (g.D.Reads.log c.seal_write.new.folder.folder) (g.D.Reads.log between.folder) c.keep_header.ensures.waiting c.keep_header.ensures.log in
+    record { live = refl; claims = refl; log = kept_log back.waiting between.waiting (g.D.Reads.log back.folder) (g.D.Reads.log between.folder) (same ∙ c.in-Ok.ensures.log) }
+
+pub returns-then-is_err-clause-waiting : goal.returns-then-is_err-clause-waiting
+returns-then-is_err-clause-waiting g c =
+    let back = c.args.back.now in
+    let between = c.keep_header.new.self in
+    let same = laid_still c.seal_write.new.folder.waiting between.waiting (g.D.Reads.log c.seal_write.new.folder.folder) (g.D.Reads.log between.folder) c.keep_header.ensures.waiting c.keep_header.ensures.log in
+    kept_waiting back.waiting between.waiting (g.D.Reads.log back.folder) (g.D.Reads.log between.folder) (same ∙ c.in-Ok.ensures.log)
 
 pub returns-in-Err-clause-refused : goal.returns-in-Err-clause-refused
 returns-in-Err-clause-refused g c =

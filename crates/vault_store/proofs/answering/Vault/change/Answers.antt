@@ -1,5 +1,4 @@
-use Rattle.std.proofs.Common.{◌≡◌, [], true, None, IsSome, refl, ap, subst, sym, ◌∙◌}
-use Rattle.std.proofs.lemmas.Result.{err_from_is_err_and}
+use Rattle.std.proofs.Common.{◌≡◌, Err, [], true, None, IsSome, refl, ap, subst, sym, ◌∙◌}
 use Rattle.outside.specs.Views.{entropy_in, folder_in}
 use Rattle.vault_keys.specs.Keys.{KeyPair}
 use Rattle.tree_loading.specs.Format.{sealing_of}
@@ -13,7 +12,7 @@ use Rattle.node_changes.specs.declared.tree.VaultTree.{VaultTree}
 use Rattle.vault_store.specs.Open.{VaultView, view_of}
 use Rattle.vault_store.specs.Sizes.{SizesAreHeld}
 use Rattle.vault_store.proofs.Changes.{memory_refused, plan_at, plan_late, plan_refused, refusal_at}
-use Rattle.vault_store.proofs.Flushes.{flush_failed}
+use Rattle.vault_store.proofs.Flushes.{flush_err, rests_unflushed}
 use Rattle.vault_store.proofs.Rests.{rest_waits, rests}
 use Rattle.vault_store.proofs.Waiting.{after_flush, over, refused_outcome}
 use Rattle.vault_store.proofs.answering.Vault.change.Goals as goal
@@ -49,17 +48,17 @@ pub change_idle-requires-clause-planned : goal.change_idle-requires-clause-plann
 change_idle-requires-clause-planned g c =
     let asked = plain_change c.args.change.now in (
       asked,
-      subst (λ (l : HeldTree). IsPlanned l c.args.number asked c.in-Ok-Ok.plan) (c.live.ensures ∙ ap (λ (v : VaultView g.row.D.Denot). v.tree.live) c.self.view_is ∙ ap (λ (t : VaultTree). t.live) (sym c.in_ok-flush.ensures.tree))
+      subst (λ (l : HeldTree). IsPlanned l c.args.number asked c.in-Ok-Ok.plan) (c.live.ensures ∙ ap (λ (v : VaultView g.row.D.Denot). v.tree.live) c.self.view_is ∙ ap (λ (t : VaultTree). t.live) (sym c.in-Ok.ensures.tree))
           (plan_at (IsPlanned c.live.result.now c.args.number asked) c.in-Ok-Ok.field-0 c.in-Ok-Ok.plan c.in-Ok-Ok.plan c.in-Ok-Ok.field-0-is refl c.in-Ok-Ok.ensures.planned),
     )
 
 pub change_idle-requires-clause-resizable : goal.change_idle-requires-clause-resizable
 change_idle-requires-clause-resizable g c =
-    subst (λ (l : HeldTree). CanResize l c.args.number c.in-Ok-Ok.plan) (c.live.ensures ∙ ap (λ (v : VaultView g.row.D.Denot). v.tree.live) c.self.view_is ∙ ap (λ (t : VaultTree). t.live) (sym c.in_ok-flush.ensures.tree))
+    subst (λ (l : HeldTree). CanResize l c.args.number c.in-Ok-Ok.plan) (c.live.ensures ∙ ap (λ (v : VaultView g.row.D.Denot). v.tree.live) c.self.view_is ∙ ap (λ (t : VaultTree). t.live) (sym c.in-Ok.ensures.tree))
     (plan_at (CanResize c.live.result.now c.args.number) c.in-Ok-Ok.field-0 c.in-Ok-Ok.plan c.in-Ok-Ok.plan c.in-Ok-Ok.field-0-is refl c.in-Ok-Ok.ensures.resizable)
 
-pub returns-clause-outcome : goal.returns-clause-outcome
-returns-clause-outcome g c = λ buffer entries.
+pub returns-in-Ok-clause-outcome : goal.returns-in-Ok-clause-outcome
+returns-in-Ok-clause-outcome g c = λ buffer entries.
     let tree = c.args.self.now.tree in
     let back = c.args.self.now in
     let before = folder_in g.D.Reads back.folder in
@@ -68,13 +67,13 @@ returns-clause-outcome g c = λ buffer entries.
     let source = entropy_in g.E.Entropy c.args.entropy.now in
     let source' = entropy_in g.E.Entropy c.change_idle.new.entropy in
     let asked = plain_change c.args.change.now in
-    let planned = subst (λ (l : HeldTree). IsPlanned l c.args.number asked c.in-Ok-Ok.plan) (c.live.ensures ∙ ap (λ (v : VaultView g.row.D.Denot). v.tree.live) c.self.view_is ∙ ap (λ (t : VaultTree). t.live) (sym c.in_ok-flush.ensures.tree))
+    let planned = subst (λ (l : HeldTree). IsPlanned l c.args.number asked c.in-Ok-Ok.plan) (c.live.ensures ∙ ap (λ (v : VaultView g.row.D.Denot). v.tree.live) c.self.view_is ∙ ap (λ (t : VaultTree). t.live) (sym c.in-Ok.ensures.tree))
     (plan_at (IsPlanned c.live.result.now c.args.number asked) c.in-Ok-Ok.field-0 c.in-Ok-Ok.plan c.in-Ok-Ok.plan c.in-Ok-Ok.field-0-is refl c.in-Ok-Ok.ensures.planned) in
     after_flush (view_of tree back.waiting entries None) c.flush.new.self.tree c.change_idle.new.self.tree c.change_idle.new.self.waiting entries before amid after source source' (change c.args.number asked) c.args.now
-    c.change_idle.result buffer buffer c.change_idle.ensures.idle (c.in_ok-flush.ensures.flushed entries) (c.change_idle.ensures.outcome buffer asked refl planned entries)
+    c.change_idle.result buffer buffer c.change_idle.ensures.idle (c.in-Ok.ensures.flushed entries) (c.change_idle.ensures.outcome buffer asked refl planned entries)
 
-pub returns-clause-rest : goal.returns-clause-rest
-returns-clause-rest g c =
+pub returns-in-Ok-clause-rest : goal.returns-in-Ok-clause-rest
+returns-in-Ok-clause-rest g c =
     let amid = folder_in g.D.Reads c.flush.new.self.folder in
     let after = folder_in g.D.Reads c.change_idle.new.self.folder in
     let was = c.flush.new.self.tree in
@@ -82,13 +81,13 @@ returns-clause-rest g c =
     let source = entropy_in g.E.Entropy c.args.entropy.now in
     let source' = entropy_in g.E.Entropy c.change_idle.new.entropy in
     let asked = plain_change c.args.change.now in
-    let planned = subst (λ (l : HeldTree). IsPlanned l c.args.number asked c.in-Ok-Ok.plan) (c.live.ensures ∙ ap (λ (v : VaultView g.row.D.Denot). v.tree.live) c.self.view_is ∙ ap (λ (t : VaultTree). t.live) (sym c.in_ok-flush.ensures.tree))
+    let planned = subst (λ (l : HeldTree). IsPlanned l c.args.number asked c.in-Ok-Ok.plan) (c.live.ensures ∙ ap (λ (v : VaultView g.row.D.Denot). v.tree.live) c.self.view_is ∙ ap (λ (t : VaultTree). t.live) (sym c.in-Ok.ensures.tree))
     (plan_at (IsPlanned c.live.result.now c.args.number asked) c.in-Ok-Ok.field-0 c.in-Ok-Ok.plan c.in-Ok-Ok.plan c.in-Ok-Ok.field-0-is refl c.in-Ok-Ok.ensures.planned) in
     rests was.keys new.tree.keys was.live new.tree.live was.claims new.tree.claims 0 amid after source source' (change c.args.number asked) c.args.now c.change_idle.result [] [] new.waiting
-    c.change_idle.ensures.keeps.keys c.change_idle.ensures.idle c.in_ok-flush.ensures.rest.rest (c.change_idle.ensures.outcome [] asked refl planned 0)
+    c.change_idle.ensures.keeps.keys c.change_idle.ensures.idle c.in-Ok.ensures.rest.rest (c.change_idle.ensures.outcome [] asked refl planned 0)
 
-pub returns-in_err-flush-clause-outcome : goal.returns-in_err-flush-clause-outcome
-returns-in_err-flush-clause-outcome g c = λ buffer entries.
+pub returns-in-Err-flush-clause-outcome : goal.returns-in-Err-flush-clause-outcome
+returns-in-Err-flush-clause-outcome g c = λ buffer entries.
     let tree = c.args.self.now.tree in
     let back = c.args.self.now in
     let before = folder_in g.D.Reads back.folder in
@@ -98,8 +97,13 @@ returns-in_err-flush-clause-outcome g c = λ buffer entries.
     let sizes = subst (λ (k : KeyPair). SizesAreHeld (sealing_of k)) (c.keys.ensures ∙ ap (λ (v : VaultView g.row.D.Denot). v.tree.keys) c.self.view_is) c.have_sizes.ensures in
     let planned = subst (λ (l : HeldTree). IsPlanned l c.args.number asked c.in-Ok-Ok.plan) (c.live.ensures ∙ ap (λ (v : VaultView g.row.D.Denot). v.tree.live) c.self.view_is)
     (plan_at (IsPlanned c.live.result.now c.args.number asked) c.in-Ok-Ok.field-0 c.in-Ok-Ok.plan c.in-Ok-Ok.plan c.in-Ok-Ok.field-0-is refl c.in-Ok-Ok.ensures.planned) in
-    let p = err_from_is_err_and c.from_residual.result c.from_residual.ensures.1 in
-    rw p.1 (
-    flush_failed tree c.flush.new.self.tree back.waiting c.flush.new.self.waiting entries before after source (change c.args.number asked) c.args.now p.0 buffer c.in_err-flush.ensures.tree
-    c.in_err-flush.ensures.cause.later (c.in_err-flush.ensures.cause.rose refl) tt (plan_late tree.keys tree.live tree.claims c.args.number asked sizes c.in-Ok-Ok.plan planned)
-    c.in_err-flush.ensures.failed)
+    flush_err tree c.flush.new.self.tree back.waiting c.flush.new.self.waiting entries before after source (change c.args.number asked) c.args.now c.in-Err-flush.cause c.unflushed_outcome.result buffer c.unflushed_outcome.ensures.broken c.unflushed_outcome.ensures.dropped
+    (λ is. c.in-Err-flush.ensures.dropped (ap Err is)) c.in-Err-flush.ensures.tree
+    c.in-Err-flush.ensures.cause.later (c.in-Err-flush.ensures.cause.rose refl) tt (plan_late tree.keys tree.live tree.claims c.args.number asked sizes c.in-Ok-Ok.plan planned)
+    c.in-Err-flush.ensures.failed
+
+pub returns-in-Err-flush-clause-rest : goal.returns-in-Err-flush-clause-rest
+returns-in-Err-flush-clause-rest g c =
+    let new = c.flush.new.self in
+    rests_unflushed (sealing_of new.tree.keys) new.tree.live new.tree.claims c.args.self.now.waiting new.waiting (g.D.Reads.log c.args.self.now.folder) (g.D.Reads.log new.folder) c.in-Err-flush.cause c.unflushed_outcome.result c.unflushed_outcome.ensures.broken
+    (λ is. c.in-Err-flush.ensures.dropped (ap Err is)) c.in-Err-flush.ensures.failed

@@ -1,9 +1,9 @@
-use Rattle.std.proofs.Common.{refl, sym, subst}
+use Rattle.std.proofs.Common.{Err, ap, refl, sym, subst}
 use Rattle.tree_loading.specs.Format.{sealing_of}
 use Rattle.vault_store.specs.Open.{IsResting, VaultView}
 use Rattle.vault_store.proofs.Rests.{rest_quiet, rests_flushed}
 use Rattle.vault_store.proofs.answering.Vault.flush.Goals as goal
-use Rattle.vault_store.proofs.answering.Vault.flush.Goals.{in-Ok, in-Err}
+use Rattle.vault_store.proofs.answering.Vault.flush.Goals.{in-Ok, in-Err-Device, in-Err-Dropped}
 
 pub flush-requires : goal.flush-requires
 flush-requires g c =
@@ -23,7 +23,16 @@ returns-clause-flushed g c =
             committed = w.in-Ok.ensures.committed;
             any_moment = w.in-Ok.ensures.any_moment;
           })
-      | in-Err w ↦ rw w.result-is tt
+      | in-Err-Device w ↦ rw w.result-is tt
+      | in-Err-Dropped w ↦ rw w.result-is tt
+    ])
+
+pub returns-clause-dropped : goal.returns-clause-dropped
+returns-clause-dropped g c =
+    rw (← c.self.view_is) (elim c.match-flush.branch [
+      | in-Ok w ↦ rw w.result-is (λ no. absurd cc)
+      | in-Err-Device w ↦ rw w.result-is (λ no. absurd cc)
+      | in-Err-Dropped w ↦ rw w.result-is (λ is. w.in-Err-Dropped.ensures.dropped (ap Err w.in-Err-Dropped.field-0-is))
     ])
 
 pub returns-clause-rest : goal.returns-clause-rest
@@ -37,5 +46,6 @@ returns-clause-rest g c =
             none = c.flush.ensures.none;
             rest = rests_flushed (sealing_of tree.keys) tree.live tree.claims back.waiting (g.D.Reads.log back.folder) (g.D.Reads.log c.flush.new.self.folder) rest w.in-Ok.ensures.committed;
           })
-      | in-Err w ↦ rw w.result-is tt
+      | in-Err-Device w ↦ rw w.result-is tt
+      | in-Err-Dropped w ↦ rw w.result-is tt
     ]
