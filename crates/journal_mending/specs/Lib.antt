@@ -1,0 +1,4 @@
+pub mod Lengths
+pub mod Mending
+pub mod Looks
+pub mod Kept
