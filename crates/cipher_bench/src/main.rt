@@ -3,10 +3,12 @@
 //!
 //! - `scrypt N R P TIMES`: derives a key of 64 bytes, which is printed; zeros where it is derived no time.
 //! - `gcm WHAT BYTES TIMES`: seals or opens a text of so many bytes, or makes a key ready (`seal`, `open`, `key` or `header`), and prints the last tag.
+//! - `ctrmac WHAT BYTES TIMES`: seals or opens a chunk of so many bytes under SIV_CTRMAC (`seal` or `open`), and prints the end of the last HMAC.
 //! - `siv HOW BYTES TIMES`: seals a name of so many bytes with AES in lanes or a block at a time, or makes its tag alone, in lanes (`lanes`,
 //!   `blocks` or `tag`), and prints the last tag.
 #![tactic(auto)]
 
+mod ctrmac;
 mod gcm;
 mod scrypt;
 mod siv;
@@ -25,6 +27,7 @@ fn measured<'a>(
     let (line, count) = match cipher {
         "scrypt" => (scrypt::measured(alloc, words)?, scrypt::WORDS),
         "gcm" => (gcm::measured(alloc, words)?, gcm::WORDS),
+        "ctrmac" => (ctrmac::measured(alloc, words)?, ctrmac::WORDS),
         "siv" => (siv::measured(alloc, words)?, siv::WORDS),
         _ => return Err(BenchErr::Words),
     };

@@ -2,7 +2,9 @@
 
 ghost use Rattle.std.specs.Prelude.{◌≤◌, IfOk};
 
+use ctrmac_chunks::Damaged;
 use gcm_mode::BadTag;
+use outside::Failed;
 use scrypt_kdf::ScryptErr;
 use std::alloc::AllocError;
 use std::io;
@@ -11,12 +13,16 @@ use thiserror::Error;
 /// Why nothing is printed.
 #[derive(Debug, Drop, Error)]
 pub(crate) enum BenchErr {
-    #[error("the words are: scrypt N R P TIMES, gcm seal|open|key|header BYTES TIMES, siv lanes|blocks|tag BYTES TIMES")]
+    #[error("the words are: scrypt N R P TIMES, gcm seal|open|key|header BYTES TIMES, ctrmac seal|open BYTES TIMES, siv lanes|blocks|tag BYTES TIMES")]
     Words,
     #[error("{0}")]
     Scrypt(#[from] ScryptErr),
     #[error("{0}")]
     Tag(#[from] BadTag),
+    #[error("{0}")]
+    Chunk(#[from] Damaged),
+    #[error("{0}")]
+    Entropy(#[from] Failed),
     #[error("{0}")]
     Io(#[from] io::Error),
     #[error("out of memory")]

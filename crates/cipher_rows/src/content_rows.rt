@@ -127,10 +127,10 @@ pub(crate) fn check_spans() -> Result<(), RowErr> {
     Ok(())
 }
 
-// Random bytes that count up.
+/// Random bytes that count up.
 #[derive(Drop)]
-struct Counter {
-    next: u8,
+pub(crate) struct Counter {
+    pub(crate) next: u8,
 }
 
 impl Entropy for Counter {

@@ -9,6 +9,8 @@
 
 mod block_rows;
 mod content_rows;
+mod counter_rows;
+mod ctrmac_rows;
 mod folder_rows;
 mod gcm_rows;
 mod mac_rows;
@@ -84,7 +86,7 @@ fn check_file<F: Fn(Global, &str) -> Result<(), RowErr>>(
     }
 }
 
-// The ciphers: AES, CMAC, SIV and key wrap.
+// The ciphers: AES, CMAC, SIV, key wrap and counter mode.
 fn check_ciphers(rt: &HostRuntime) -> io::Result<bool> {
     let mut passed = check_file(rt, "aes-fips197", block_rows::aes)?;
     passed &= check_file(rt, "aes", block_rows::aes)?;
@@ -95,6 +97,8 @@ fn check_ciphers(rt: &HostRuntime) -> io::Result<bool> {
     passed &= check_file(rt, "siv", siv_rows::siv)?;
     passed &= check_file(rt, "keywrap-rfc3394", wrap_rows::key_wrap)?;
     passed &= check_file(rt, "keywrap", wrap_rows::key_wrap)?;
+    passed &= check_file(rt, "ctr-sp800-38a", counter_rows::counted)?;
+    passed &= check_file(rt, "ctr", counter_rows::counted)?;
     Ok(passed)
 }
 
@@ -110,11 +114,12 @@ fn check_passwords(rt: &HostRuntime) -> io::Result<bool> {
     Ok(passed)
 }
 
-// What is sealed by GCM: texts, and contents of files.
+// What is sealed by GCM: texts; and contents of files.
 fn check_contents(rt: &HostRuntime) -> io::Result<bool> {
     let mut passed = check_file(rt, "gcm", gcm_rows::gcm)?;
     passed &= check_file(rt, "gcm-submission", gcm_rows::gcm)?;
     passed &= check_file(rt, "contents-SIV_GCM", content_rows::content)?;
+    passed &= check_file(rt, "contents-SIV_CTRMAC", ctrmac_rows::content)?;
     match gcm_rows::check_lengths(rt.alloc()) {
         Ok(count) => println!(rt; "lengths {count} rows")?,
         Err(error) => {
@@ -143,7 +148,8 @@ fn check_more() -> Result<(), RowErr> {
     block_rows::check_bytes()?;
     content_rows::check_sizes()?;
     content_rows::check_spans()?;
-    content_rows::check_round_trip()
+    content_rows::check_round_trip()?;
+    ctrmac_rows::check_round_trip()
 }
 
 fn print_more(rt: &HostRuntime) -> io::Result<bool> {

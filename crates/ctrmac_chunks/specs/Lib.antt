@@ -1,0 +1,4 @@
+pub mod Sizes
+pub mod Envelope
+pub mod Header
+pub mod Chunk
