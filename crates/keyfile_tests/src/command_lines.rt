@@ -1,8 +1,8 @@
 use std::alloc::{AllocError, Global};
 use std::test::Fail;
 use vault_words::{
-    Job, Making, Serving, Topic, VERSION, Verbosity, WordsErr, complaint, help_text, read_words,
-    vaultd,
+    Job, Making, Recovering, Serving, Topic, VERSION, Verbosity, Way, WordsErr, complaint,
+    help_text, read_words, vaultd,
 };
 
 // Words with a space between each two.
@@ -145,11 +145,33 @@ fn each_job_has_its_words(rt: HostRuntime) -> Result<(), Fail> {
             },
         ),
         ("sync unix:a", Job::Sync { address: "unix:a" }),
+        (
+            "recover v",
+            Job::Recover(Recovering {
+                dir: "v",
+                way: Way::Show,
+            }),
+        ),
+        (
+            "recover --skip v",
+            Job::Recover(Recovering {
+                dir: "v",
+                way: Way::Skip,
+            }),
+        ),
+        (
+            "recover v --discard",
+            Job::Recover(Recovering {
+                dir: "v",
+                way: Way::Discard,
+            }),
+        ),
         ("help", Job::Help(Topic::Program)),
         ("help serve", Job::Help(Topic::Serve)),
         ("help make", Job::Help(Topic::Make)),
         ("help demo", Job::Help(Topic::Demo)),
         ("help sync", Job::Help(Topic::Sync)),
+        ("help recover", Job::Help(Topic::Recover)),
         ("serve v -h", Job::Help(Topic::Serve)),
         ("--help serve", Job::Help(Topic::Program)),
         ("-V", Job::Version),
@@ -178,6 +200,7 @@ fn texts_are_claps(rt: HostRuntime) -> Result<(), Fail> {
         ("make --help", Topic::Make),
         ("demo --help", Topic::Demo),
         ("sync --help", Topic::Sync),
+        ("recover --help", Topic::Recover),
     ] {
         let words = words(rt.alloc(), line)?;
         let answer = answer(rt.alloc(), &words)?;
@@ -221,6 +244,10 @@ fn complaints_name_the_word(rt: HostRuntime) -> Result<(), Fail> {
         (
             "serve v --listen - --idle=1000001 -qv",
             "error: invalid value '1000001' for '--idle <SECONDS>': 0 to 1000000\n",
+        ),
+        (
+            "recover v --discard --skip",
+            "error: the argument '--skip' cannot be used with '--discard'\n",
         ),
         (
             "demo --seed 0 --clients 0 --requests 0",
@@ -288,6 +315,11 @@ fn other_words_are_refused(rt: HostRuntime) -> Result<(), Fail> {
         "sync",
         "sync a b",
         "sync --listen a",
+        "recover",
+        "recover v w",
+        "recover v --skip --discard",
+        "recover v --skip --skip",
+        "recover v --raw-key",
         "help help",
         "help serv",
         "help serve make",

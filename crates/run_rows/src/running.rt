@@ -8,6 +8,7 @@ use outside_mem::{
 };
 use std::alloc::{AllocError, Global};
 use std::sync::Wait;
+use std::sync::atomic::AtomicBool;
 use std::thread::Threads;
 use vault_top::{Ended, Worker, run};
 
@@ -154,6 +155,7 @@ pub(crate) fn run_words<R: Threads + Wait + Sync>(
         report,
         &mut SetClock::new(SECOND),
         &OpenGate,
+        &AtomicBool::new(false),
     ))
 }
 

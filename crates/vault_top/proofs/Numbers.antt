@@ -8,7 +8,7 @@ use Rattle.std.proofs.lemmas.Bool.{leb-true}
 use Rattle.clap.specs.Words.{Row, Text, first_of, subcommand_of}
 use Rattle.vault_words.specs.Command.{vaultd}
 use Rattle.vault_words.specs.Numbers.{is_decimal, number_in}
-use Rattle.vault_words.specs.Jobs.{Job, Making, Serving, Demonstration, serve, make, demo, sync, help, version, AsksFor, has_flag, job_in, job_named, making_in, serving_in, sessions_in, demonstration_in, number_at, topic_in, verbosity_in}
+use Rattle.vault_words.specs.Jobs.{Job, Making, Serving, Demonstration, Recovering, serve, make, demo, sync, recover, help, version, AsksFor, has_flag, job_in, job_named, making_in, recovering_in, serving_in, sessions_in, demonstration_in, number_at, topic_in, verbosity_in}
 use Rattle.vault_words.specs.declared.job.Topic.{Topic}
 use Rattle.vault_words.specs.declared.job.Verbosity.{Verbosity}
 use Rattle.vault_top.specs.Words.{most_sessions, sessions_of}
@@ -85,37 +85,39 @@ serving_most (Some d) (Some a) (Some n) (Some m) (Some i) (Some v) raw_key read_
     let e : made ≡ s = cc in
     subst (λ (x : Serving). (sessions_of x < 2 ^ 32) × (x.at_once ≤ 64)) e (few n refl, least m refl)
 
-named_serve : (a b c d e : Bool) (x : Option Serving) (y : Option Making) (z : Option Demonstration) (u : Option Text) (v : Option Topic) (s : Serving)
-    → cond a (option_map serve x) (cond b (option_map make y) (cond c (option_map demo z) (cond d (option_map sync u) (cond e (option_map help v) None)))) ≡ Some (serve s) → x ≡ Some s
-named_serve true b c d e None y z u v s h = absurd cc
-named_serve true b c d e (Some t) y z u v s h = let is : serve t ≡ serve s = cc in let same : t ≡ s = cc in ap Some same
-named_serve false true c d e x y z u v s h = absurd (of_found make y (serve s) (λ m is. cc) h)
-named_serve false false true d e x y z u v s h = absurd (of_found demo z (serve s) (λ m is. cc) h)
-named_serve false false false true e x y z u v s h = absurd (of_found sync u (serve s) (λ m is. cc) h)
-named_serve false false false false true x y z u v s h = absurd (of_found help v (serve s) (λ m is. cc) h)
-named_serve false false false false false x y z u v s h = absurd cc
+named_serve : (a b c d r e : Bool) (x : Option Serving) (y : Option Making) (z : Option Demonstration) (u : Option Text) (w : Option Recovering) (v : Option Topic) (s : Serving)
+    → cond a (option_map serve x) (cond b (option_map make y) (cond c (option_map demo z) (cond d (option_map sync u) (cond r (option_map recover w) (cond e (option_map help v) None))))) ≡ Some (serve s) → x ≡ Some s
+named_serve true b c d r e None y z u w v s h = absurd cc
+named_serve true b c d r e (Some t) y z u w v s h = let is : serve t ≡ serve s = cc in let same : t ≡ s = cc in ap Some same
+named_serve false true c d r e x y z u w v s h = absurd (of_found make y (serve s) (λ m is. cc) h)
+named_serve false false true d r e x y z u w v s h = absurd (of_found demo z (serve s) (λ m is. cc) h)
+named_serve false false false true r e x y z u w v s h = absurd (of_found sync u (serve s) (λ m is. cc) h)
+named_serve false false false false true e x y z u w v s h = absurd (of_found recover w (serve s) (λ m is. cc) h)
+named_serve false false false false false true x y z u w v s h = absurd (of_found help v (serve s) (λ m is. cc) h)
+named_serve false false false false false false x y z u w v s h = absurd cc
 
-named_demo : (a b c d e : Bool) (x : Option Serving) (y : Option Making) (z : Option Demonstration) (u : Option Text) (v : Option Topic) (s : Demonstration)
-    → cond a (option_map serve x) (cond b (option_map make y) (cond c (option_map demo z) (cond d (option_map sync u) (cond e (option_map help v) None)))) ≡ Some (demo s) → z ≡ Some s
-named_demo true b c d e x y z u v s h = absurd (of_found serve x (demo s) (λ m is. cc) h)
-named_demo false true c d e x y z u v s h = absurd (of_found make y (demo s) (λ m is. cc) h)
-named_demo false false true d e x y None u v s h = absurd cc
-named_demo false false true d e x y (Some t) u v s h = let is : demo t ≡ demo s = cc in let same : t ≡ s = cc in ap Some same
-named_demo false false false true e x y z u v s h = absurd (of_found sync u (demo s) (λ m is. cc) h)
-named_demo false false false false true x y z u v s h = absurd (of_found help v (demo s) (λ m is. cc) h)
-named_demo false false false false false x y z u v s h = absurd cc
+named_demo : (a b c d r e : Bool) (x : Option Serving) (y : Option Making) (z : Option Demonstration) (u : Option Text) (w : Option Recovering) (v : Option Topic) (s : Demonstration)
+    → cond a (option_map serve x) (cond b (option_map make y) (cond c (option_map demo z) (cond d (option_map sync u) (cond r (option_map recover w) (cond e (option_map help v) None))))) ≡ Some (demo s) → z ≡ Some s
+named_demo true b c d r e x y z u w v s h = absurd (of_found serve x (demo s) (λ m is. cc) h)
+named_demo false true c d r e x y z u w v s h = absurd (of_found make y (demo s) (λ m is. cc) h)
+named_demo false false true d r e x y None u w v s h = absurd cc
+named_demo false false true d r e x y (Some t) u w v s h = let is : demo t ≡ demo s = cc in let same : t ≡ s = cc in ap Some same
+named_demo false false false true r e x y z u w v s h = absurd (of_found sync u (demo s) (λ m is. cc) h)
+named_demo false false false false true e x y z u w v s h = absurd (of_found recover w (demo s) (λ m is. cc) h)
+named_demo false false false false false true x y z u w v s h = absurd (of_found help v (demo s) (λ m is. cc) h)
+named_demo false false false false false false x y z u w v s h = absurd cc
 
 -- the tests of a command's name
 module _ (name : Text) (rows : List Row) where
   found_serving : (s : Serving) → job_named name rows ≡ Some (serve s) → serving_in rows ≡ Some s
   found_serving s h =
-      named_serve (bytes_eq name (codes "serve")) (bytes_eq name (codes "make")) (bytes_eq name (codes "demo")) (bytes_eq name (codes "sync")) (bytes_eq name (codes "help")) (serving_in rows) (making_in rows) (demonstration_in rows)
-      (first_of (codes "address") rows) (topic_in rows) s h
+      named_serve (bytes_eq name (codes "serve")) (bytes_eq name (codes "make")) (bytes_eq name (codes "demo")) (bytes_eq name (codes "sync")) (bytes_eq name (codes "recover")) (bytes_eq name (codes "help")) (serving_in rows) (making_in rows) (demonstration_in rows)
+      (first_of (codes "address") rows) (recovering_in rows) (topic_in rows) s h
 
   found_demonstration : (d : Demonstration) → job_named name rows ≡ Some (demo d) → demonstration_in rows ≡ Some d
   found_demonstration d h =
-      named_demo (bytes_eq name (codes "serve")) (bytes_eq name (codes "make")) (bytes_eq name (codes "demo")) (bytes_eq name (codes "sync")) (bytes_eq name (codes "help")) (serving_in rows) (making_in rows) (demonstration_in rows)
-      (first_of (codes "address") rows) (topic_in rows) d h
+      named_demo (bytes_eq name (codes "serve")) (bytes_eq name (codes "make")) (bytes_eq name (codes "demo")) (bytes_eq name (codes "sync")) (bytes_eq name (codes "recover")) (bytes_eq name (codes "help")) (serving_in rows) (making_in rows) (demonstration_in rows)
+      (first_of (codes "address") rows) (recovering_in rows) (topic_in rows) d h
 
 found_serve : (found : Option (Text × List Row)) (s : Serving) → job_in found ≡ Some (serve s) → (sessions_of s < 2 ^ 32) × (s.at_once ≤ 64)
 found_serve None s h = absurd cc
@@ -151,5 +153,6 @@ within (serve s) words h = found_serve (subcommand_of vaultd words) s h.1
 within (make m) words h = tt
 within (demo d) words h = found_demo (subcommand_of vaultd words) d h.1
 within (sync address) words h = tt
+within (recover r) words h = tt
 within (help topic) words h = tt
 within version words h = tt

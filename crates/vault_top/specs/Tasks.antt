@@ -1,7 +1,7 @@
 -- Jobs as the code does them.
 use Rattle.std.specs.Prelude.{◌≡◌, ◌<◌, ◌≤◌, ◌^◌, List, ⊤}
 use Rattle.clap.specs.Words.{Text}
-use Rattle.vault_words.specs.Jobs.{Job, Making, Serving, Demonstration, serve, make, demo, sync, help, version}
+use Rattle.vault_words.specs.Jobs.{Job, Making, Serving, Demonstration, serve, make, demo, sync, recover, help, version}
 use Rattle.vault_words.specs.declared.job.WordsErr.{WordsErr}
 use Rattle.vault_words.specs.declared.job.WordsErr.TheVariants.{Refused, Memory}
 use Rattle.vault_top.specs.Words.{Ask, AreRefused, kind_of, sessions_of}
@@ -29,6 +29,7 @@ IsWithin (serve s) = (sessions_of s < 2 ^ 32) × (s.at_once ≤ 64)
 IsWithin (make m) = ⊤
 IsWithin (demo d) = (1 ≤ d.clients) × (d.clients ≤ 64) × (d.requests ≤ 100000)
 IsWithin (sync address) = ⊤
+IsWithin (recover r) = ⊤
 IsWithin (help topic) = ⊤
 IsWithin version = ⊤
 
@@ -44,6 +45,7 @@ IsTaskOf (serve s) task = (service : Service) × (task ≡ Serve service) × IsS
 IsTaskOf (make m) task = task ≡ Make
 IsTaskOf (demo d) task = (scripts : Scripts) × (task ≡ Demo scripts) × AreForClients d scripts
 IsTaskOf (sync address) task = ⊥
+IsTaskOf (recover r) task = ⊥
 IsTaskOf (help topic) task = task ≡ Help topic
 IsTaskOf version task = task ≡ Version
 

@@ -4,17 +4,18 @@ use Rattle.std.specs.String.{string_bytes}
 use Rattle.clap.specs.Words.{Text}
 use Rattle.unlocking.specs.declared.from_folder.SecretKind.{SecretKind}
 use Rattle.unlocking.specs.declared.from_folder.SecretKind.TheVariants.{Password, RawKeys}
-use Rattle.vault_words.specs.Jobs.{Job, Serving, serve, make, demo, sync, help, version, AsksFor, IsRefused}
+use Rattle.vault_words.specs.Jobs.{Job, Serving, serve, make, demo, sync, recover, help, version, AsksFor, IsRefused}
 
 abbrev pub words_of : {A : Type 0} → List (String A) → List Text
 words_of words = map string_bytes words
 
--- the jobs that a run does: `serve` at any address but an empty one, and all others but `sync`, which needs no vault
+-- the jobs that a run does: `serve` at any address but an empty one, and all others but `sync` and `recover`, which open no vault
 abbrev pub IsOffered : Job → Type 0
 IsOffered (serve s) = s.address ≡ [] → ⊥
 IsOffered (make m) = ⊤
 IsOffered (demo d) = ⊤
 IsOffered (sync address) = ⊥
+IsOffered (recover r) = ⊥
 IsOffered (help topic) = ⊤
 IsOffered version = ⊤
 

@@ -25,6 +25,7 @@ use shared_tree::{Start, Worker};
 use std::alloc::{AllocError, Global};
 use std::marker::Brand;
 use std::sync::Wait;
+use std::sync::atomic::AtomicBool;
 use std::thread::Threads;
 use tree_loading::load;
 use unlocking::{SecretKind, read_keys};
@@ -154,7 +155,14 @@ where
 {
     match open_vault(alloc, service.kind, folder, secret, clock) {
         Ok(store) => kept_of(
-            serve_workers::<R, D, B, N, E, K>(rt, alloc, store, service, workers),
+            serve_workers::<R, D, B, N, E, K>(
+                rt,
+                alloc,
+                store,
+                service,
+                workers,
+                &AtomicBool::new(false),
+            ),
             service.sessions,
         ),
         Err(_) => None,

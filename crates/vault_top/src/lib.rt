@@ -17,7 +17,7 @@
 //! requests are answered over a folder that by its type can only be read, and a vault whose journal is open is refused.
 //!
 //! ```
-//! let ended = run(&rt, rt.alloc(), &words, folder, &mut workers, &mut secret, &mut out, &clock, &gate);
+//! let ended = run(&rt, rt.alloc(), &words, folder, &mut workers, &mut secret, &mut out, &clock, &gate, &stopped);
 //! exit(ended.status);
 //! ```
 #![tactic(auto)]

@@ -31,6 +31,7 @@ use shared_tree::{Start, Worker};
 use std::alloc::Global;
 use std::marker::Brand;
 use std::sync::Wait;
+use std::sync::atomic::AtomicBool;
 use std::thread::Threads;
 use vault_store::{ClosedStore, ReadOnlyStore, Store};
 use vault_words::{VERSION, WordsErr, help_text};
@@ -90,7 +91,8 @@ pub struct Ended<D> {
 /// If writing the report failed, a prefix of it was written, and a status of 0 or 7 becomes 4.
 ///
 /// The vault is unlocked at the second that `clock` gives next, and each worker's own clock gives the seconds of what its sessions ask, one for
-/// each message. `rt` starts the workers' threads, and `gate` is passed by no session.
+/// each message. `rt` starts the workers' threads, and `gate` is passed by no session. `stopped` is set as soon as a commit of a session has failed, so that whoever
+/// listens can end: it is never read here, and no clause speaks of it.
 pub fn run<
     R: Threads + Wait + Sync,
     D: Folder + Send,
@@ -110,6 +112,7 @@ pub fn run<
     out: &mut O,
     clock: &mut K,
     gate: &G,
+    stopped: &AtomicBool,
 ) -> Ended<D>
 where
     N::Conn: Send,
@@ -128,7 +131,7 @@ where
             )
         }
         Ok(Task::Serve(service)) => serve::<R, D, Brand, N, E, S, O, K>(
-            rt, alloc, service, folder, workers, secret, out, clock,
+            rt, alloc, service, folder, workers, secret, out, clock, stopped,
         ),
         Ok(Task::Make) => make(alloc, folder, workers, secret, out),
         Ok(Task::Demo(scripts)) => report_demonstration(rt, alloc, scripts, folder, out),
@@ -190,6 +193,7 @@ fn serve<
     secret: &mut S,
     out: &mut O,
     clock: &mut K,
+    stopped: &AtomicBool,
 ) -> Ended<D>
 where
     N::Conn: Send,
@@ -205,7 +209,9 @@ where
         folder workers.old.items workers.new.items (course (sink_in O.Sink) out.old out.new) result }
 {
     match open_vault(alloc, service.kind, folder, secret, clock) {
-        Ok(store) => serve_vault::<R, D, B, N, E, O, K>(rt, alloc, store, service, workers, out),
+        Ok(store) => {
+            serve_vault::<R, D, B, N, E, O, K>(rt, alloc, store, service, workers, out, stopped)
+        }
         Err(Refused { folder, cause }) => Ended {
             status: refuse(out, &cause),
             folder: Some(folder),
@@ -313,6 +319,7 @@ fn serve_vault<
     service: Service,
     workers: &mut Vec<Worker<N, E, K>>,
     out: &mut O,
+    stopped: &AtomicBool,
 ) -> Ended<D>
 where
     N::Conn: Send,
@@ -324,7 +331,7 @@ where
         service workers.old.items workers.new.items (course (sink_in O.Sink) out.old out.new) result }
 {
     let serving = announce(out);
-    let served = serve_workers::<R, D, B, N, E, K>(rt, alloc, store, service, workers);
+    let served = serve_workers::<R, D, B, N, E, K>(rt, alloc, store, service, workers, stopped);
     let status = match serving {
         Ok(()) => report_outcome(alloc, out, served.outcome),
         Err(_) => served.outcome.unreported(),

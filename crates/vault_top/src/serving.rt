@@ -18,6 +18,7 @@ use session_server::SessionCounts;
 use shared_tree::{Served, Start, Worker, serve_all};
 use std::alloc::Global;
 use std::sync::Wait;
+use std::sync::atomic::AtomicBool;
 use std::thread::Threads;
 use vault_store::{ClosedStore, Store};
 
@@ -54,7 +55,7 @@ pub(crate) struct HandedBack<D> {
     pub store: Option<ClosedStore>,
 }
 
-/// Serves all workers' sessions over an open vault, and closes the vault.
+/// Serves all workers' sessions over an open vault, and closes the vault. `stopped` is set as soon as a commit of a session has failed.
 pub(crate) fn serve_workers<
     R: Threads + Wait + Sync,
     D: Folder + Send,
@@ -68,6 +69,7 @@ pub(crate) fn serve_workers<
     store: Store<D>,
     service: Service,
     workers: &mut Vec<Worker<N, E, K>>,
+    stopped: &AtomicBool,
 ) -> HandedBack<D>
 where
     N::Conn: Send,
@@ -78,9 +80,9 @@ where
         (views_of D.Reads N.Listener N.Conn.Link E.Entropy K.Clock)
         service workers.old.items workers.new.items ends result }
 {
-    let vault = SharedVault::<D, B>::new(store);
+    let vault = SharedVault::<'_, D, B>::new(store, stopped);
     let at_once = sharers(service.at_once, workers.len());
-    match serve_all::<R, SharedVault<D, B>, B, N, E, K>(
+    match serve_all::<R, SharedVault<'_, D, B>, B, N, E, K>(
         rt,
         alloc,
         vault,
@@ -112,8 +114,8 @@ pub(crate) fn sharers(at_once: u32, workers: usize) -> usize
 }
 
 // The folder of a vault that was served to nobody, if it is left.
-fn folder_of<D: Folder, B: Since>(left: Option<SharedVault<D, B>>) -> Option<D>
-    ensures { result ≡ option_map (λ vault. vault.store.folder) left }
+fn folder_of<D: Folder, B: Since>(left: Option<SharedVault<'_, D, B>>) -> Option<D>
+    ensures { result ≡ option_map (λ vault. vault.store.folder) left.entry }
 {
     match left {
         Some(vault) => Some(vault.into_store().into_folder()),

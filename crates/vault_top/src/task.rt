@@ -78,6 +78,7 @@ fn task_of(job: Job<'_>) -> Option<Task>
             requests: requests as u32,
         })),
         Job::Sync { .. } => None,
+        Job::Recover(_) => None,
         Job::Help(topic) => Some(Task::Help(topic)),
         Job::Version => Some(Task::Version),
     }

@@ -3,6 +3,7 @@
 use outside::{Entropy, Folder};
 use shared_tree::SharedTree;
 use std::marker::{Brand, PhantomData};
+use std::sync::atomic::{AtomicBool, Ordering};
 use tree_model::{Reply, Request};
 use vault_store::Store;
 
@@ -20,34 +21,40 @@ impl Since for Brand {
     ghost since = { λ _ _ _. Unit {0} };
 }
 
-/// An open vault, with how the run began.
+/// An open vault, with how the run began, and what is set as soon as a commit has failed.
 #[derive(Drop)]
-pub(crate) struct SharedVault<D: Folder, B> {
+pub(crate) struct SharedVault<'s, D: Folder, B> {
     store: Store<D>,
+    stopped: &'s AtomicBool,
     since: PhantomData<B>,
 }
 
-impl<D: Folder, B> SharedVault<D, B> {
+impl<'s, D: Folder, B> SharedVault<'s, D, B> {
     ghost use Rattle.std.specs.Prelude.{◌≡◌};
 
-    pub(crate) fn new(store: Store<D>) -> SharedVault<D, B>
+    pub(crate) fn new(store: Store<D>, stopped: &'s AtomicBool) -> SharedVault<'s, D, B>
         ensures { result.store ≡ store }
     {
         SharedVault {
             store,
+            stopped,
             since: PhantomData,
         }
     }
 
     pub(crate) fn into_store(self) -> Store<D>
-        ensures { result ≡ self.store }
+        ensures { result ≡ self.entry.store }
     {
-        let SharedVault { store, since: _ } = self;
+        let SharedVault {
+            store,
+            stopped: _,
+            since: _,
+        } = self;
         store
     }
 }
 
-impl<D: Folder, B: Since> SharedTree for SharedVault<D, B> {
+impl<'s, D: Folder, B: Since> SharedTree for SharedVault<'s, D, B> {
     ghost use Rattle.outside.specs.Views.{folder_in};
     ghost use Rattle.store_laws.specs.Turns.{draws_for};
     ghost use Rattle.vault_top.specs.Sharing.{IsSharedStore};
@@ -63,6 +70,10 @@ impl<D: Folder, B: Since> SharedTree for SharedVault<D, B> {
         entropy: &mut E,
         buffer: &mut [u8],
     ) -> Reply {
-        self.store.serve(request, now, entropy, buffer)
+        let reply = self.store.serve(request, now, entropy, buffer);
+        if self.store.is_stopped() {
+            self.stopped.store(true, Ordering::SeqCst);
+        }
+        reply
     }
 }

@@ -6,7 +6,7 @@ use Rattle.clap.specs.Kinds.{Kinds}
 use Rattle.clap.specs.declared.error.kind.ErrorKind.{ErrorKind}
 use Rattle.clap.specs.declared.error.kind.ErrorKind.TheVariants as kind
 use Rattle.vault_words.specs.Command.{vaultd}
-use Rattle.vault_words.specs.Jobs.{AsksFor, IsRefused, IsTaken, Job, demo, help, make, serve, sync, topic_at, version}
+use Rattle.vault_words.specs.Jobs.{AsksFor, IsRefused, IsTaken, Job, demo, help, make, recover, serve, sync, topic_at, version}
 use Rattle.vault_words.proofs.OneKind.{OneKind, one_kind-fault_of}
 
 vaultd_disables_help : (built vaultd).top.disable_help_subcommand ≡ true
@@ -34,6 +34,7 @@ asked words (serve s) h = inr (inr h)
 asked words (make m) h = inr (inr h)
 asked words (demo d) h = inr (inr h)
 asked words (sync address) h = inr (inr h)
+asked words (recover r) h = inr (inr h)
 
 -- help and the version are not both among the kinds
 not_both : (words : List Text) → IsAmong kind.DisplayHelp (fault_of vaultd words) → IsAmong kind.DisplayVersion (fault_of vaultd words) → ⊥

@@ -35,6 +35,7 @@ AsksFor-kind (jobs.serve s) k words for among = absurd for
 AsksFor-kind (jobs.make m) k words for among = absurd for
 AsksFor-kind (jobs.demo d) k words for among = absurd for
 AsksFor-kind (jobs.sync address) k words for among = absurd for
+AsksFor-kind (jobs.recover r) k words for among = absurd for
 AsksFor-kind (jobs.help t) k words for (inl memory) = let is = for.0 in cc
 AsksFor-kind (jobs.help t) k words for (inr is) = inl (subst (λ j. IsAmong j (fault_of vaultd words)) for.0 is, for.1)
 AsksFor-kind jobs.version k words for (inl memory) = cc

@@ -57,6 +57,9 @@ demo =
 abbrev pub sync : App
 sync = with_rule (new_app (codes "sync")) (required_word (codes "address"))
 
+abbrev pub recover : App
+recover = with_rule (with_rule (with_rule (new_app (codes "recover")) (required_word (codes "dir"))) (flag (codes "skip"))) (flag (codes "discard"))
+
 abbrev pub help_alone : App
 help_alone = record (new_app (codes "help")) { top = record (new_app (codes "help")).top { disable_help_flag = true } }
 
@@ -82,5 +85,8 @@ with_demo = with_subcommand with_make demo.top
 abbrev pub with_sync : App
 with_sync = with_subcommand with_demo sync.top
 
+abbrev pub with_recover : App
+with_recover = with_subcommand with_sync recover.top
+
 unfoldable pub vaultd : App
-vaultd = with_subcommand with_sync help.top
+vaultd = with_subcommand with_recover help.top

@@ -10,6 +10,8 @@ use Rattle.vault_words.specs.Command.{vaultd}
 use Rattle.vault_words.specs.Numbers.{number_in}
 use Rattle.vault_words.specs.declared.job.Topic.{Topic}
 use Rattle.vault_words.specs.declared.job.Topic.TheVariants as topic
+use Rattle.vault_words.specs.declared.job.Way.{Way}
+use Rattle.vault_words.specs.declared.job.Way.TheVariants.{Show, Skip, Discard}
 use Rattle.vault_words.specs.declared.job.Verbosity.{Verbosity}
 use Rattle.vault_words.specs.declared.job.Verbosity.TheVariants.{Quiet, Usual, Verbose, VeryVerbose}
 
@@ -38,12 +40,18 @@ pub record Demonstration : Type 0 where
   pub clients : ℕ
   pub requests : ℕ
 
+-- `recover`: the vault's folder, and what becomes of the changes that its open journal holds
+pub record Recovering : Type 0 where
+  pub dir : Text
+  pub way : Way
+
 -- `sync` has the address of a server
 pub data Job : Type 0 where
   serve : Serving → Job
   make : Making → Job
   demo : Demonstration → Job
   sync : Text → Job
+  recover : Recovering → Job
   help : Topic → Job
   version : Job
 
@@ -95,6 +103,16 @@ demonstration_in rows =
     option_and_then (λ seed. option_and_then (λ clients. option_map (λ requests. record { seed = seed; clients = clients; requests = requests })
     (number_at (codes "requests") 0 100000 rows)) (number_at (codes "clients") 1 64 rows)) (number_at (codes "seed") 0 18446744073709551615 rows)
 
+-- not both `--skip` and `--discard`
+abbrev pub way_of : Bool → Bool → Option Way
+way_of skip discard = if skip then (if discard then None else Some Skip) else if discard then Some Discard else Some Show
+
+abbrev pub way_in : List Row → Option Way
+way_in rows = way_of (has_flag (codes "skip") rows) (has_flag (codes "discard") rows)
+
+abbrev pub recovering_in : List Row → Option Recovering
+recovering_in rows = option_and_then (λ dir. option_map (λ way. record { dir = dir; way = way }) (way_in rows)) (first_of (codes "dir") rows)
+
 -- the command of this name has help of its own
 abbrev pub topic_named : Text → Option Topic
 topic_named name =
@@ -102,6 +120,7 @@ topic_named name =
     else if bytes_eq name (codes "make") then Some topic.Make
     else if bytes_eq name (codes "demo") then Some topic.Demo
     else if bytes_eq name (codes "sync") then Some topic.Sync
+    else if bytes_eq name (codes "recover") then Some topic.Recover
     else None
 
 -- `help` alone is of the program
@@ -114,6 +133,7 @@ job_named name rows =
     else if bytes_eq name (codes "make") then option_map make (making_in rows)
     else if bytes_eq name (codes "demo") then option_map demo (demonstration_in rows)
     else if bytes_eq name (codes "sync") then option_map sync (first_of (codes "address") rows)
+    else if bytes_eq name (codes "recover") then option_map recover (recovering_in rows)
     else if bytes_eq name (codes "help") then option_map help (topic_in rows)
     else None
 
@@ -142,13 +162,14 @@ AsksFor (serve s) words = IsTaken (serve s) words
 AsksFor (make m) words = IsTaken (make m) words
 AsksFor (demo d) words = IsTaken (demo d) words
 AsksFor (sync address) words = IsTaken (sync address) words
+AsksFor (recover r) words = IsTaken (recover r) words
 
 -- the words ask for some job
 abbrev pub AskForSome : List Text → Type 0
 AskForSome words = (job : Job) × AsksFor job words
 
 -- clap refuses the words, by a kind that is no request for help or the version; or it takes them, and they name no job: a number is out of
--- form or range, `-q` and `-v` are both given, or `help` is asked about what is no command
+-- form or range, `-q` and `-v` are both given, or `--skip` and `--discard` are, or `help` is asked about what is no command
 abbrev pub IsRefused : List Text → Type 0
 IsRefused words =
     ((k : ErrorKind) × IsAmong k (fault_of vaultd words) × (IsRequest k → ⊥))

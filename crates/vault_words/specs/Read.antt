@@ -6,8 +6,9 @@ use Rattle.clap.specs.declared.error.kind.ErrorKind.TheVariants as kind
 use Rattle.vault_words.specs.Jobs as jobs
 use Rattle.vault_words.specs.Jobs.{IsRefused, IsRequest}
 use Rattle.vault_words.specs.declared.job.Job.{Job}
-use Rattle.vault_words.specs.declared.job.Job.TheVariants.{Serve, Make, Demo, Sync, Help, Version}
+use Rattle.vault_words.specs.declared.job.Job.TheVariants.{Serve, Make, Demo, Sync, Recover, Help, Version}
 use Rattle.vault_words.specs.declared.job.Making.{Making}
+use Rattle.vault_words.specs.declared.job.Recovering.{Recovering}
 use Rattle.vault_words.specs.declared.job.Serving.{Serving}
 use Rattle.vault_words.specs.declared.job.Topic.{Topic}
 use Rattle.vault_words.specs.declared.job.WordsErr.{WordsErr}
@@ -29,11 +30,15 @@ serving_data s = record {
 abbrev pub making_data : Making → jobs.Making
 making_data m = record { dir = m.dir.now; passfile = option_map (λ path. path.now) m.passfile }
 
+abbrev pub recovering_data : Recovering → jobs.Recovering
+recovering_data r = record { dir = r.dir.now; way = r.way }
+
 abbrev pub job_data : Job → jobs.Job
 job_data (Serve s) = jobs.serve (serving_data s)
 job_data (Make m) = jobs.make (making_data m)
 job_data (Demo seed clients requests) = jobs.demo (record { seed = seed; clients = clients; requests = requests })
 job_data (Sync address) = jobs.sync address.now
+job_data (Recover r) = jobs.recover (recovering_data r)
 job_data (Help t) = jobs.help t
 job_data Version = jobs.version
 
@@ -55,6 +60,7 @@ IsRequestFor k t (jobs.serve s) = ⊥
 IsRequestFor k t (jobs.make m) = ⊥
 IsRequestFor k t (jobs.demo d) = ⊥
 IsRequestFor k t (jobs.sync address) = ⊥
+IsRequestFor k t (jobs.recover r) = ⊥
 IsRequestFor k t (jobs.help of) = (k ≡ kind.DisplayHelp) × (of ≡ t)
 IsRequestFor k t jobs.version = k ≡ kind.DisplayVersion
 

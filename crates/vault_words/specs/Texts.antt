@@ -1,7 +1,7 @@
 -- What `--help` and `--version` print.
 use Rattle.std.specs.Prelude.{ℕ, List, ◌++◌, codes}
 use Rattle.vault_words.specs.declared.job.Topic.{Topic}
-use Rattle.vault_words.specs.declared.job.Topic.TheVariants.{Program, Serve, Make, Demo, Sync}
+use Rattle.vault_words.specs.declared.job.Topic.TheVariants.{Program, Serve, Make, Demo, Sync, Recover}
 
 abbrev pub help : List ℕ
 help =
@@ -10,11 +10,12 @@ help =
     ++ codes "Usage: vaultd <COMMAND>\n"
     ++ codes "\n"
     ++ codes "Commands:\n"
-    ++ codes "  serve  Serves the vault in a folder\n"
-    ++ codes "  make   Makes a vault in an empty folder\n"
-    ++ codes "  demo   Serves a vault in memory to clients that send drawn requests\n"
-    ++ codes "  sync   Has a running server put on disk what was written\n"
-    ++ codes "  help   Prints this, or the help of a command\n"
+    ++ codes "  serve    Serves the vault in a folder\n"
+    ++ codes "  make     Makes a vault in an empty folder\n"
+    ++ codes "  demo     Serves a vault in memory to clients that send drawn requests\n"
+    ++ codes "  sync     Has a running server put on disk what was written\n"
+    ++ codes "  recover  Shows what the open journal of a vault holds, or closes it\n"
+    ++ codes "  help     Prints this, or the help of a command\n"
     ++ codes "\n"
     ++ codes "Options:\n"
     ++ codes "  -h, --help     Print help\n"
@@ -26,7 +27,7 @@ help =
     ++ codes "  vaultd serve DIR --listen 127.0.0.1:564 --read-only <FILE\n"
     ++ codes "\n"
     ++ codes "Exit status:\n"
-    ++ codes "  0   the vault was served, made or synced, the demonstration held, or help or the version printed\n"
+    ++ codes "  0   the vault was served, made, synced or recovered, the demonstration held, or help or the version printed\n"
     ++ codes "  1   the words are bad\n"
     ++ codes "  2   the secret is no password or no two keys, or the wrong one\n"
     ++ codes "  3   the vault is refused\n"
@@ -96,12 +97,27 @@ sync_help =
     ++ codes "Options:\n"
     ++ codes "  -h, --help  Print help\n"
 
+abbrev pub recover_help : List ℕ
+recover_help =
+    codes "Shows what the open journal of a vault holds, or closes it\n"
+    ++ codes "\n"
+    ++ codes "Usage: vaultd recover [OPTIONS] <DIR>\n"
+    ++ codes "\n"
+    ++ codes "Arguments:\n"
+    ++ codes "  <DIR>  The folder of the vault\n"
+    ++ codes "\n"
+    ++ codes "Options:\n"
+    ++ codes "      --skip     Makes the changes that fit DIR, leaves out the others, and closes the journal\n"
+    ++ codes "      --discard  Renames the journal to served.journal.1, or the next number that is free\n"
+    ++ codes "  -h, --help     Print help\n"
+
 abbrev pub help_of : Topic → List ℕ
 help_of Program = help
 help_of Serve = serve_help
 help_of Make = make_help
 help_of Demo = demo_help
 help_of Sync = sync_help
+help_of Recover = recover_help
 
 abbrev pub version : List ℕ
 version = codes "vaultd 1.0.0\n"

@@ -4,7 +4,7 @@ ghost use Rattle.clap.specs.Words.{FailsBy, app_of, fault_of, rule_of, subcomman
 ghost use Rattle.clap.specs.declared.builder.command.Command.TheViews.{out-Command as fields_of};
 ghost use Rattle.vault_words.specs.Command.{bare, counted_flag, demo, flag, help, make, option, option_or, required_option, required_word};
 ghost use Rattle.vault_words.specs.Command.{serve, serve_with_numbers, serve_with_places, serve_with_secret, short_flag, sync, vaultd};
-ghost use Rattle.vault_words.specs.Command.{with_demo, with_make, with_serve, with_sync, word};
+ghost use Rattle.vault_words.specs.Command.{recover, with_demo, with_make, with_recover, with_serve, with_sync, word};
 
 use clap::{Arg, ArgAction, ArgMatches, Command, Error};
 use std::alloc::{AllocError, Global};
@@ -16,7 +16,7 @@ Examples:
   vaultd serve DIR --listen 127.0.0.1:564 --read-only <FILE
 
 Exit status:
-  0   the vault was served, made or synced, the demonstration held, or help or the version printed
+  0   the vault was served, made, synced or recovered, the demonstration held, or help or the version printed
   1   the words are bad
   2   the secret is no password or no two keys, or the wrong one
   3   the vault is refused
@@ -41,7 +41,7 @@ pub(crate) fn matches<'a>(alloc: Global, words: &'a [String]) -> Result<ArgMatch
 pub fn vaultd<'a>(alloc: Global) -> Result<Command<'a>, AllocError>
     ensures { IfOk result (λ command. app_of command ≡ vaultd) }
 {
-    let command = with_sync(alloc)?;
+    let command = with_recover(alloc)?;
     let help = help(alloc)?;
     command.subcommand(help)
 }
@@ -77,6 +77,14 @@ fn with_sync<'a>(alloc: Global) -> Result<Command<'a>, AllocError>
     let command = with_demo(alloc)?;
     let sync = sync(alloc)?;
     command.subcommand(sync)
+}
+
+fn with_recover<'a>(alloc: Global) -> Result<Command<'a>, AllocError>
+    ensures { IfOk result (λ command. app_of command ≡ with_recover) }
+{
+    let command = with_sync(alloc)?;
+    let recover = recover(alloc)?;
+    command.subcommand(recover)
 }
 
 // The program without its commands.
@@ -247,6 +255,28 @@ fn sync<'a>(alloc: Global) -> Result<Command<'a>, AllocError>
     Command::new(alloc, "sync")
         .about("Has a running server put on disk what was written")
         .arg(address)
+}
+
+fn recover<'a>(alloc: Global) -> Result<Command<'a>, AllocError>
+    ensures app { IfOk result (λ command. app_of command ≡ recover) }
+    ensures local { IfOk result (λ command. (fields_of command).has_globals ≡ false) }
+{
+    let dir = required_word(alloc, "dir", "DIR", "The folder of the vault");
+    let skip = flag(
+        alloc,
+        "skip",
+        "Makes the changes that fit DIR, leaves out the others, and closes the journal",
+    );
+    let discard = flag(
+        alloc,
+        "discard",
+        "Renames the journal to served.journal.1, or the next number that is free",
+    );
+    let command = Command::new(alloc, "recover")
+        .about("Shows what the open journal of a vault holds, or closes it")
+        .arg(dir)?;
+    let command = command.arg(skip)?;
+    command.arg(discard)
 }
 
 fn help<'a>(alloc: Global) -> Result<Command<'a>, AllocError>

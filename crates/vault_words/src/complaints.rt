@@ -47,8 +47,9 @@ fn misfit(alloc: Global, matches: &ArgMatches<'_>) -> Result<Option<String>, All
         Some((name, matches)) => match name {
             "serve" => match number_misfit(alloc, matches, &[SESSIONS, AT_ONCE, IDLE])? {
                 Some(text) => Ok(Some(text)),
-                None => Ok(Some(conflict(alloc)?)),
+                None => Ok(Some(conflict(alloc, "--quiet", "--verbose...")?)),
             },
+            "recover" => Ok(Some(conflict(alloc, "--skip", "--discard")?)),
             "demo" => number_misfit(alloc, matches, &[SEED, CLIENTS, REQUESTS]),
             _ => topic_misfit(alloc, matches),
         },
@@ -84,10 +85,9 @@ fn number_text(alloc: Global, text: &str, bounds: &Bounds) -> Result<String, All
     )
 }
 
-fn conflict(alloc: Global) -> Result<String, AllocError> {
-    String::from_str(
-        alloc,
-        "error: the argument '--quiet' cannot be used with '--verbose...'\n\nFor more information, try '--help'.\n",
+fn conflict(alloc: Global, one: &str, other: &str) -> Result<String, AllocError> {
+    format!(in alloc;
+        "error: the argument '{one}' cannot be used with '{other}'\n\nFor more information, try '--help'.\n"
     )
 }
 

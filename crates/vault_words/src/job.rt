@@ -2,9 +2,9 @@ ghost use Rattle.std.specs.Prelude.{◌≡◌, IfOk, IfErr, MatchResult, codes, 
 ghost use Rattle.std.specs.String.{string_bytes};
 ghost use Rattle.clap.specs.Words.{first_of, found_of, kind_of, rows_of, subcommand_rows_of};
 ghost use Rattle.vault_words.specs.Jobs.{AsksFor, demo, demonstration_in, has_flag, job_in, job_named, making_in, number_at};
-ghost use Rattle.vault_words.specs.Jobs.{serving_in, sessions_in, sync, topic_at, topic_in, topic_named};
+ghost use Rattle.vault_words.specs.Jobs.{recover, recovering_in, serving_in, sessions_in, sync, topic_at, topic_in, topic_named, way_in, way_of};
 ghost use Rattle.vault_words.specs.Jobs.{verbosity_in, verbosity_of, verbosity_of_count};
-ghost use Rattle.vault_words.specs.Read.{IsCause, IsRefusalBy, IsRequestFor, job_data, making_data, serving_data};
+ghost use Rattle.vault_words.specs.Read.{IsCause, IsRefusalBy, IsRequestFor, job_data, making_data, recovering_data, serving_data};
 
 use crate::bounds::{AT_ONCE, Bounds, CLIENTS, IDLE, REQUESTS, SEED, SESSIONS};
 use crate::command::matches;
@@ -31,6 +31,8 @@ pub enum Job<'a> {
     Sync {
         address: &'a str,
     },
+    /// Shows what a vault's open journal holds, or closes it.
+    Recover(Recovering<'a>),
     /// Prints the help of a topic: `help_text`.
     Help(Topic),
     /// Prints `VERSION`.
@@ -68,6 +70,25 @@ pub struct Making<'a> {
     pub passfile: Option<&'a str>,
 }
 
+/// What is made of a vault's open journal.
+#[derive(Clone, Copy, Debug, PartialEq, Eq)]
+pub struct Recovering<'a> {
+    /// The vault's folder.
+    pub dir: &'a str,
+    pub way: Way,
+}
+
+/// What becomes of the changes that an open journal holds.
+#[derive(Clone, Copy, Debug, PartialEq, Eq)]
+pub enum Way {
+    /// They are shown.
+    Show,
+    /// Those that fit the folder are made, and the others left out (`--skip`).
+    Skip,
+    /// The journal is put aside (`--discard`).
+    Discard,
+}
+
 /// What is written on standard error.
 #[derive(Clone, Copy, Debug, PartialEq, Eq)]
 pub enum Verbosity {
@@ -89,13 +110,14 @@ pub enum Topic {
     Make,
     Demo,
     Sync,
+    Recover,
 }
 
 /// Why the arguments were rejected.
 #[derive(Clone, Copy, Debug, PartialEq, Eq)]
 pub enum WordsErr {
     /// clap doesn't take the words, or a number isn't decimal digits without a sign and a leading zero, or is out of its range, or both
-    /// `-q` and `-v` are given, or `help` is asked about what is no command.
+    /// `-q` and `-v` or both `--skip` and `--discard` are given, or `help` is asked about what is no command.
     Refused,
     /// Memory ran out, which says nothing of the words.
     Memory,
@@ -158,6 +180,7 @@ fn topic_named(name: &str) -> Option<Topic>
         "make" => Some(Topic::Make),
         "demo" => Some(Topic::Demo),
         "sync" => Some(Topic::Sync),
+        "recover" => Some(Topic::Recover),
         _ => None,
     }
 }
@@ -178,6 +201,7 @@ fn job_named<'a>(name: &str, matches: &ArgMatches<'a>) -> Option<Job<'a>>
         "make" => Some(Job::Make(making_in(matches)?)),
         "demo" => demo(matches),
         "sync" => sync(matches),
+        "recover" => Some(Job::Recover(recovering_in(matches)?)),
         "help" => Some(Job::Help(topic_in(matches)?)),
         _ => None,
     }
@@ -224,6 +248,33 @@ fn sync<'a>(matches: &ArgMatches<'a>) -> Option<Job<'a>>
     Some(Job::Sync {
         address: text(matches, "address")?,
     })
+}
+
+fn recovering_in<'a>(matches: &ArgMatches<'a>) -> Option<Recovering<'a>>
+    ensures { option_map recovering_data result ≡ recovering_in (rows_of (found_of matches.now)) }
+{
+    Some(Recovering {
+        dir: text(matches, "dir")?,
+        way: way_in(matches)?,
+    })
+}
+
+fn way_in(matches: &ArgMatches<'_>) -> Option<Way>
+    ensures { result ≡ way_in (rows_of (found_of matches.now)) }
+{
+    way_of(has_flag(matches, "skip"), has_flag(matches, "discard"))
+}
+
+fn way_of(skip: bool, discard: bool) -> Option<Way>
+    ensures { result ≡ way_of skip discard }
+{
+    if skip {
+        if discard { None } else { Some(Way::Skip) }
+    } else if discard {
+        Some(Way::Discard)
+    } else {
+        Some(Way::Show)
+    }
 }
 
 fn topic_in(matches: &ArgMatches<'_>) -> Option<Topic>

@@ -6,8 +6,8 @@
 //! ```
 //!
 //! `serve DIR --listen ADDR [--sessions N] [--at-once M] [--raw-key] [--read-only] [--passfile FILE] [--idle SECONDS] [-q|-v]`,
-//! `make DIR [--passfile FILE]`, `demo --seed S --clients M --requests R` and `sync ADDR`, with options in any order, `--listen=-`
-//! too, and a DIR that begins with a hyphen after `--`. A number is decimal digits without a sign and a leading zero. `--help`, of the
+//! `make DIR [--passfile FILE]`, `demo --seed S --clients M --requests R`, `sync ADDR` and `recover DIR [--skip|--discard]`, with options in any
+//! order, `--listen=-` too, and a DIR that begins with a hyphen after `--`. A number is decimal digits without a sign and a leading zero. `--help`, of the
 //! program and of each command, `help COMMAND` and `--version` are jobs too. `complaint` says what is wrong with other words.
 #![tactic(auto)]
 
@@ -21,6 +21,8 @@ mod texts;
 
 pub use command::vaultd;
 pub use complaints::complaint;
-pub use job::{Job, Making, Serving, Topic, Verbosity, WordsErr, read_words};
+pub use job::{Job, Making, Recovering, Serving, Topic, Verbosity, Way, WordsErr, read_words};
 pub use laws::{texts_are_the_definitions, words_ask_for_one_thing};
-pub use texts::{DEMO_HELP, HELP, MAKE_HELP, SERVE_HELP, SYNC_HELP, VERSION, help_text};
+pub use texts::{
+    DEMO_HELP, HELP, MAKE_HELP, RECOVER_HELP, SERVE_HELP, SYNC_HELP, VERSION, help_text,
+};

@@ -10,11 +10,12 @@ Serves a Cryptomator vault over 9P2000
 Usage: vaultd <COMMAND>
 
 Commands:
-  serve  Serves the vault in a folder
-  make   Makes a vault in an empty folder
-  demo   Serves a vault in memory to clients that send drawn requests
-  sync   Has a running server put on disk what was written
-  help   Prints this, or the help of a command
+  serve    Serves the vault in a folder
+  make     Makes a vault in an empty folder
+  demo     Serves a vault in memory to clients that send drawn requests
+  sync     Has a running server put on disk what was written
+  recover  Shows what the open journal of a vault holds, or closes it
+  help     Prints this, or the help of a command
 
 Options:
   -h, --help     Print help
@@ -26,7 +27,7 @@ Examples:
   vaultd serve DIR --listen 127.0.0.1:564 --read-only <FILE
 
 Exit status:
-  0   the vault was served, made or synced, the demonstration held, or help or the version printed
+  0   the vault was served, made, synced or recovered, the demonstration held, or help or the version printed
   1   the words are bad
   2   the secret is no password or no two keys, or the wrong one
   3   the vault is refused
@@ -101,6 +102,21 @@ Options:
   -h, --help  Print help
 ";
 
+/// What `recover --help` prints.
+pub const RECOVER_HELP: &str = "\
+Shows what the open journal of a vault holds, or closes it
+
+Usage: vaultd recover [OPTIONS] <DIR>
+
+Arguments:
+  <DIR>  The folder of the vault
+
+Options:
+      --skip     Makes the changes that fit DIR, leaves out the others, and closes the journal
+      --discard  Renames the journal to served.journal.1, or the next number that is free
+  -h, --help     Print help
+";
+
 /// What `--version` prints.
 pub const VERSION: &str = "vaultd 1.0.0\n";
 
@@ -114,5 +130,6 @@ pub fn help_text(topic: Topic) -> &'static str
         Topic::Make => MAKE_HELP,
         Topic::Demo => DEMO_HELP,
         Topic::Sync => SYNC_HELP,
+        Topic::Recover => RECOVER_HELP,
     }
 }

@@ -1,2 +1,3 @@
+pub mod Tidying
 pub mod Starts
 pub mod Killed

@@ -1,2 +1,3 @@
+pub mod Tidied
 pub mod Starting
 pub mod Killed

@@ -9,7 +9,7 @@ use Rattle.host_links.specs.Behind.{link_to_come}
 use Rattle.host_links.specs.declared.listen.HostListen.{HostListen}
 use Rattle.outside.specs.Calls.{Changes, Rose}
 use Rattle.outside.specs.Views.{LinkView}
-use Rattle.vault_words.specs.Jobs.{Job, Serving, serve, make, sync, AsksFor, IsRefused}
+use Rattle.vault_words.specs.Jobs.{Job, Serving, Recovering, serve, make, sync, recover, AsksFor, IsRefused}
 use Rattle.sync_client.specs.Messages.{sync_messages}
 use Rattle.sync_client.specs.Talk.{HasTalked}
 use Rattle.sync_client.specs.declared.sync_err.SyncErr.{SyncErr}
@@ -17,7 +17,7 @@ use Rattle.sync_client.specs.declared.sync_err.SyncErr.TheVariants as sync_errs
 use Rattle.vault_top.specs.declared.cause.Cause.TheVariants as causes
 use Rattle.vault_top.specs.Span.{Course, course, SourceView, SinkView, Views}
 use Rattle.vault_top.specs.Report.{line, TakesPart}
-use Rattle.vault_top.specs.Ending.{Ending, refused, status_of, HasRun, SaysInUse, SaysNoSocket}
+use Rattle.vault_top.specs.Ending.{Ending, refused, status_of, HasRun, IsReported, SaysInUse, SaysNoSocket}
 use Rattle.shared_tree.specs.declared.workers.Worker.{Worker}
 use Rattle.vault_top.specs.declared.program.Ended.{Ended}
 use Rattle.vaultd.specs.declared.error.StartErr.{StartErr}
@@ -73,11 +73,16 @@ pub record IsOverStreams {D N C E K O : Type 0} (views : Views D N C E K) (IsFol
   pub run : IsRunOf views IsFolder IsNew sink_of words 1 started.status
   pub removed : started.removed ≡ None
 
--- another server has the vault: that was reported, and nothing else was done, but that the socket's file was removed, if it is bound at one
-pub record IsInUse {O : Type 0} (sink_of : O → SinkView) (file : Option (List ℕ)) (started : Started) : Type 0 where
+-- that another server has the vault was reported; or that its folder failed, as one does that takes no write behind a file's first byte: only where it was to be
+-- changed too
+abbrev pub SaysTurnedAway : Bool → Course SinkView → ℕ → Type 0
+SaysTurnedAway read_only sink status = SaysInUse sink status ⊎ ((read_only ≡ false) × IsReported sink (refused causes.FolderFault) status)
+
+-- the vault isn't served: why was reported, nothing was unlocked, and the socket's file was removed, if it is bound at one
+pub record IsTurnedAway {O : Type 0} (read_only : Bool) (sink_of : O → SinkView) (file : Option (List ℕ)) (started : Started) : Type 0 where
   pub before : O
   pub after : O
-  pub reported : SaysInUse (course sink_of before after) started.status
+  pub reported : SaysTurnedAway read_only (course sink_of before after) started.status
   pub removed : option_map string_bytes started.removed ≡ file
 
 -- the program was run at a socket that is bound, and then the file that this is bound at was removed, if it is bound at one, and no other
@@ -93,29 +98,29 @@ pub record IsUnbound {O : Type 0} (sink_of : O → SinkView) (socket : Socket) (
   pub reported : SaysNoSocket (course sink_of before after) started.status
   pub removed : started.removed ≡ None
 
--- a socket is bound: the vault was served there, or another server has it
-abbrev pub IsRunAtBound : {D N C E K O : Type 0} → Views D N C E K → (D → Type 0) → (Socket → N → Type 0) → (O → SinkView) → List (List ℕ) → ℕ → Socket → Started → Type 0
-IsRunAtBound views IsFolder IsAt sink_of words at_once socket started =
-    (is_bound socket ≡ true) × (IsServedAt views IsFolder IsAt sink_of words at_once socket started ⊎ IsInUse sink_of (file_of socket) started)
+-- a socket is bound: the vault was served there, or that was turned away
+abbrev pub IsRunAtBound : {D N C E K O : Type 0} → Views D N C E K → (D → Type 0) → (Socket → N → Type 0) → (O → SinkView) → List (List ℕ) → Bool → ℕ → Socket → Started → Type 0
+IsRunAtBound views IsFolder IsAt sink_of words read_only at_once socket started =
+    (is_bound socket ≡ true) × (IsServedAt views IsFolder IsAt sink_of words at_once socket started ⊎ IsTurnedAway read_only sink_of (file_of socket) started)
 
-abbrev pub IsRunAtSocket : {D N C E K O : Type 0} → Views D N C E K → (D → Type 0) → (Socket → N → Type 0) → (O → SinkView) → List (List ℕ) → ℕ → Socket → Started → Type 0
-IsRunAtSocket views IsFolder IsAt sink_of words at_once socket started =
-    IsRunAtBound views IsFolder IsAt sink_of words at_once socket started ⊎ IsUnbound sink_of socket started
+abbrev pub IsRunAtSocket : {D N C E K O : Type 0} → Views D N C E K → (D → Type 0) → (Socket → N → Type 0) → (O → SinkView) → List (List ℕ) → Bool → ℕ → Socket → Started → Type 0
+IsRunAtSocket views IsFolder IsAt sink_of words read_only at_once socket started =
+    IsRunAtBound views IsFolder IsAt sink_of words read_only at_once socket started ⊎ IsUnbound sink_of socket started
 
 -- it was so at a socket at the place that an address names
-pub record IsRunAtAddress {D N C E K O : Type 0} (views : Views D N C E K) (IsFolder : D → Type 0) (IsAt : Socket → N → Type 0) (sink_of : O → SinkView) (words : List (List ℕ)) (address : List ℕ) (at_once : ℕ) (started : Started) : Type 0 where
+pub record IsRunAtAddress {D N C E K O : Type 0} (views : Views D N C E K) (IsFolder : D → Type 0) (IsAt : Socket → N → Type 0) (sink_of : O → SinkView) (words : List (List ℕ)) (address : List ℕ) (read_only : Bool) (at_once : ℕ) (started : Started) : Type 0 where
   pub socket : Socket
   pub named : IsNamedBy address (address_of socket)
-  pub run : IsRunAtSocket views IsFolder IsAt sink_of words at_once socket started
+  pub run : IsRunAtSocket views IsFolder IsAt sink_of words read_only at_once socket started
 
 -- A vault was to be served as these words say: with the address `-` over the standard streams, and its report went nowhere, standard output being the client's
 -- then; with another at a socket, and its report went to standard output; and without one over the streams, where it is refused. Only a vault that is to be
 -- changed too is settled before.
 abbrev pub IsServing : {D N C M L E K Null Std : Type 0} → Views D N C E K → Views D M L E K → (Bool → List ℕ → D → Type 0) → (N → Type 0) → (Socket → M → Type 0) → (Null → SinkView) → (Std → SinkView) → List (List ℕ) → Serving → Started → Type 0
 IsServing streams sockets IsFolder IsStream IsAt null_of std_of words s started =
-    ((s.address ≡ codes "-") × (IsOverStreams streams (IsFolder s.read_only s.dir) IsStream null_of words started ⊎ IsInUse null_of None started))
+    ((s.address ≡ codes "-") × (IsOverStreams streams (IsFolder s.read_only s.dir) IsStream null_of words started ⊎ IsTurnedAway s.read_only null_of None started))
     ⊎ ((s.address ≡ []) × IsOverStreams streams (IsFolder true s.dir) IsStream std_of words started)
-    ⊎ ((s.address ≡ codes "-" → ⊥) × (s.address ≡ [] → ⊥) × IsRunAtAddress sockets (IsFolder s.read_only s.dir) IsAt std_of words s.address s.at_once started)
+    ⊎ ((s.address ≡ codes "-" → ⊥) × (s.address ≡ [] → ⊥) × IsRunAtAddress sockets (IsFolder s.read_only s.dir) IsAt std_of words s.address s.read_only s.at_once started)
 
 -- ---- one sync
 
@@ -158,6 +163,12 @@ pub record IsSyncing {L O : Type 0} (link_of : L → LinkView) (sink_of : O → 
   pub reported : SaysSync (course sink_of before after) end started.status
   pub removed : started.removed ≡ None
 
+-- ---- a journal that is shown or closed
+
+-- what was found or done was reported; nothing is said here of which
+pub record IsRecovering (started : Started) : Type 0 where
+  pub removed : started.removed ≡ None
+
 -- ---- a start
 
 -- the folder of a job that has no clients: only making one has any
@@ -165,18 +176,20 @@ abbrev pub dir_of : Job → List ℕ
 dir_of (make m) = m.dir
 dir_of job = []
 
--- neither serving nor a sync
+-- neither serving, nor a sync, nor the journal
 abbrev pub IsOther : Job → Type 0
 IsOther (serve s) = ⊥
 IsOther (sync address) = ⊥
+IsOther (recover r) = ⊥
 IsOther job = ⊤
 
--- The program was started with these words: a vault was to be served, a server was asked for one sync, or the program was run over the standard streams for
+-- The program was started with these words: a vault was to be served, a server was asked for one sync, an open journal was looked at, or the program was run over the standard streams for
 -- another job, or since the words are refused.
 abbrev pub IsStarted : {D N C M L E K Null Std : Type 0} → Views D N C E K → Views D M L E K → (Bool → List ℕ → D → Type 0) → (N → Type 0) → (Socket → M → Type 0) → (Null → SinkView) → (Std → SinkView) → List (List ℕ) → Started → Type 0
 IsStarted streams sockets IsFolder IsStream IsAt null_of std_of words started =
     ((s : Serving) × AsksFor (serve s) words × IsServing streams sockets IsFolder IsStream IsAt null_of std_of words s started)
     ⊎ ((to : List ℕ) × AsksFor (sync to) words × IsSyncing sockets.link std_of started)
+    ⊎ ((r : Recovering) × AsksFor (recover r) words × IsRecovering started)
     ⊎ ((job : Job) × AsksFor job words × IsOther job × IsOverStreams streams (IsFolder true (dir_of job)) IsStream std_of words started)
     ⊎ (IsRefused words × IsOverStreams streams (IsFolder true []) IsStream std_of words started)
 

@@ -76,7 +76,7 @@ where
     R::Dir: Send,
     ensures { IfOk result (λ started. (words : List (List ℕ)) × IsStarted
         (views_of ⟦<HostFolder<StdCalls<&'a R, &'a L>> as Reads>⟧ ⟦<HostListen<&'a R, &'a L> as Listener>⟧ ⟦<HostLink<&'a R> as Link>⟧ ⟦<OsEntropy<&'a R, &'a L> as Entropy>⟧ ⟦<HostClock<&'a R> as Clock>⟧)
-        (views_of ⟦<HostFolder<StdCalls<&'a R, &'a L>> as Reads>⟧ ⟦<SocketListen<'static, &'a R, &'a L> as Listener>⟧ ⟦<SocketLink as Link>⟧ ⟦<OsEntropy<&'a R, &'a L> as Entropy>⟧ ⟦<HostClock<&'a R> as Clock>⟧)
+        (views_of ⟦<HostFolder<StdCalls<&'a R, &'a L>> as Reads>⟧ ⟦<SocketListen<'static, &'a R, &'a L> as Listener>⟧ ⟦<SocketLink<'static> as Link>⟧ ⟦<OsEntropy<&'a R, &'a L> as Entropy>⟧ ⟦<HostClock<&'a R> as Clock>⟧)
         IsFolderAt HasLink (IsListening ⟦<SocketListen<'static, &'a R, &'a L> as Listener>⟧.faults socket_of) (sink_in ⟦<LastLine as Sink>⟧)
         (sink_in ⟦<StdSink<Output<&'a R>, &'a L> as Sink>⟧) words started) }
 {
@@ -128,7 +128,7 @@ where
     R::Dir: Send,
     ensures { IsExit (λ started. (words : List (List ℕ)) × IsStarted
         (views_of ⟦<HostFolder<StdCalls<&'a R, &'a L>> as Reads>⟧ ⟦<HostListen<&'a R, &'a L> as Listener>⟧ ⟦<HostLink<&'a R> as Link>⟧ ⟦<OsEntropy<&'a R, &'a L> as Entropy>⟧ ⟦<HostClock<&'a R> as Clock>⟧)
-        (views_of ⟦<HostFolder<StdCalls<&'a R, &'a L>> as Reads>⟧ ⟦<SocketListen<'static, &'a R, &'a L> as Listener>⟧ ⟦<SocketLink as Link>⟧ ⟦<OsEntropy<&'a R, &'a L> as Entropy>⟧ ⟦<HostClock<&'a R> as Clock>⟧)
+        (views_of ⟦<HostFolder<StdCalls<&'a R, &'a L>> as Reads>⟧ ⟦<SocketListen<'static, &'a R, &'a L> as Listener>⟧ ⟦<SocketLink<'static> as Link>⟧ ⟦<OsEntropy<&'a R, &'a L> as Entropy>⟧ ⟦<HostClock<&'a R> as Clock>⟧)
         IsFolderAt HasLink (IsListening ⟦<SocketListen<'static, &'a R, &'a L> as Listener>⟧.faults socket_of) (sink_in ⟦<LastLine as Sink>⟧)
         (sink_in ⟦<StdSink<Output<&'a R>, &'a L> as Sink>⟧) words started) result }
 {

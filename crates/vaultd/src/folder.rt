@@ -5,11 +5,14 @@ ghost use Rattle.host_calls.specs.declared.lock.Locking.TheVariants.{InUse};
 ghost use Rattle.vaultd.specs.Starting.{IsAsFound, IsFolderAt, IsSettled};
 
 use crate::host::Host;
+use crate::recovering::tell_unfinished;
 use chunk_journal::{JournalErr, loose_paths};
+use deeds::{journal_path, new_path};
 use host_calls::{Found, HostCalls, Locking, Sharing};
 use host_folder::{HostFolder, Unsettled};
 use host_sockets::Address;
 use log::{Log, error};
+use outside::{Folder, FolderErr, Kind};
 use outside_real::StdCalls;
 use std::alloc::AllocError;
 use std::fs::File;
@@ -23,6 +26,12 @@ const TURN_TRIES: u32 = 100;
 
 // Milliseconds between two of these.
 const TURN_PAUSE: u64 = 20;
+
+// The gate's byte before a batch that is to be done.
+const OPEN_GATE: u8 = 1;
+
+// As many bytes of a journal are copied at once.
+const PIECE_LEN: usize = 65536;
 
 /// The lock of a folder, which is given back as this is dropped; or none, where the file system has no locks.
 #[derive(Drop)]
@@ -112,33 +121,58 @@ fn loose_at<R: Files<File = File> + AllocGlobal, L: Log>(
     }
 }
 
-// Writes an open gate over itself. Of a flush that fails a host may keep what was to be flushed in memory, and hold it for flushed from then on: so this run's
-// flushes put the gate on the disk before its batch is done, also where that of an earlier run failed.
-fn renew_gate<R: Files<File = File> + AllocGlobal, L: Log>(
-    host: Host<'_, R, L>,
-    path: &str,
-) -> Result<(), AllocError> {
-    let journal = format!(in host.rt.alloc(); "{path}/served.journal")?;
-    let mut calls = StdCalls::new(host.rt, host.log);
-    if let Ok(Found::File(seen, _)) = calls.stat(&journal, false) {
-        let mut gate = [0];
-        if calls.read_at(&journal, seen, 0, &mut gate) == Ok(1) && gate == [1] {
-            // what becomes of it is told, and any other call of the folder may fail so
-            let _ = calls.write_at(&journal, seen, 0, &gate, false);
-        }
+// Whether the gate of a journal is open.
+fn is_open<D: Folder>(folder: &mut D, journal: &VaultPath) -> Result<bool, FolderErr> {
+    let mut gate = [0];
+    Ok(folder.read(journal, 0, &mut gate)? == 1 && gate == [OPEN_GATE])
+}
+
+// Puts so many bytes of a file once more, at another path.
+fn copy<D: Folder>(
+    folder: &mut D,
+    from: &VaultPath,
+    len: u64,
+    to: &VaultPath,
+) -> Result<(), FolderErr> {
+    folder.put(to, &[])?;
+    let mut piece = [0; PIECE_LEN];
+    for i in 0..len.div_ceil(PIECE_LEN as u64) {
+        let at = i * PIECE_LEN as u64;
+        let most = (len - at).min(PIECE_LEN as u64) as usize;
+        let count = folder.read(from, at, &mut piece[..most])?;
+        folder.write(to, at, &piece[..count])?;
     }
     Ok(())
 }
 
-// The folder at a path, once what an earlier run may have left off the disk is on it. It is opened anew, since no clause says that what read the
-// journal is still at that path.
-fn settled_at<'a, R: Files<File = File> + AllocGlobal, L: Log>(
+// Puts a journal that a run left anew, and of one with a closed gate that alone: beside it, and moved to its place once that is on the disk. Of a flush that fails
+// a host may keep what was to be flushed in memory, and hold it for flushed from then on: so the gate that is read may not be the one on the disk, and no
+// flush would put it there. It isn't written over itself, since of a write any byte may be left.
+fn renew_journal<D: Folder>(folder: &mut D) -> Result<(), FolderErr> {
+    let (journal, beside) = (journal_path(), new_path());
+    let Some(Kind::File(len)) = folder.kind(&journal)? else {
+        return Ok(());
+    };
+    if len == 0 {
+        return Ok(());
+    }
+    let is_open = is_open(folder, &journal)?;
+    copy(folder, &journal, if is_open { len } else { 1 }, &beside)?;
+    folder.sync()?;
+    folder.rename(&beside, &journal)?;
+    folder.sync()
+}
+
+/// The folder at a path, once what an earlier run may have left off the disk is on it. It is opened anew, since no clause says that what read the
+/// journal is still at that path.
+pub(crate) fn settled_at<'a, R: Files<File = File> + AllocGlobal, L: Log>(
     host: Host<'a, R, L>,
     path: &str,
 ) -> Result<HostFolder<StdCalls<&'a R, &'a L>>, AllocError>
     ensures { IfOk result (IsSettled path.now) }
 {
-    renew_gate(host, path)?;
+    // what fails is told, and the journal is as it was
+    let _ = renew_journal(&mut untold_at(host, path)?);
     let loose = loose_at(host, path)?;
     let folder = Unsettled::new(StdCalls::new(host.rt, host.log), host.rt.alloc(), path)?;
     Ok(folder.settle(&loose))
@@ -167,6 +201,7 @@ pub(crate) fn vault_at<'a, R: Files<File = File> + AllocGlobal, L: Log>(
     if read_only {
         untold_at(host, path)
     } else {
+        tell_unfinished(host, path)?;
         settled_at(host, path)
     }
 }

@@ -15,23 +15,30 @@
 //! ```
 #![tactic(auto)]
 
+mod closing;
 mod error;
 mod exit;
 mod folder;
 mod host;
 mod laws;
+mod probing;
+mod recovering;
+mod secret;
+mod stack;
 mod starting;
 mod syncing;
 mod telling;
 
 use crate::exit::exit_status;
 use crate::host::Host;
+use crate::stack::take_room;
 use crate::telling::level_of;
 use log::Logged;
 use log::sink::Console;
 use std::process::ExitCode;
 
 fn main(rt: HostRuntime) -> ExitCode {
+    take_room(&rt);
     let log = Logged::new(&rt, level_of(&rt), Console(&rt));
     let host = Host { rt: &rt, log: &log };
     ExitCode::from(exit_status(host))

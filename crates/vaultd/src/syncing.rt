@@ -73,7 +73,7 @@ fn tell_error<L: Log>(log: &L, answer: &Result<(), SyncErr>) {
 
 // Asks the server at a link for one sync.
 fn asked_over<R, L: Log>(host: Host<'_, R, L>, mut link: SocketLink) -> SyncEnd
-    ensures { IsSyncedOver (link_in ⟦<SocketLink as Link>⟧) result }
+    ensures { IsSyncedOver (link_in ⟦<SocketLink<'static> as Link>⟧) result }
 {
     let answer = sync_root(&mut link);
     tell_error(host.log, &answer);
@@ -85,7 +85,7 @@ fn ask_sync<R: AllocGlobal + Net<Stream = TcpStream>, L: Log>(
     host: Host<'_, R, L>,
     address: &str,
 ) -> Result<SyncEnd, AllocError>
-    ensures { IfOk result (λ end. IsSyncedOver (link_in ⟦<SocketLink as Link>⟧) end ⊎ (end ≡ Failed)) }
+    ensures { IfOk result (λ end. IsSyncedOver (link_in ⟦<SocketLink<'static> as Link>⟧) end ⊎ (end ≡ Failed)) }
 {
     let address = address_named(host.rt.alloc(), address)?;
     match Wire::connect(host.rt, &address) {
@@ -103,7 +103,7 @@ pub(crate) fn sync_at<R: AllocGlobal + Net<Stream = TcpStream>, L: Log, O: Sink>
     address: &str,
     out: &mut O,
 ) -> Result<Started, AllocError>
-    ensures { IfOk result (IsSyncing (link_in ⟦<SocketLink as Link>⟧) (sink_in O.Sink)) }
+    ensures { IfOk result (IsSyncing (link_in ⟦<SocketLink<'static> as Link>⟧) (sink_in O.Sink)) }
 {
     let end = ask_sync(host, address)?;
     Ok(Started {

@@ -7,6 +7,9 @@ use std::env;
 use std::env::Env;
 use vault_words::{Job, Verbosity, complaint, read_words};
 
+// The status if the journal is damaged.
+const DAMAGED: u8 = 6;
+
 /// How much is told, by the words: faults alone, sessions too, or names too. Of words that can't be read it is what is usual: they are refused.
 pub(crate) fn level_of<R: Env + AllocGlobal>(rt: &R) -> LevelFilter {
     match verbosity_of(rt) {
@@ -45,5 +48,13 @@ pub(crate) fn tell_port<R: Eprint>(rt: &R, address: &str, socket: &Socket) {
     if let (Some(host), Some(port)) = (host_at_port_0(address), socket.port()) {
         // if standard error is closed it is lost
         let _ = eprintln!(rt; "listening at {host}:{port}");
+    }
+}
+
+/// Says what shows a journal that is damaged, if a run ended so.
+pub(crate) fn tell_damage<R: Eprint>(rt: &R, status: u8, dir: &str) {
+    if status == DAMAGED {
+        // if standard error is closed it is lost
+        let _ = eprintln!(rt; "vaultd recover {dir} shows what its journal holds");
     }
 }

@@ -15,5 +15,5 @@ returns g c = record {
   after = _;
   ended = c.run-ended.result;
   run = c.run-ended.ensures.run;
-  status_is = refl;
+  status_is = c.closed_status.ensures;
 }

@@ -4,7 +4,15 @@ use Rattle.vaultd.proofs.Starts.{streams_on}
 use Rattle.vaultd.proofs.starting.serve_streams.Goals as goal
 
 pub returns-in_default : goal.returns-in_default
-returns-in_default g c = inr (record { before = _; after = _; reported = c.report_in_use.ensures; removed = refl })
+returns-in_default g c = inr (record { before = _; after = _; reported = inl c.report_in_use.ensures; removed = refl })
+
+pub returns-then-not-can : goal.returns-then-not-can
+returns-then-not-can g c = inr (record {
+  before = _;
+  after = _;
+  reported = inr (c.in_ok-can.ensures c.if-not-can.true, c.report_unfit.ensures);
+  removed = refl;
+})
 
 pub returns : goal.returns
 returns g c =

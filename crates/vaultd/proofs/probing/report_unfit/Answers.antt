@@ -1,0 +1,4 @@
+use Rattle.vaultd.proofs.probing.report_unfit.Goals as goal
+
+pub returns : goal.returns
+returns g c = c.report.ensures.written
