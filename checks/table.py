@@ -47,6 +47,8 @@ CHECKS = [
     Check("what is flushed before each answer", ["checks/flushes"], (TRACER,), smaller=["checks/flushes", "--no-make"]),
     Check("one server at a vault, or several that only read", ["checks/locks"], smaller=["checks/locks", "100"]),
     Check("what is called before the lock is taken, and to read alone", ["checks/locks", "--traced"], (TRACER,)),
+    Check("open journals that are shown and closed", ["checks/recovers"]),
+    Check("another program beside a server", ["checks/beside"]),
     Check("secrets in files", ["checks/secrets"], smaller=["checks/secrets", "--raw-key"]),
     Check("what is said on standard error", ["checks/told"]),
     Check("clients that say nothing", ["checks/idle"], is_alone=True),

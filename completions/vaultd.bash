@@ -2,7 +2,7 @@
 _vaultd() {
     local word=$2 before=$3 command=${COMP_WORDS[1]} kind='compgen -W' options=''
     if [ "$COMP_CWORD" -eq 1 ]; then
-        mapfile -t COMPREPLY < <(compgen -W 'serve make demo sync help -h --help -V --version' -- "$word")
+        mapfile -t COMPREPLY < <(compgen -W 'serve make demo sync recover help -h --help -V --version' -- "$word")
         return
     fi
     case $before in
@@ -34,8 +34,12 @@ _vaultd() {
     sync)
         options='-h --help'
         ;;
+    recover)
+        options='--skip --discard -h --help'
+        kind='compgen -d'
+        ;;
     help)
-        options='serve make demo sync'
+        options='serve make demo sync recover'
         ;;
     esac
     if [ "$kind" = 'compgen -d' ] && [ "${word#-}" = "$word" ]; then
