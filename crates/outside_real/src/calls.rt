@@ -65,7 +65,7 @@ impl<R: Files<File = File>, L: Log> HostCalls for StdCalls<R, L> {
                 Err(e) if e.kind() == ErrorKind::InvalidFilename => has_no_text = true,
                 Ok(entry) if entry.file_name() == NO_TEXT => has_no_text = true,
                 entry => {
-                    let entry = looked(&self.log, "list", text, entry)?;
+                    let entry = listed(&self.log, text, entry)?;
                     push_name(alloc, &mut names, entry.file_name())?;
                 }
             }
